@@ -1,0 +1,41 @@
+-- Sources and sinks over memory, which fail where they are told to.
+use Rattle.std.specs.Prelude.{◌==◌, ℕ, ◌-◌, min, nat_lt, List, length, drop, filter, fold, position, remove, Option, Some, Contains}
+use Rattle.std.specs.Option.{option_map_or}
+use Rattle.pf_io.specs.Causes.{counted}
+
+-- the places at which calls are still to fail, and the number of faults so far
+pub record FaultPlan : Type 0 where
+  pub places : List ℕ
+  pub count : ℕ
+
+-- the list without its first x
+abbrev pub without_first : ℕ → List ℕ → List ℕ
+without_first x xs = option_map_or (λ i. remove xs i) (position (λ y. y == x) xs) xs
+
+-- the plan after a fault at a place: one entry of the place is used up, and the fault is counted
+abbrev pub after_fault : ℕ → FaultPlan → FaultPlan
+after_fault place plan = record { places = without_first place plan.places; count = counted plan.count }
+
+-- how many of `most` bytes a call that begins at a place moves: it stops at the next place that is to fail
+abbrev pub reach : FaultPlan → ℕ → ℕ → ℕ
+reach plan place most = fold (λ n p. min n (p - place)) most (filter (λ p. nat_lt place p) plan.places)
+
+-- a source: its bytes, the place of the next read, and where reads fail
+pub record MemoryInput : Type 0 where
+  pub bytes : List ℕ
+  pub place : ℕ
+  pub plan : FaultPlan
+
+-- the bytes that a source has left
+abbrev pub left_in : MemoryInput → Option (List ℕ)
+left_in source = Some (drop source.place source.bytes)
+
+-- a sink: the bytes written, how many there is room for, and where writes and flushes fail
+pub record MemoryOutput : Type 0 where
+  pub bytes : List ℕ
+  pub room : ℕ
+  pub plan : FaultPlan
+
+-- a call at the place where the sink stands is to fail
+abbrev pub IsDue : MemoryOutput → Type 0
+IsDue sink = Contains sink.plan.places (length sink.bytes)

@@ -1,0 +1,24 @@
+-- What a read takes from the bytes that a source has left, and what a write adds to the bytes of a sink.
+-- Each is an equation of the known bytes: a stream that tells none is `None` before and after.
+use Rattle.std.specs.Prelude.{◌≡◌, ℕ, ◌<◌, List, length, take, Option, Result, MatchResult}
+use Rattle.std.specs.Io.KnownBytes.{prepend_known, append_known, IsAtEnd}
+
+-- `Ok(n)` took the next n bytes, and none only at the end; `Err` took none
+abbrev pub Reads : {E : Type 0} → Option (List ℕ) → Option (List ℕ) → Result ℕ E → List ℕ → Type 0
+Reads old new result into =
+    MatchResult result
+    (λ n. (old ≡ prepend_known (take n into) new) × (n ≡ 0 → IsAtEnd new))
+    (λ _. new ≡ old)
+
+-- some of the next bytes were taken
+abbrev pub TakesFront : Option (List ℕ) → Option (List ℕ) → Type 0
+TakesFront old new = (taken : List ℕ) × (old ≡ prepend_known taken new)
+
+-- `Ok(n)` added the first n bytes of the piece, and `Err` added none
+abbrev pub Writes : {E : Type 0} → Option (List ℕ) → Option (List ℕ) → Result ℕ E → List ℕ → Type 0
+Writes old new result piece =
+    MatchResult result (λ n. new ≡ append_known old (take n piece)) (λ _. new ≡ old)
+
+-- a front of the bytes was added, but not all of them
+abbrev pub AppendsFront : Option (List ℕ) → Option (List ℕ) → List ℕ → Type 0
+AppendsFront old new bytes = (k : ℕ) × (k < length bytes) × (new ≡ append_known old (take k bytes))
