@@ -1,0 +1,2 @@
+pub mod Pixmap
+pub mod Ppm

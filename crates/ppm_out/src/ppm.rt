@@ -1,0 +1,64 @@
+//! Images as Netpbm's raw portable pixmaps.
+ghost use Rattle.std.specs.Prelude.{◌≡◌, ℕ, List, ◌+◌, ◌≤◌, ◌++◌, length, vec_len, vec_capacity, OnOk, OnErr};
+ghost use Rattle.ppm_out.specs.Pixmap.{Pixmap, IsPixmap, Shows};
+ghost use Rattle.ppm_out.specs.Ppm.{ppm_bytes, picture_bytes, ppm_header, ppm_size};
+
+use crate::Image;
+use itoa::Buffer;
+use pf_io::NoMemory;
+
+/// How many bytes the picture of an image so wide and high has.
+pub fn ppm_len(width: u16, height: u16) -> usize
+    ensures exact { result ≡ ppm_size width height }
+    ensures of_image { (image : Pixmap) → IsPixmap image → image.width ≡ width → image.height ≡ height
+        → length (ppm_bytes image) ≡ result }
+{
+    let digits = Buffer::new().format(width).len() + Buffer::new().format(height).len();
+    digits + b"P6\n \n255\n".len() + 3 * (height as usize * width as usize)
+}
+
+/// Appends the picture of an image to `out`, or leaves `out` as it was.
+pub fn append_ppm(out: &mut Vec<u8>, image: &Image) -> Result<(), NoMemory>
+    ensures ok { OnOk result (out.new.items ≡ out.old.items ++ ppm_bytes image.now) }
+    ensures err { OnErr result (out.new.items ≡ out.old.items) }
+{
+    out.reserve(ppm_len(image.width(), image.height()))?;
+    append_ppm_reserved(out, image);
+    Ok(())
+}
+
+/// Appends the picture of an image to `out`, which has room for it, and takes no memory.
+pub fn append_ppm_reserved(out: &mut Vec<u8>, image: &Image)
+    requires { vec_len out.old + ppm_size image.now.width image.now.height ≤ vec_capacity out.old }
+    ensures exact { out.new.items ≡ out.old.items ++ ppm_bytes image.now }
+    ensures room { vec_capacity out.old ≤ vec_capacity out.new }
+
+    // The bytes are determined by the colours that the pixels show.
+    ensures shown { (colour : ℕ → ℕ → List ℕ) → Shows image.now colour
+        → out.new.items ≡ out.old.items ++ picture_bytes image.now.width image.now.height colour }
+{
+    append_header(out, image.width(), image.height());
+    append_within(out, image.as_bytes());
+}
+
+// Appends a picture's header, for which there is room.
+fn append_header(out: &mut Vec<u8>, width: u16, height: u16)
+    requires { vec_len out.old + length (ppm_header width height) ≤ vec_capacity out.old }
+    ensures items { out.new.items ≡ out.old.items ++ ppm_header width height }
+    ensures room { vec_capacity out.old ≤ vec_capacity out.new }
+{
+    append_within(out, b"P6\n");
+    append_within(out, Buffer::new().format(width).as_bytes());
+    append_within(out, b" ");
+    append_within(out, Buffer::new().format(height).as_bytes());
+    append_within(out, b"\n255\n");
+}
+
+// Appends bytes for which there is room.
+fn append_within(out: &mut Vec<u8>, bytes: &[u8])
+    requires { vec_len out.old + length bytes.now ≤ vec_capacity out.old }
+    ensures items { out.new.items ≡ out.old.items ++ bytes.now }
+    ensures room { vec_capacity out.old ≤ vec_capacity out.new }
+{
+    out.extend_from_slice(bytes).unwrap();
+}
