@@ -1,0 +1,3 @@
+pub mod Link
+pub mod Lists
+pub mod Ends
