@@ -1,0 +1,8 @@
+use Rattle.std.proofs.Common.{arith}
+use Rattle.std.proofs.lemmas.Int.{to_z-of_z}
+use Rattle.fx_math.specs.Fixed.{moved}
+use Rattle.fx_math.proofs.moves.moved.Goals as goal
+
+pub returns-clause-value : goal.returns-clause-value
+unfolding moved
+returns-clause-value c = grind (arith, to_z-of_z)

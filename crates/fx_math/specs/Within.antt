@@ -1,0 +1,58 @@
+-- The ranges of the fixed-point types. They speak of numbers alone, so that the types' ghost fields can cite them.
+use Rattle.std.specs.Prelude.{ℕ, ◌≤◌, List, [], ℤ, pos, ◌≤ℤ◌, unsigned_abs, slice_index_or}
+
+-- z has a magnitude of at most m
+pub record IsWithin (m : ℕ) (z : ℤ) : Type 0 where
+  pub size : unsigned_abs z ≤ m
+
+-- a coordinate: a whole number of 1/4096 unit
+abbrev pub IsCoordinate : ℤ → Type 0
+IsCoordinate z = IsWithin 1073741823 z
+
+-- an entry of a linear matrix: a whole number of 1/65536
+abbrev pub IsEntry : ℤ → Type 0
+IsEntry z = IsWithin 1048576 z
+
+-- the three coordinates of a point
+pub record AreCoordinates (x y z : ℤ) : Type 0 where
+  pub x_within : IsCoordinate x
+  pub y_within : IsCoordinate y
+  pub z_within : IsCoordinate z
+
+-- the number at place j of a row
+abbrev pub entry : List ℤ → ℕ → ℤ
+entry row j = slice_index_or row j (pos 0)
+
+-- the row at place i of a matrix
+abbrev pub row_at : List (List ℤ) → ℕ → List ℤ
+row_at a i = slice_index_or a i []
+
+-- the entries of one row
+pub record IsRow (row : List ℤ) : Type 0 where
+  pub first : IsEntry (entry row 0)
+  pub second : IsEntry (entry row 1)
+  pub third : IsEntry (entry row 2)
+
+-- the nine entries of a linear matrix
+pub record AreEntries (a : List (List ℤ)) : Type 0 where
+  pub x_row : IsRow (row_at a 0)
+  pub y_row : IsRow (row_at a 1)
+  pub z_row : IsRow (row_at a 2)
+
+-- the size of a picture, its focal length in pixels, and the depths between which it shows anything
+pub record IsLens (w h f : ℕ) (near far : ℤ) : Type 0 where
+  pub some_width : 1 ≤ w
+  pub most_width : w ≤ 1024
+  pub some_height : 1 ≤ h
+  pub most_height : h ≤ 1024
+  pub some_focus : 1 ≤ f
+  pub most_focus : f ≤ 65535
+  pub before_eye : pos 1 ≤ℤ near
+  pub ordered : near ≤ℤ far
+  pub most_far : far ≤ℤ pos 1073741823
+
+-- three numbers of magnitude at most 2^31, as `det` takes them
+pub record AreSmall (row : List ℤ) : Type 0 where
+  pub first : IsWithin 2147483648 (entry row 0)
+  pub second : IsWithin 2147483648 (entry row 1)
+  pub third : IsWithin 2147483648 (entry row 2)

@@ -1,0 +1,106 @@
+//! Determinants and quotients without rounding of their operands.
+//!
+//! Of rows of magnitude at most 2^31 a product of two entries is at most 2^62 and fits i64. The difference of two may reach
+//! 2^63, so minors are i128: the determinant is at most 6 * 2^93 in magnitude.
+ghost use Rattle.std.specs.Prelude.{◌≡◌, ◌≢◌, ◌<◌, ◌^◌, List, ℤ, pos, unsigned_abs, ◌+ℤ◌, ◌-ℤ◌, ◌*ℤ◌};
+ghost use Rattle.fx_math.specs.Within.{IsWithin, AreSmall};
+ghost use Rattle.fx_math.specs.Plain.{vector};
+ghost use Rattle.fx_math.specs.Fixed.{floor_div};
+ghost use Rattle.fx_math.specs.Hit.{det3};
+
+/// The determinant of three rows.
+pub fn det(a: [i64; 3], b: [i64; 3], c: [i64; 3]) -> i128
+    requires a { AreSmall a }
+    requires b { AreSmall b }
+    requires c { AreSmall c }
+    ensures value { result ≡ det3 (vector a) (vector b) (vector c) }
+    ensures bound { IsWithin 59421121885698253195157962752 result }
+{
+    let [ax, ay, az] = a;
+    let [bx, by, bz] = b;
+    let [cx, cy, cz] = c;
+    sum(
+        weigh(ax, minor(by, bz, cy, cz)),
+        weigh(ay, minor(bz, bx, cz, cx)),
+        weigh(az, minor(bx, by, cx, cy)),
+    )
+}
+
+fn times(a: i64, b: i64) -> i64
+    requires a { IsWithin 2147483648 a }
+    requires b { IsWithin 2147483648 b }
+    ensures value { result ≡ a *ℤ b }
+    ensures bound { IsWithin 4611686018427387904 result }
+{
+    a * b
+}
+
+fn minor(a: i64, b: i64, c: i64, d: i64) -> i128
+    requires a { IsWithin 2147483648 a }
+    requires b { IsWithin 2147483648 b }
+    requires c { IsWithin 2147483648 c }
+    requires d { IsWithin 2147483648 d }
+    ensures value { result ≡ a *ℤ d -ℤ b *ℤ c }
+    ensures bound { IsWithin 9223372036854775808 result }
+{
+    i128::from(times(a, d)) - i128::from(times(b, c))
+}
+
+fn weigh(a: i64, m: i128) -> i128
+    requires a { IsWithin 2147483648 a }
+    requires m { IsWithin 9223372036854775808 m }
+    ensures value { result ≡ a *ℤ m }
+    ensures bound { IsWithin 19807040628566084398385987584 result }
+{
+    i128::from(a) * m
+}
+
+fn sum(x: i128, y: i128, z: i128) -> i128
+    requires x { IsWithin 19807040628566084398385987584 x }
+    requires y { IsWithin 19807040628566084398385987584 y }
+    requires z { IsWithin 19807040628566084398385987584 z }
+    ensures value { result ≡ x +ℤ y +ℤ z }
+    ensures bound { IsWithin 59421121885698253195157962752 result }
+{
+    x + y + z
+}
+
+/// The greatest whole number that is not above `n / d`.
+#[tactic(auto, unfolding(crate::specs::Fixed::floor_div))]
+pub fn floor_div(n: i128, d: i128) -> i128
+    requires nonzero { d ≢ pos 0 }
+    requires small { unsigned_abs n < 2 ^ 120 }
+    ensures { result ≡ floor_div n d }
+{
+    if n > 0 && d < 0 {
+        (n - 1) / d - 1
+    } else if n < 0 && d > 0 {
+        (n + 1) / d - 1
+    } else {
+        n / d
+    }
+}
+
+#[cfg(test)]
+mod tests {
+    use super::*;
+
+    #[test]
+    fn determinants(rt: HostRuntime) {
+        assert_eq!(rt; det([1, 2, 3], [4, 5, 6], [7, 8, 10]), -3);
+        let most = 2_147_483_648;
+        assert_eq!(rt;
+            det([most, 0, 0], [0, most, 0], [0, 0, -most]),
+            -9_903_520_314_283_042_199_192_993_792
+        );
+    }
+
+    #[test]
+    fn quotients_are_rounded_down(rt: HostRuntime) {
+        assert_eq!(rt; floor_div(7, 2), 3);
+        assert_eq!(rt; floor_div(-7, 2), -4);
+        assert_eq!(rt; floor_div(7, -2), -4);
+        assert_eq!(rt; floor_div(-7, -2), 3);
+        assert_eq!(rt; floor_div(-8, 2), -4);
+    }
+}

@@ -1,0 +1,103 @@
+//! The steps of a pose and of a view, as affine matrices.
+ghost use Rattle.std.specs.Prelude.{◌≡◌, pos};
+ghost use Rattle.fx_math.specs.Within.{IsWithin, AreCoordinates};
+ghost use Rattle.fx_math.specs.Plain.{Point};
+ghost use Rattle.fx_math.specs.Views.{point_of, matrix_of};
+ghost use Rattle.fx_math.specs.Fixed.{apply};
+ghost use Rattle.fx_math.specs.Steps.{scaling, roll, pitch, heading, shift};
+
+use crate::angles::{cosine, sine};
+use crate::matrices::{Affine, UNIT};
+use crate::vectors::Vec3;
+
+/// The scaling by `s / 65536`.
+#[tactic(auto, unfolding(crate::specs::Steps::scaling))]
+pub fn scaling(s: i32) -> Affine
+    requires { IsWithin 1048576 s }
+    ensures { matrix_of result ≡ scaling s }
+{
+    Affine {
+        a: [[s, 0, 0], [0, s, 0], [0, 0, s]],
+        t: Vec3::ORIGIN,
+    }
+}
+
+/// The roll by `x` tenths of a degree, about Y.
+#[tactic(auto, unfolding(crate::specs::Steps::roll))]
+pub fn roll(x: i32) -> Affine
+    requires { IsWithin 3600 x }
+    ensures value { matrix_of result ≡ roll x }
+{
+    let s = sine(x);
+    let c = cosine(x);
+    Affine {
+        a: [[c, 0, -s], [0, UNIT, 0], [s, 0, c]],
+        t: Vec3::ORIGIN,
+    }
+}
+
+/// The pitch by `x` tenths of a degree, about X.
+#[tactic(auto, unfolding(crate::specs::Steps::pitch))]
+pub fn pitch(x: i32) -> Affine
+    requires { IsWithin 3600 x }
+    ensures value { matrix_of result ≡ pitch x }
+{
+    let s = sine(x);
+    let c = cosine(x);
+    Affine {
+        a: [[UNIT, 0, 0], [0, c, s], [0, -s, c]],
+        t: Vec3::ORIGIN,
+    }
+}
+
+/// The turn by a heading of `x` tenths of a degree, about Z.
+#[tactic(auto, unfolding(crate::specs::Steps::heading))]
+pub fn heading(x: i32) -> Affine
+    requires { IsWithin 3600 x }
+    ensures value { matrix_of result ≡ heading x }
+{
+    let s = sine(x);
+    let c = cosine(x);
+    Affine {
+        a: [[c, s, 0], [-s, c, 0], [0, 0, UNIT]],
+        t: Vec3::ORIGIN,
+    }
+}
+
+/// The translation by `t`.
+#[tactic(auto, unfolding(crate::specs::Steps::shift))]
+pub fn shift(t: Vec3) -> Affine
+    ensures value { matrix_of result ≡ shift (point_of t) }
+{
+    Affine {
+        a: [[UNIT, 0, 0], [0, UNIT, 0], [0, 0, UNIT]],
+        t,
+    }
+}
+
+#[cfg(test)]
+mod tests {
+    use super::*;
+    use crate::moves::apply;
+    use std::test::Fail;
+
+    #[test]
+    fn quarter_turns(rt: HostRuntime) -> Result<(), Fail> {
+        let right = Vec3::new(4_096, 0, 0).ok_or("range")?;
+        let forward = Vec3::new(0, 4_096, 0).ok_or("range")?;
+        let up = Vec3::new(0, 0, 4_096).ok_or("range")?;
+        assert_eq!(rt; apply(&heading(900), right), forward);
+        assert_eq!(rt; apply(&pitch(900), forward), up);
+        assert_eq!(rt; apply(&roll(900), up), right);
+        Ok(())
+    }
+
+    #[test]
+    fn scaled_and_moved(rt: HostRuntime) -> Result<(), Fail> {
+        let v = Vec3::new(1, 2, -3).ok_or("range")?;
+        let doubled = Vec3::new(2, 4, -6).ok_or("range")?;
+        assert_eq!(rt; apply(&scaling(131_072), v), doubled);
+        assert_eq!(rt; apply(&shift(v), v), doubled);
+        Ok(())
+    }
+}
