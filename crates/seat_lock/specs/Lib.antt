@@ -1,0 +1,9 @@
+pub mod Log
+pub mod Desk
+pub mod Sums
+pub mod View
+pub mod LockRule
+pub mod Steps
+pub mod Calls
+pub mod Tokens
+pub mod SeatDesk
