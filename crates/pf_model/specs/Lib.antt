@@ -1,0 +1,16 @@
+pub mod Three
+pub mod Angles
+pub mod Room
+pub mod Kinds
+pub mod Graphs
+pub mod Edits
+pub mod Merges
+pub mod Fits
+pub mod Walks
+pub mod Boxes
+pub mod Limits
+pub mod Copies
+pub mod Laws
+pub mod Extents
+pub mod Places
+pub mod Attributes

@@ -1,0 +1,34 @@
+//! The scene graph: nodes, edits and their faults, the walk of a frame, bounding boxes, and the plain graph.
+#![tactic(auto)]
+
+pub(crate) mod attributes;
+pub mod carries;
+pub mod choices;
+pub mod edits;
+pub mod fits;
+pub mod geometry;
+pub mod graph;
+pub mod laws;
+pub mod lines;
+pub(crate) mod links;
+pub mod lists;
+pub mod nodes;
+pub mod poses;
+pub(crate) mod sequences;
+pub mod steps;
+pub(crate) mod survey;
+pub mod views;
+
+pub use choices::chosen_children;
+pub use edits::{Edit, EditError, EditList, Fault};
+pub use geometry::{Geom, Tri};
+pub use graph::Graph;
+pub use lines::{AppLine, AppStep, BaseLine, BaseStep};
+pub use lists::{Ids, Ranges, Serials, SerialsBuilder, ShortList, Times};
+pub use nodes::{Chosen, Gone, Kind, Node, Pick, Run};
+pub use poses::{Euler, Pose, View};
+pub use steps::Steps;
+pub use views::{Arrays, NodeView, SceneView};
+
+#[cfg(test)]
+mod tests;

@@ -1,0 +1,193 @@
+//! Short lists of numbers: the children of a node, the ranges of a level of detail, the times of a sequence.
+ghost use Rattle.std.specs.Prelude.{◌≡◌, ℕ, ◌≤◌, ◌<◌, List, [], length, slice_get, slice_set, IfOk, OnOk, OnErr, Some};
+ghost use Rattle.std.specs.Prelude.{◌+◌, ◌-◌, ◌∷◌, ◌++◌};
+ghost use Rattle.std.specs.Vec.{vec_len, vec_capacity};
+ghost use Rattle.std.specs.List.{insert, remove};
+ghost use Rattle.pf_model.specs.Room.{SerialsSoFar};
+
+use pf_io::NoMemory;
+use std::alloc::Global;
+use std::marker::Model;
+
+/// A list of at most `LIMIT` items.
+#[derive(Debug, Drop)]
+pub struct ShortList<T, const LIMIT: usize> {
+    items: Vec<T>,
+}
+
+impl<T, const LIMIT: usize> Model for ShortList<T, LIMIT> {
+    ghost Value = { List T };
+
+    ghost view = { λ a. a.items.items };
+
+    ghost invariant = { λ a. length a.items.items ≤ LIMIT };
+}
+
+/// The children of a node, in order; a child may stand several times.
+pub type Ids = ShortList<u16, 256>;
+
+/// The ranges of a level of detail, in 1/4096 unit.
+pub type Ranges = ShortList<u32, 257>;
+
+/// The times of the children of a sequence, in frames.
+pub type Times = ShortList<u16, 256>;
+
+impl<T: Copy, const LIMIT: usize> ShortList<T, LIMIT> {
+    /// An empty list.
+    pub fn new(alloc: Global) -> Self
+        ensures { result ≡ [] }
+    {
+        ShortList {
+            items: Vec::new(alloc),
+        }
+    }
+
+    /// The number of items.
+    pub fn len(&self) -> usize
+        ensures value { result ≡ length self.now }
+        ensures bound { result ≤ LIMIT }
+    {
+        self.items.len()
+    }
+
+    /// The items.
+    pub fn as_slice(&self) -> &[T]
+        ensures value { result.now ≡ self.now }
+        ensures bound { length self.now ≤ LIMIT }
+    {
+        self.items.as_slice()
+    }
+
+    /// The item at a place, or none past the end.
+    pub fn at(&self, i: usize) -> Option<T>
+        ensures { result ≡ slice_get self.now i }
+    {
+        self.items.get(i).copied()
+    }
+
+    /// Puts an item before place `i`, or at the end where `i` is the length.
+    pub fn insert(&mut self, i: usize, x: T) -> Result<(), NoMemory>
+        requires place { i ≤ length self.old }
+        requires room { length self.old < LIMIT }
+        ensures ok { OnOk result (self.new ≡ insert self.old i x) }
+        ensures err { OnErr result (self.new ≡ self.old) }
+    {
+        self.items.insert(i, x)?;
+        Ok(())
+    }
+
+    /// Replaces the item at place `i`.
+    pub fn set(&mut self, i: usize, x: T)
+        requires { i < length self.old }
+        ensures { self.new ≡ slice_set self.old i x }
+    {
+        self.items[i] = x;
+    }
+
+    /// Takes out the item at place `i`.
+    pub fn remove(&mut self, i: usize) -> T
+        requires { i < length self.old }
+        ensures item { slice_get self.old i ≡ Some result }
+        ensures after { self.new ≡ remove self.old i }
+    {
+        self.items.remove(i)
+    }
+
+    /// An equal list.
+    pub fn copy(&self) -> Result<Self, NoMemory>
+        ensures { IfOk result (λ c. c ≡ self.now) }
+    {
+        let mut items = Vec::new(*self.items.allocator());
+        items.extend_from_slice(self.items.as_slice())?;
+        Ok(ShortList { items })
+    }
+}
+
+/// The serials of freed nodes, in the order of their burial.
+#[derive(Debug, Drop)]
+pub struct Serials {
+    items: Vec<u32>,
+}
+
+impl Model for Serials {
+    ghost Value = { List ℕ };
+
+    ghost view = { λ s. s.items.items };
+}
+
+impl Serials {
+    /// Room for this many serials.
+    pub fn with_room(alloc: Global, n: usize) -> Result<SerialsBuilder, NoMemory>
+        ensures { IfOk result (λ b. b ≡ record { items = []; spare = n }) }
+    {
+        Ok(SerialsBuilder {
+            items: Vec::with_capacity(alloc, n)?,
+            room: n,
+        })
+    }
+
+    /// The number of serials.
+    pub fn len(&self) -> usize
+        ensures { result ≡ length self.now }
+    {
+        self.items.len()
+    }
+
+    /// The serials.
+    pub fn as_slice(&self) -> &[u32]
+        ensures { result.now ≡ self.now }
+    {
+        self.items.as_slice()
+    }
+
+    /// The serial at a place, or none past the end.
+    pub fn at(&self, i: usize) -> Option<u32>
+        ensures { result ≡ slice_get self.now i }
+    {
+        self.items.get(i).copied()
+    }
+}
+
+/// A list of serials that is being made, with room for those to come.
+#[derive(Debug, Drop)]
+pub struct SerialsBuilder {
+    items: Vec<u32>,
+    room: usize,
+}
+
+impl Model for SerialsBuilder {
+    ghost Value = { SerialsSoFar };
+
+    ghost view = { λ b. record { items = b.items.items; spare = b.room - vec_len b.items } };
+
+    ghost invariant = { λ b. (vec_len b.items ≤ b.room) × (b.room ≤ vec_capacity b.items) };
+}
+
+impl SerialsBuilder {
+    /// How many more serials have room.
+    pub fn spare(&self) -> usize
+        ensures { result ≡ self.now.spare }
+    {
+        self.room - self.items.len()
+    }
+
+    /// Appends a serial.
+    pub fn push(&mut self, s: u32)
+        requires { 0 < self.old.spare }
+        ensures items { self.new.items ≡ self.old.items ++ s ∷ [] }
+        ensures spare { self.new.spare + 1 ≡ self.old.spare }
+    {
+        match self.items.push(s) {
+            Ok(()) => {}
+            Err(_) => unreachable!(),
+        }
+    }
+
+    /// The serials so far.
+    pub fn finish(self) -> Serials
+        ensures { result ≡ self.items }
+    {
+        let SerialsBuilder { items, room: _ } = self;
+        Serials { items }
+    }
+}
