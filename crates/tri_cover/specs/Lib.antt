@@ -1,0 +1,8 @@
+pub mod EdgeValues
+pub mod Glass
+pub mod Hits
+pub mod Judged
+pub mod Orders
+pub mod Picture
+pub mod Sorting
+pub mod Stepping
