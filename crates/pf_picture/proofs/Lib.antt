@@ -1,0 +1,11 @@
+pub mod Carried
+pub mod Drawn
+pub mod Extent
+pub mod Filled
+pub mod Folding
+pub mod DrawnWalk
+pub mod Ordered
+pub mod PlacesShown
+pub mod Seen
+pub mod Walked
+pub mod Zipped

@@ -1,0 +1,9 @@
+pub mod Drawings
+pub mod Eye
+pub mod Fragments
+pub mod Instances
+pub mod Panes
+pub mod Places
+pub mod Rows
+pub mod Surfaces
+pub mod Walking

@@ -1,0 +1,34 @@
+-- Instances whose triangles are in eye coordinates.
+use Rattle.std.specs.Prelude.{◌≡◌, ℕ, ◌-◌, List, [], fold, filter_map, Option}
+use Rattle.std.specs.List.{enumerate_from, AllZip}
+use Rattle.std.specs.Option.{option_map}
+use Rattle.fx_math.specs.Plain.{Matrix}
+use Rattle.fx_math.specs.declared.lenses.Lens.{Lens}
+use Rattle.pf_model.specs.declared.geometry.Tri.{Tri}
+use Rattle.pf_model.specs.Walks as walks
+use Rattle.tri_cover.specs.Hits.{hit}
+use Rattle.tri_cover.specs.Glass.{alpha_of}
+use Rattle.tri_cover.specs.Picture as pictures
+use Rattle.pf_picture.specs.Eye.{HitsAs}
+use Rattle.pf_picture.specs.declared.surfaces.Surface.{Surface}
+
+-- each triangle of the second list is hit as that of the first is after the steps
+abbrev pub AreCarried : List Matrix → List Tri → List Tri → Type 0
+AreCarried steps tris carried = AllZip (λ t c. HitsAs t steps c) tris carried
+
+abbrev pub fragment_at : Lens → (px py : ℕ) → Surface → ℕ × Tri → Option pictures.Fragment
+fragment_at lens px py s (number, tri) = option_map (λ h. record { key = record { depth = h.depth - s.shift; place = s.place; number = number }; colour = h.colour }) (hit lens px py [] tri)
+
+abbrev pub fragments : Lens → (px py : ℕ) → Surface → List pictures.Fragment
+fragments lens px py s = filter_map (fragment_at lens px py s) (enumerate_from 0 s.tris.items)
+
+unfoldable pub nearest_of : Lens → (px py : ℕ) → Option pictures.Fragment → Surface → Option pictures.Fragment
+nearest_of lens px py best s = fold pictures.nearer best (fragments lens px py s)
+
+unfoldable pub glazed_by : Lens → (px py : ℕ) → Option pictures.Fragment → List ℕ → Surface → List ℕ
+glazed_by lens px py behind under s = fold (pictures.glazed behind s.alpha) under (fragments lens px py s)
+
+-- the surface of an instance
+pub record IsSurfaceOf (x : walks.Instance) (s : Surface) : Type 0 where
+  pub alpha : alpha_of x ≡ s.alpha
+  pub seen : (lens : Lens) (px py : ℕ) → fragments lens px py s ≡ pictures.fragments lens px py x

@@ -1,0 +1,79 @@
+//! All that is drawn, in eye coordinates, and its colour at a pixel.
+ghost use Rattle.std.specs.Prelude.{◌≡◌, ◌<◌, map, IfOk, option_map};
+ghost use Rattle.pf_picture.specs.Drawings.{IsDrawingOf, AreSurfaces, ground_of, ground_colour, colour_of};
+ghost use Rattle.pf_picture.specs.Fragments.{fragment_of};
+ghost use Rattle.pf_picture.specs.Instances.{instance_of};
+
+use crate::fragments::Fragment;
+use crate::instances::Instance;
+use crate::panes::{far_to_near, opaque};
+use crate::surfaces::Surface;
+use fx_math::Lens;
+use pf_io::NoMemory;
+use std::alloc::Global;
+
+/// The surfaces of a list of instances: the opaque ones as they stand, and those of glass from far to near.
+#[derive(Drop)]
+pub(crate) struct Drawing {
+    opaque: Vec<Surface>,
+    glass: Vec<Surface>,
+}
+
+impl Drawing {
+    pub(crate) fn new(alloc: Global, instances: &[Instance]) -> Result<Drawing, NoMemory>
+        ensures { IfOk result (IsDrawingOf (map instance_of instances.now)) }
+    {
+        let opaque = opaque(alloc, instances)?;
+        let glass = far_to_near(alloc, instances)?;
+        let opaque = surfaces(alloc, &opaque)?;
+        let glass = surfaces(alloc, &glass)?;
+        Ok(Drawing { opaque, glass })
+    }
+
+    /// The nearest fragment of an opaque surface.
+    fn ground(&self, lens: &Lens, px: u16, py: u16) -> Option<Fragment>
+        requires x { px < lens.now.w }
+        requires y { py < lens.now.h }
+        ensures { option_map fragment_of result ≡ ground_of lens.now px py self.now.opaque.items }
+    {
+        let mut nearest = None;
+        for surface in &self.opaque {
+            nearest = surface.nearest(nearest, lens, px, py);
+        }
+        nearest
+    }
+
+    /// The colour at a pixel: the ground's, or the background's where there is none, under the glass.
+    pub(crate) fn colour(&self, lens: &Lens, back: [u8; 3], px: u16, py: u16) -> [u8; 3]
+        requires x { px < lens.now.w }
+        requires y { py < lens.now.h }
+        ensures { result ≡ colour_of lens.now back px py self.now.opaque.items self.now.glass.items }
+    {
+        let ground = self.ground(lens, px, py);
+        let mut colour = ground_colour(&ground, back);
+        for surface in &self.glass {
+            let glazed = surface.glazed(&ground, colour, lens, px, py);
+            colour = glazed;
+        }
+        colour
+    }
+}
+
+fn ground_colour(ground: &Option<Fragment>, back: [u8; 3]) -> [u8; 3]
+    ensures { result ≡ ground_colour back (option_map fragment_of ground.now) }
+{
+    match ground {
+        Some(fragment) => fragment.colour,
+        None => back,
+    }
+}
+
+fn surfaces(alloc: Global, instances: &[Instance]) -> Result<Vec<Surface>, NoMemory>
+    ensures { IfOk result (λ surfaces. AreSurfaces (map instance_of instances.now) surfaces.items) }
+{
+    let mut surfaces = Vec::new(alloc);
+    for instance in instances {
+        surfaces.push(Surface::new(alloc, instance)?)?;
+    }
+    Ok(surfaces)
+}

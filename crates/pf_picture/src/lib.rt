@@ -1,0 +1,22 @@
+//! The slow renderer: every triangle at every pixel.
+#![tactic(auto)]
+
+mod distances;
+mod drawings;
+mod eye;
+mod fragments;
+pub mod instances;
+mod leaves;
+mod numbers;
+mod pane;
+mod panes;
+pub mod renderer;
+mod step_lists;
+mod surfaces;
+mod walk;
+
+pub use instances::Instance;
+pub use renderer::{draw_instances, draw_plain};
+
+#[cfg(test)]
+mod tests;

@@ -1,0 +1,153 @@
+//! Pictures of two by two pixels.
+use crate::{Instance, draw_instances};
+use fx_math::{Affine, Lens, MAX_COORDINATE, Vec3, shift};
+use pf_model::Tri;
+use std::alloc::Global;
+use std::process::Abort;
+use std::test::Fail;
+
+const BACK: [u8; 3] = [10, 20, 30];
+
+fn point(x: i32, y: i32, z: i32) -> Result<Vec3, Fail> {
+    Ok(Vec3::new(x, y, z).ok_or("a coordinate out of range")?)
+}
+
+/// A triangle of one colour that faces the eye at a depth and covers the whole picture.
+fn facing(depth: i32, colour: [u8; 3]) -> Result<Tri, Fail> {
+    Ok(Tri {
+        v: [
+            point(-40960, depth, -40960)?,
+            point(40960, depth, -40960)?,
+            point(0, depth, 81920)?,
+        ],
+        c: [colour; 3],
+    })
+}
+
+fn opaque<'a>(place: u32, tris: &'a [Tri]) -> Instance<'a> {
+    Instance {
+        place,
+        id: 1,
+        state: 0,
+        tint: None,
+        shift: 0,
+        steps: &[],
+        tris,
+    }
+}
+
+fn glass<'a>(place: u32, alpha: u8, tris: &'a [Tri]) -> Instance<'a> {
+    Instance {
+        place,
+        id: 1,
+        state: 0,
+        tint: Some(alpha),
+        shift: 0,
+        steps: &[],
+        tris,
+    }
+}
+
+/// The first and the last pixel of the picture have the colour.
+fn shows(
+    rt: &impl Abort,
+    alloc: Global,
+    instances: &[Instance],
+    colour: [u8; 3],
+) -> Result<(), Fail> {
+    let lens = Lens::new(2, 2, 1, 1, MAX_COORDINATE).ok_or("a lens out of range")?;
+    let image = draw_instances(alloc, instances, &lens, BACK)?;
+    assert_eq!(rt; image.width(), 2);
+    assert_eq!(rt; image.height(), 2);
+    assert_eq!(rt; image.get(0, 0), colour);
+    assert_eq!(rt; image.get(1, 1), colour);
+    Ok(())
+}
+
+#[test]
+fn nothing_but_background(rt: HostRuntime) -> Result<(), Fail> {
+    shows(&rt, rt.alloc(), &[], BACK)
+}
+
+#[test]
+fn the_earlier_place_wins_at_equal_depth(rt: HostRuntime) -> Result<(), Fail> {
+    let red = [facing(4096, [255, 0, 0])?];
+    let blue = [facing(4096, [0, 0, 255])?];
+    shows(
+        &rt,
+        rt.alloc(),
+        &[opaque(1, &blue), opaque(0, &red)],
+        [255, 0, 0],
+    )
+}
+
+#[test]
+fn a_decal_is_nearer(rt: HostRuntime) -> Result<(), Fail> {
+    let red = [facing(4096, [255, 0, 0])?];
+    let blue = [facing(4096, [0, 0, 255])?];
+    let decal = Instance {
+        place: 1,
+        id: 3,
+        state: 0,
+        tint: None,
+        shift: 16,
+        steps: &[],
+        tris: &blue,
+    };
+    shows(&rt, rt.alloc(), &[opaque(0, &red), decal], [0, 0, 255])
+}
+
+#[test]
+fn steps_carry_to_the_eye(rt: HostRuntime) -> Result<(), Fail> {
+    let red = [facing(0, [255, 0, 0])?];
+    let blue = [facing(8192, [0, 0, 255])?];
+    let steps: [Affine; 1] = [shift(point(0, 4096, 0)?)];
+    let moved = Instance {
+        place: 1,
+        id: 2,
+        state: 0,
+        tint: None,
+        shift: 0,
+        steps: &steps,
+        tris: &red,
+    };
+    shows(&rt, rt.alloc(), &[opaque(0, &blue), moved], [255, 0, 0])
+}
+
+#[test]
+fn glass_over_ground(rt: HostRuntime) -> Result<(), Fail> {
+    let red = [facing(4096, [255, 0, 0])?];
+    let near = [facing(2048, [0, 0, 255])?];
+    let level = [facing(4096, [0, 0, 255])?];
+    let behind = [facing(8192, [0, 0, 255])?];
+    shows(
+        &rt,
+        rt.alloc(),
+        &[opaque(0, &red), glass(1, 128, &near)],
+        [127, 0, 128],
+    )?;
+    shows(
+        &rt,
+        rt.alloc(),
+        &[opaque(0, &red), glass(1, 128, &level)],
+        [127, 0, 128],
+    )?;
+    shows(
+        &rt,
+        rt.alloc(),
+        &[opaque(0, &red), glass(1, 128, &behind)],
+        [255, 0, 0],
+    )
+}
+
+#[test]
+fn two_panes_from_far_to_near(rt: HostRuntime) -> Result<(), Fail> {
+    let green = [facing(2048, [0, 255, 0])?];
+    let blue = [facing(8192, [0, 0, 255])?];
+    shows(
+        &rt,
+        rt.alloc(),
+        &[glass(0, 128, &green), glass(1, 128, &blue)],
+        [1, 132, 70],
+    )
+}
