@@ -1,0 +1,5 @@
+pub mod Numbers
+pub mod Entries
+pub mod Told
+pub mod Streams
+pub mod Flat

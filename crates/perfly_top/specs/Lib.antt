@@ -1,0 +1,9 @@
+pub mod Words
+pub mod Lines
+pub mod Reading
+pub mod Entries
+pub mod Outcomes
+pub mod Stream
+pub mod Flat
+pub mod Program
+pub mod Stops
