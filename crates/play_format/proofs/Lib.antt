@@ -1,0 +1,17 @@
+pub mod NumberLemmas
+pub mod LineLemmas
+pub mod ReadingLemmas
+pub mod EntryLemmas
+pub mod ReaderLemmas
+pub mod SameLemmas
+pub mod BackLemmas
+pub mod MadeLemmas
+pub mod SectionLemmas
+pub mod HeaderLemmas
+pub mod PlayLemmas
+pub mod SpellLemmas
+pub mod LawLemmas
+pub mod TextLemmas
+pub mod AgainLemmas
+pub mod OneLemmas
+pub mod ParseLemmas

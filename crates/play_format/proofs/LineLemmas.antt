@@ -1,0 +1,31 @@
+-- Cutting a text at the first byte of a kind.
+use Rattle.std.proofs.Common.{◌≡◌, ℕ, ◌+◌, ◌-◌, ◌≤◌, arith, refl, true, false, cond, Bool, List, [], ◌∷◌, Some, None, length, take, drop, ltb}
+use Rattle.std.specs.List.{slice_split, position, position_or_len}
+use Rattle.std.proofs.lemmas.List.{take_all, length-drop}
+use Rattle.std.proofs.lemmas.Bool.{ltb-false, ltb-true}
+use Rattle.std.proofs.lemmas.List.Sums.{fails_before_first}
+use Rattle.std.proofs.lemmas.List.Splits.{slice_split_none, slice_split_first}
+
+is_none_of : (b : Bool) (i : ℕ) → cond b (Some i) None ≡ None → b ≡ false
+is_none_of true i e = absurd cc
+is_none_of false i e = refl
+
+is_some_of : (b : Bool) (i j : ℕ) → cond b (Some i) None ≡ Some j → (b ≡ true) × (i ≡ j)
+is_some_of true i j e = (refl, cc)
+is_some_of false i j e = absurd cc
+
+-- where no byte passes, the list is the one piece
+pub cut_none : (p : ℕ → Bool) (xs : List ℕ) → position p xs ≡ None → slice_split p xs ≡ xs ∷ []
+cut_none p xs e =
+    let past : length xs ≤ position_or_len p xs = ltb-false _ _ (is_none_of (ltb (position_or_len p xs) (length xs)) (position_or_len p xs) e) in
+    slice_split_none p xs (λ k d lt. fails_before_first p xs k d (omega arith))
+
+-- the first piece ends at the first byte that passes
+pub cut_some : (p : ℕ → Bool) (xs : List ℕ) (i : ℕ) → position p xs ≡ Some i → slice_split p xs ≡ take i xs ∷ slice_split p (drop (i + 1) xs)
+cut_some p xs i e =
+    let h = is_some_of (ltb (position_or_len p xs) (length xs)) (position_or_len p xs) i e in
+    rw (← h.1) (slice_split_first p xs 0 (ltb-true _ _ h.0))
+
+-- all that stands behind a place
+pub rest_is : (xs : List ℕ) (i : ℕ) → take (length xs - i) (drop i xs) ≡ drop i xs
+rest_is xs i = take_all (length xs - i) (drop i xs) (omega (arith, length-drop i xs))

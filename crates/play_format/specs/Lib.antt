@@ -1,0 +1,13 @@
+pub mod Numbers
+pub mod Words
+pub mod Commands
+pub mod Places
+pub mod Grammar
+pub mod Outcomes
+pub mod Steps
+pub mod Making
+pub mod Spelling
+pub mod Written
+pub mod Plays
+pub mod Sections
+pub mod Reads

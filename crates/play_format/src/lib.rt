@@ -1,0 +1,23 @@
+//! The grammar of a play: reading a scene file with its edit script.
+#![tactic(auto)]
+
+mod commands;
+mod header;
+mod making;
+mod numbers;
+mod parser;
+mod places;
+mod play;
+mod reader;
+mod reading;
+mod refusal;
+mod sections;
+mod words;
+
+pub use parser::{one_reading, parse};
+pub use pf_model::{AppLine, AppStep, BaseLine, BaseStep};
+pub use play::Play;
+pub use refusal::{ParseError, Refusal, Why};
+
+#[cfg(test)]
+mod tests;

@@ -1,0 +1,132 @@
+//! The two sections of a play, step by step.
+ghost use Rattle.std.specs.Prelude.{◌≡◌, ◌+◌, ◌≤◌, Bool, MatchResult, length};
+ghost use Rattle.play_format.specs.Outcomes.{Refuses};
+ghost use Rattle.play_format.specs.Steps.{unread};
+ghost use Rattle.play_format.specs.Sections.{stand, TrianglesRead, IsAt, IsInBase, AppTurn, AppSection, BaseTurn, BaseSection};
+ghost use Rattle.play_format.specs.declared.places.Place.TheVariants as place;
+
+use crate::making::{app_step_of, base_step_of, tri_of};
+use crate::reader::Reader;
+use crate::refusal::ParseError;
+use pf_model::{AppLine, BaseLine, Geom, Tri};
+use std::alloc::Global;
+
+/// What comes next in a section.
+#[derive(Debug, Drop)]
+pub enum Turn<T> {
+    /// A step.
+    Step(T),
+    /// The line `dbase`.
+    Section,
+    /// The end.
+    End,
+}
+
+/// Reads the triangle lines that are due. `corners` is room for the numbers of one.
+fn triangles(
+    alloc: Global,
+    reader: &mut Reader,
+    corners: &mut Vec<i32>,
+) -> Result<Vec<Tri>, ParseError>
+    ensures { MatchResult result
+        (λ ts. TrianglesRead (stand reader.old.spot reader.old.line reader.old.rest.now) (stand reader.new.spot reader.new.line reader.new.rest.now) ts.items)
+        (λ e. Refuses e (unread reader.old.spot reader.old.line reader.old.rest.now)) }
+{
+    let mut tris = Vec::new(alloc);
+    while reader.spot.due > 0 {
+        match reader.next(corners)? {
+            Some(_) => tris.push(tri_of(corners))?,
+            None => unreachable!(),
+        }
+    }
+    Ok(tris)
+}
+
+/// Reads what comes next in the section of the application.
+fn app_line(
+    alloc: Global,
+    reader: &mut Reader,
+    numbers: &mut Vec<i32>,
+    corners: &mut Vec<i32>,
+) -> Result<Turn<AppLine>, ParseError>
+    requires { IsAt place.App (stand reader.old.spot reader.old.line reader.old.rest.now) }
+    ensures { MatchResult result
+        (λ next. AppTurn (stand reader.old.spot reader.old.line reader.old.rest.now) (stand reader.new.spot reader.new.line reader.new.rest.now) next)
+        (λ e. Refuses e (unread reader.old.spot reader.old.line reader.old.rest.now)) }
+{
+    let line = reader.line;
+    let Some(command) = reader.next(numbers)? else {
+        return Ok(Turn::End);
+    };
+    let tris = triangles(alloc, reader, corners)?;
+    let geom = Geom::new(tris)?;
+    match app_step_of(alloc, command, numbers, geom) {
+        Some(step) => Ok(Turn::Step(AppLine { line, step })),
+        None => Ok(Turn::Section),
+    }
+}
+
+/// Reads the section of the application, and whether the line `dbase` ended it.
+pub fn app_section(
+    alloc: Global,
+    reader: &mut Reader,
+    numbers: &mut Vec<i32>,
+    corners: &mut Vec<i32>,
+) -> Result<(Vec<AppLine>, bool), ParseError>
+    requires { IsAt place.App (stand reader.old.spot reader.old.line reader.old.rest.now) }
+    ensures { MatchResult result
+        (λ read. AppSection (stand reader.old.spot reader.old.line reader.old.rest.now) (stand reader.new.spot reader.new.line reader.new.rest.now) read.0.items read.1)
+        (λ e. Refuses e (unread reader.old.spot reader.old.line reader.old.rest.now)) }
+{
+    let mut lines = Vec::new(alloc);
+    'steps: loop {
+        match app_line(alloc, reader, numbers, corners)? {
+            Turn::Step(line) => lines.push(line)?,
+            Turn::Section => return Ok((lines, true)),
+            Turn::End => return Ok((lines, false)),
+        }
+    }
+}
+
+/// Reads what comes next in the section of the database process; None at its end.
+fn base_line(
+    alloc: Global,
+    reader: &mut Reader,
+    numbers: &mut Vec<i32>,
+    corners: &mut Vec<i32>,
+) -> Result<Option<BaseLine>, ParseError>
+    requires { IsInBase (stand reader.old.spot reader.old.line reader.old.rest.now) }
+    ensures { MatchResult result
+        (λ next. BaseTurn (stand reader.old.spot reader.old.line reader.old.rest.now) (stand reader.new.spot reader.new.line reader.new.rest.now) next)
+        (λ e. Refuses e (unread reader.old.spot reader.old.line reader.old.rest.now)) }
+{
+    let line = reader.line;
+    let Some(command) = reader.next(numbers)? else {
+        return Ok(None);
+    };
+    let tris = triangles(alloc, reader, corners)?;
+    let geom = Geom::new(tris)?;
+    let Some(step) = base_step_of(alloc, command, numbers, geom) else {
+        unreachable!()
+    };
+    Ok(Some(BaseLine { line, step }))
+}
+
+/// Reads the section of the database process.
+pub fn base_section(
+    alloc: Global,
+    reader: &mut Reader,
+    numbers: &mut Vec<i32>,
+    corners: &mut Vec<i32>,
+) -> Result<Vec<BaseLine>, ParseError>
+    requires { IsAt place.Dbase (stand reader.old.spot reader.old.line reader.old.rest.now) }
+    ensures { MatchResult result
+        (λ lines. BaseSection (stand reader.old.spot reader.old.line reader.old.rest.now) (stand reader.new.spot reader.new.line reader.new.rest.now) lines.items)
+        (λ e. Refuses e (unread reader.old.spot reader.old.line reader.old.rest.now)) }
+{
+    let mut lines = Vec::new(alloc);
+    while let Some(line) = base_line(alloc, reader, numbers, corners)? {
+        lines.push(line)?;
+    }
+    Ok(lines)
+}
