@@ -22,7 +22,7 @@ unfoldable pub ground_of : Lens → (px py : ℕ) → List Surface → Option pi
 ground_of lens px py ss = fold (nearest_of lens px py) None ss
 
 abbrev pub ground_colour : List ℕ → Option pictures.Fragment → List ℕ
-ground_colour back ground = option_map_or (λ f. f.colour) ground back
+ground_colour back behind = option_map_or (λ f. f.colour) behind back
 
 unfoldable pub colour_of : Lens → List ℕ → (px py : ℕ) → (opaque glass : List Surface) → List ℕ
 colour_of lens back px py opaque glass =

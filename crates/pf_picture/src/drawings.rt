@@ -49,20 +49,20 @@ impl Drawing {
         requires y { py < lens.now.h }
         ensures { result ≡ colour_of lens.now back px py self.now.opaque.items self.now.glass.items }
     {
-        let ground = self.ground(lens, px, py);
-        let mut colour = ground_colour(&ground, back);
+        let behind = self.ground(lens, px, py);
+        let mut colour = ground_colour(&behind, back);
         for surface in &self.glass {
-            let glazed = surface.glazed(&ground, colour, lens, px, py);
+            let glazed = surface.glazed(&behind, colour, lens, px, py);
             colour = glazed;
         }
         colour
     }
 }
 
-fn ground_colour(ground: &Option<Fragment>, back: [u8; 3]) -> [u8; 3]
-    ensures { result ≡ ground_colour back (option_map fragment_of ground.now) }
+fn ground_colour(behind: &Option<Fragment>, back: [u8; 3]) -> [u8; 3]
+    ensures { result ≡ ground_colour back (option_map fragment_of behind.now) }
 {
-    match ground {
+    match behind {
         Some(fragment) => fragment.colour,
         None => back,
     }

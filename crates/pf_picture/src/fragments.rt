@@ -46,20 +46,20 @@ impl Fragment {
     }
 
     /// Whether the fragment lies behind the ground.
-    fn is_hidden(&self, ground: &Option<Fragment>) -> bool
-        ensures { result ≡ pictures.is_hidden (option_map fragment_of ground.now) (fragment_of self.now) }
+    fn is_hidden(&self, behind: &Option<Fragment>) -> bool
+        ensures { result ≡ pictures.is_hidden (option_map fragment_of behind.now) (fragment_of self.now) }
     {
-        match ground {
+        match behind {
             None => false,
             Some(nearest) => nearest.key.depth < self.key.depth,
         }
     }
 
     /// What glass of an alpha leaves here of the colour under it.
-    pub(crate) fn glazed(&self, ground: &Option<Fragment>, alpha: u8, under: [u8; 3]) -> [u8; 3]
-        ensures { result ≡ pictures.glazed (option_map fragment_of ground.now) alpha under (fragment_of self.now) }
+    pub(crate) fn glazed(&self, behind: &Option<Fragment>, alpha: u8, under: [u8; 3]) -> [u8; 3]
+        ensures { result ≡ pictures.glazed (option_map fragment_of behind.now) alpha under (fragment_of self.now) }
     {
-        if self.is_hidden(ground) {
+        if self.is_hidden(behind) {
             under
         } else {
             blend(alpha, self.colour, under)

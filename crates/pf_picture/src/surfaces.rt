@@ -108,7 +108,7 @@ impl Surface {
     /// What the triangle of a number, of glass, leaves of the colour under it.
     fn glazed_by(
         &self,
-        ground: &Option<Fragment>,
+        behind: &Option<Fragment>,
         under: [u8; 3],
         number: usize,
         tri: &Tri,
@@ -118,11 +118,11 @@ impl Surface {
     ) -> [u8; 3]
         requires x { px < lens.now.w }
         requires y { py < lens.now.h }
-        ensures { result ≡ option_map_or (pictures.glazed (option_map fragment_of ground.now) self.now.alpha under)
+        ensures { result ≡ option_map_or (pictures.glazed (option_map fragment_of behind.now) self.now.alpha under)
             (fragment_at lens.now px py self.now (number, tri.now)) under }
     {
         match self.fragment_at(number, tri, lens, px, py) {
-            Some(fragment) => fragment.glazed(ground, self.alpha, under),
+            Some(fragment) => fragment.glazed(behind, self.alpha, under),
             None => under,
         }
     }
@@ -130,7 +130,7 @@ impl Surface {
     /// What this surface, of glass, leaves of the colour under it.
     pub(crate) fn glazed(
         &self,
-        ground: &Option<Fragment>,
+        behind: &Option<Fragment>,
         under: [u8; 3],
         lens: &Lens,
         px: u16,
@@ -138,11 +138,11 @@ impl Surface {
     ) -> [u8; 3]
         requires x { px < lens.now.w }
         requires y { py < lens.now.h }
-        ensures { result ≡ glazed_by lens.now px py (option_map fragment_of ground.now) under self.now }
+        ensures { result ≡ glazed_by lens.now px py (option_map fragment_of behind.now) under self.now }
     {
         let mut colour = under;
         for (number, tri) in self.tris.iter().enumerate() {
-            let glazed = self.glazed_by(ground, colour, number, tri, lens, px, py);
+            let glazed = self.glazed_by(behind, colour, number, tri, lens, px, py);
             colour = glazed;
         }
         colour

@@ -13,7 +13,7 @@ pub loop-number-preserved : goal.loop-number-preserved
 loop-number-preserved c =
     let a = c.args in
     let at = fragment_at a.lens.now a.px a.py a.self.now in
-    let over = pictures.glazed (option_map fragment_of a.ground.now) a.self.now.alpha in
+    let over = pictures.glazed (option_map fragment_of a.behind.now) a.self.now.alpha in
     c.glazed_by-glazed.ensures
     ∙ ap (λ (u : List ℕ). option_map_or (over u) (at (c.loop-number.number, c.tri-item.result)) u) c.loop-number.invariant
     ∙ sym (fold_numbered_more over at a.under c.deref-tri-items.result.now c.loop-number.number c.tri-item.result (omega arith) c.tri-item.is)
@@ -23,7 +23,7 @@ unfolding glazed_by
 returns c =
     let a = c.args in
     let at = fragment_at a.lens.now a.px a.py a.self.now in
-    let over = pictures.glazed (option_map fragment_of a.ground.now) a.self.now.alpha in
+    let over = pictures.glazed (option_map fragment_of a.behind.now) a.self.now.alpha in
     c.loop-number.invariant
     ∙ fold_numbered_all over at a.under c.deref-tri-items.result.now c.loop-number.number (omega arith)
     ∙ ap (λ (ts : List Tri). fold over a.under (filter_map at (enumerate_from 0 ts))) c.deref-tri-items.ensures.value

@@ -7,4 +7,4 @@ use Rattle.pf_picture.specs.Surfaces.{fragment_at}
 use Rattle.pf_picture.proofs.surfaces.Surface.glazed.Given as goal
 
 abbrev pub invariant-loop-number : goal.invariant-loop-number
-invariant-loop-number l = l.colour ≡ fold (pictures.glazed (option_map fragment_of l.ground) l.self.alpha) l.fn.under (filter_map (fragment_at l.lens l.px l.py l.self) (take l.number (enumerate_from 0 l.tri-items)))
+invariant-loop-number l = l.colour ≡ fold (pictures.glazed (option_map fragment_of l.behind) l.self.alpha) l.fn.under (filter_map (fragment_at l.lens l.px l.py l.self) (take l.number (enumerate_from 0 l.tri-items)))
