@@ -1,0 +1,139 @@
+-- The state after a log, entry by entry.
+use Rattle.std.proofs.Common.{◌≡◌, ℕ, ◌+◌, ◌≤◌, Bool, true, false, cond, not, nat_le, List, [], ◌∷◌, ◌++◌, map, is_some, refl, ◌∙◌, arith}
+use Rattle.std.specs.List.{AllByRecursion, fold, filter}
+use Rattle.pf_model.specs.declared.edits.Edit.{Edit}
+use Rattle.pf_model.specs.declared.edits.Edit.TheVariants as edit
+use Rattle.pf_model.specs.declared.nodes.Gone.{Gone}
+use Rattle.pf_model.specs.Graphs.{SceneGraph}
+use Rattle.pf_model.specs.Edits.{fault_of, effect, after}
+use Rattle.pf_model.specs.Merges.{merge_fault, after_all}
+use Rattle.pf_model.specs.Copies.{GraveState, is_due}
+use Rattle.pf_history.specs.declared.commands.Command.{Command}
+use Rattle.pf_history.specs.declared.commands.Command.TheVariants as command
+use Rattle.pf_history.specs.declared.commands.Entry.{Entry}
+use Rattle.pf_history.specs.Objects.{FrameState, opening_state, next_state, grave_of}
+use Rattle.pf_history.specs.Logs.{Log, state_after, state_of, CanMake, IsLegalEntry, IsLegalFrom, entry_of}
+use Rattle.pf_history.specs.Laws.{OwnEntryLaw, PreparationLaw, GravesLaw}
+
+pub state_append : (s : FrameState) (xs ys : Log) → state_after s (xs ++ ys) ≡ state_after (state_after s xs) ys
+state_append s [] ys = refl
+state_append s (x ∷ xs) ys = state_append (next_state s x.1.command) xs ys
+
+pub state_push : (s : FrameState) (xs : Log) (e : ℕ × Entry) → state_after s (xs ++ e ∷ []) ≡ next_state (state_after s xs) e.1.command
+state_push s xs e = state_append s xs (e ∷ [])
+
+pub legal_push : (s : FrameState) (xs : Log) (e : ℕ × Entry) → IsLegalFrom s xs → IsLegalEntry (state_after s xs) e.1 → IsLegalFrom s (xs ++ e ∷ [])
+legal_push s [] e legal this = (this, tt)
+legal_push s (x ∷ xs) e legal this = (legal.0, legal_push (next_state s x.1.command) xs e legal.1 this)
+
+pub own_entry_legal : (s : FrameState) (c : Command) → CanMake s c → IsLegalEntry s (entry_of s c)
+own_entry_legal s c can = record { reply = refl; sync = can; caller = refl }
+
+pub own_entry_law : OwnEntryLaw
+own_entry_law channels log seat c legal can =
+    record {
+      legal = legal_push (opening_state channels) log (seat, entry_of (state_of channels log) c) legal (own_entry_legal (state_of channels log) c can);
+      moved = state_push (opening_state channels) log (seat, entry_of (state_of channels log) c);
+    }
+
+-- A fact that each command keeps holds after every log
+
+pub kept_after : (P : FrameState → Type 0) → ((s : FrameState) (c : Command) → P s → P (next_state s c)) → (s : FrameState) (log : Log) → P s → P (state_after s log)
+kept_after P step s [] h = h
+kept_after P step s (e ∷ es) h = kept_after P step (next_state s e.1.command) es (step s e.1.command h)
+
+-- The number of the frame in preparation
+
+pub effect_time : (g : SceneGraph) (e : Edit) → (effect g e).time ≡ g.time
+effect_time g (edit.Make id kind) = refl
+effect_time g (edit.Add parent child) = refl
+effect_time g (edit.Insert parent place child) = refl
+effect_time g (edit.Replace parent child by) = refl
+effect_time g (edit.Remove parent child) = refl
+effect_time g (edit.Delete id) = refl
+effect_time g (edit.Pick id pick) = refl
+effect_time g (edit.Mat id mat) = refl
+effect_time g (edit.Trans id t) = refl
+effect_time g (edit.Rot id h p r) = refl
+effect_time g (edit.Scale id s) = refl
+effect_time g (edit.Range id place value) = refl
+effect_time g (edit.Centre id at) = refl
+effect_time g (edit.Times id place frames) = refl
+effect_time g (edit.Run id) = refl
+effect_time g (edit.Stop id) = refl
+effect_time g (edit.Verts id geom) = refl
+
+pub after_time : (g : SceneGraph) (e : Edit) → (after g e).time ≡ g.time
+after_time g e = by (is_some (fault_of g e))
+  where
+    by : (t : Bool) → (cond t g (effect g e)).time ≡ g.time
+    by true = refl
+    by false = effect_time g e
+
+pub effects_time : (g : SceneGraph) (es : List Edit) → (fold effect g es).time ≡ g.time
+effects_time g [] = refl
+effects_time g (e ∷ es) = effects_time (effect g e) es ∙ effect_time g e
+
+pub after_all_time : (g : SceneGraph) (es : List Edit) → (after_all g es).time ≡ g.time
+after_all_time g es = by (is_some (merge_fault g es))
+  where
+    by : (t : Bool) → (cond t g (fold effect g es)).time ≡ g.time
+    by true = refl
+    by false = effects_time g es
+
+abbrev pub IsPreparing : FrameState → Type 0
+IsPreparing s = s.graph.time ≡ s.frames + 1
+
+pub preparing_next : (s : FrameState) (c : Command) → IsPreparing s → IsPreparing (next_state s c)
+preparing_next s (command.Edit e) h = after_time s.graph e ∙ h
+preparing_next s (command.Merge m) h = after_all_time s.graph m.edits ∙ h
+preparing_next s (command.View channel v) h = h
+preparing_next s (command.Sync r) h = h
+preparing_next s command.Frame h = omega arith
+
+pub preparation_law : PreparationLaw
+preparation_law channels log = kept_after IsPreparing preparing_next (opening_state channels) log (omega arith)
+
+-- Graves
+
+pub all_append : {X : Type 0} (P : X → Type 0) (xs ys : List X) → AllByRecursion P xs → AllByRecursion P ys → AllByRecursion P (xs ++ ys)
+all_append P [] ys h k = k
+all_append P (x ∷ xs) ys h k = (h.0, all_append P xs ys h.1 k)
+
+pub all_filter : {X : Type 0} (P : X → Type 0) (test : X → Bool) (xs : List X) → AllByRecursion P xs → AllByRecursion P (filter test xs)
+all_filter P test [] h = tt
+all_filter P test (x ∷ xs) h = by (test x) (all_filter P test xs h.1)
+  where
+    by : (t : Bool) → AllByRecursion P (filter test xs) → AllByRecursion P (cond t (x ∷ filter test xs) (filter test xs))
+    by true rest = (h.0, rest)
+    by false rest = rest
+
+pub all_weaker : {X : Type 0} (P Q : X → Type 0) (xs : List X) → ((x : X) → P x → Q x) → AllByRecursion P xs → AllByRecursion Q xs
+all_weaker P Q [] weaker h = tt
+all_weaker P Q (x ∷ xs) weaker h = (weaker x h.0, all_weaker P Q xs weaker h.1)
+
+grave_last : (frames : ℕ) (g : Gone) → (grave_of frames g).last ≤ frames
+grave_last frames g = by (nat_le g.born frames)
+  where
+    by : (t : Bool) → cond t frames 0 ≤ frames
+    by true = omega arith
+    by false = omega arith
+
+buried_last : (frames : ℕ) (gone : List Gone) → AllByRecursion (λ g. g.last ≤ frames) (map (grave_of frames) gone)
+buried_last frames [] = tt
+buried_last frames (g ∷ gs) = (grave_last frames g, buried_last frames gs)
+
+abbrev AreLast : FrameState → Type 0
+AreLast s = AllByRecursion (λ g. g.last ≤ s.frames) s.graves
+
+last_next : (s : FrameState) (c : Command) → AreLast s → AreLast (next_state s c)
+last_next s (command.Edit e) h =
+    all_append (λ g. g.last ≤ s.frames) s.graves (map (grave_of s.frames) (after s.graph e).gone) h (buried_last s.frames (after s.graph e).gone)
+last_next s (command.Merge m) h =
+    all_append (λ g. g.last ≤ s.frames) s.graves (map (grave_of s.frames) (after_all s.graph m.edits).gone) h (buried_last s.frames (after_all s.graph m.edits).gone)
+last_next s (command.View channel v) h = h
+last_next s (command.Sync r) h = all_filter (λ g. g.last ≤ s.frames) (λ g. not (is_due r g)) s.graves h
+last_next s command.Frame h = all_weaker (λ (g : GraveState). g.last ≤ s.frames) (λ g. g.last ≤ s.frames + 1) s.graves (λ g l. omega arith) h
+
+pub graves_law : GravesLaw
+graves_law channels log = kept_after AreLast last_next (opening_state channels) log tt

@@ -1,0 +1,9 @@
+pub mod Folds
+pub mod Fitting
+pub mod Copying
+pub mod Freeing
+pub mod Counting
+pub mod Cutting
+pub mod Props
+pub mod Reach
+mod Rows

@@ -1,0 +1,4 @@
+pub mod Orders
+pub mod Stuck
+pub mod Turns
+pub mod Laws

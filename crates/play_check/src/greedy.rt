@@ -1,0 +1,93 @@
+//! The greedy order of a play: each caller goes on until it is over or has to wait.
+ghost use Rattle.std.specs.Prelude.{◌≡◌, ◌↔◌, IsSome, IfSome, MatchOption};
+ghost use Rattle.play_check.specs.Stuck.{IsStuck, AreStuckLines};
+ghost use Rattle.play_check.specs.Turns.{frames_begun, merges_made, GoesOn, Stands, BaseGoesOn, BaseStands, line_at, base_line_at};
+
+use pf_model::{AppLine, AppStep, BaseLine, BaseStep};
+
+/// The frames that a step of the application begins where so many merges were made; none where it waits for more.
+fn frames_begun(step: &AppStep, merges: usize) -> Option<usize>
+    ensures { result ≡ frames_begun merges step.now }
+{
+    match step {
+        AppStep::Wait(count) if *count as usize > merges => None,
+        AppStep::Frame => Some(1),
+        _ => Some(0),
+    }
+}
+
+/// The merges that a step of the database process makes where so many frames were begun; none where it waits for more.
+fn merges_made(step: &BaseStep, frames: usize) -> Option<usize>
+    ensures { result ≡ merges_made frames step.now }
+{
+    match step {
+        BaseStep::Await(count) if *count as usize > frames => None,
+        BaseStep::Merge => Some(1),
+        _ => Some(0),
+    }
+}
+
+/// The frames that the application's next line begins and the lines behind it; none where it is over or waits.
+fn next_app(lines: &[AppLine], merges: usize) -> Option<(usize, &[AppLine])>
+    ensures { MatchOption result (Stands merges lines.now) (λ p. GoesOn merges lines.now p.0 p.1.now) }
+{
+    let (line, rest) = lines.split_first()?;
+    let begun = frames_begun(&line.step, merges)?;
+    Some((begun, rest))
+}
+
+/// The merges that the next line of the database process makes and the lines behind it; none where it is over or waits.
+fn next_dbase(lines: &[BaseLine], frames: usize) -> Option<(usize, &[BaseLine])>
+    ensures { MatchOption result (BaseStands frames lines.now) (λ p. BaseGoesOn frames lines.now p.0 p.1.now) }
+{
+    let (line, rest) = lines.split_first()?;
+    let made = merges_made(&line.step, frames)?;
+    Some((made, rest))
+}
+
+/// The line of the application's next step, or 0 where it is over.
+fn line_at(app_left: &[AppLine]) -> u32
+    ensures { result ≡ line_at app_left.now }
+{
+    match app_left.first() {
+        Some(next) => next.line,
+        None => 0,
+    }
+}
+
+/// The line of the database process's next step, or 0 where it is over.
+fn base_line_at(dbase_left: &[BaseLine]) -> u32
+    ensures { result ≡ base_line_at dbase_left.now }
+{
+    match dbase_left.first() {
+        Some(next) => next.line,
+        None => 0,
+    }
+}
+
+/// Whether some `wait` or `await` of these sections can be passed by no order of their calls, and then the lines of the
+/// first `wait` and of the first `await` that cannot be passed, with 0 where there is none.
+pub(crate) fn stuck_lines_of(app: &[AppLine], dbase: &[BaseLine]) -> Option<(u32, u32)>
+    ensures stuck { IsSome result ↔ IsStuck app.now dbase.now }
+    ensures lines { IfSome result (λ lines. AreStuckLines app.now dbase.now lines.0 lines.1) }
+{
+    let mut app_left = app;
+    let mut dbase_left = dbase;
+    let mut frames = 0;
+    let mut merges = 0;
+    loop {
+        if let Some((begun, rest)) = next_app(app_left, merges) {
+            frames += begun;
+            app_left = rest;
+        } else if let Some((made, rest)) = next_dbase(dbase_left, frames) {
+            merges += made;
+            dbase_left = rest;
+        } else {
+            break;
+        }
+    }
+    if app_left.is_empty() && dbase_left.is_empty() {
+        return None;
+    }
+    Some((line_at(app_left), base_line_at(dbase_left)))
+}

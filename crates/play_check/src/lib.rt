@@ -1,0 +1,12 @@
+//! Whether a play could never end: whether a `wait` or an `await` of it waits for ever.
+#![tactic(auto)]
+
+mod check;
+mod greedy;
+mod laws;
+
+pub use check::stuck;
+pub use laws::orders_go_no_further;
+
+#[cfg(test)]
+mod tests;
