@@ -25,7 +25,8 @@ fn answer(alloc: Global, text: &str) -> Option<Option<(u32, u32)>> {
 // `wait 1` asks for a merge that stands behind `await 1`, which asks for a frame behind the wait.
 #[test]
 fn waits_that_wait_for_each_other(rt: HostRuntime) -> Result<(), Fail> {
-    let text = "perfly 1\nsize 2 2\nlens 1 1 1073741823\nback 10 20 30\napp\nwait 1\nframe\ndbase\nawait 1\nbuffer\nmerge\n";
+    let text =
+        "perfly 1\nsize 2 2\nlens 1 1 1073741823\nback 10 20 30\napp\nwait 1\nframe\ndbase\nawait 1\nbuffer\nmerge\n";
     assert_eq!(rt; answer(rt.alloc(), text), Some(Some((6, 9))));
     Ok(())
 }
@@ -33,7 +34,8 @@ fn waits_that_wait_for_each_other(rt: HostRuntime) -> Result<(), Fail> {
 // The section of the database process is cut off, so the merge never comes.
 #[test]
 fn cut_after_the_wait(rt: HostRuntime) -> Result<(), Fail> {
-    let text = "perfly 1\nsize 2 2\nlens 1 1 1073741823\nback 10 20 30\napp\ngroup 1\nadd 0 1\nframe\nwait 1\n";
+    let text =
+        "perfly 1\nsize 2 2\nlens 1 1 1073741823\nback 10 20 30\napp\ngroup 1\nadd 0 1\nframe\nwait 1\n";
     assert_eq!(rt; answer(rt.alloc(), text), Some(Some((9, 0))));
     Ok(())
 }
