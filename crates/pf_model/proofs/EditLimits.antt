@@ -1,5 +1,5 @@
 -- Every edit that fits keeps a graph within the limits.
-use Rattle.std.proofs.Common.{◌≡◌, Bool, true, false, cond, ◌&&◌, nat_lt, length, Option, Some, None, is_some, refl, sym, subst}
+use Rattle.std.proofs.Common.{◌≡◌, Bool, true, false, cond, ◌&&◌, nat_lt, length, Option, Some, None, is_some, Result, Ok, Err, OnOk, OnErr, refl, sym, subst}
 use Rattle.pf_model.specs.declared.edits.Edit.{Edit}
 use Rattle.pf_model.specs.declared.edits.Edit.TheVariants as edit
 use Rattle.pf_model.specs.declared.edits.Fault.{Fault}
@@ -41,9 +41,18 @@ limits_effect g (edit.Run id) w fit none = limits_rekind g id (λ n. run_from g.
 limits_effect g (edit.Stop id) w fit none = limits_rekind g id (λ n. stopped g.time (length n.children) n.kind) w (λ n found. good_stopped g.time (length n.children) n.kind)
 limits_effect g (edit.Verts id geom) w fit none = limits_rekind g id (λ n. with_geom geom n.kind) w (λ n found. good_geom g.time geom n.kind fit)
 
-pub limits_after : (g : SceneGraph) (e : Edit) → IsGraphWithinLimits g → fits e ≡ true → IsGraphWithinLimits (after g e)
-limits_after g e w fit = by (fault_of g e) refl
+limits_unless : (g : SceneGraph) (e : Edit) → IsGraphWithinLimits g → (None ≡ fault_of g e → IsGraphWithinLimits (effect g e)) → IsGraphWithinLimits (after g e)
+limits_unless g e w keeps = by (fault_of g e) refl
   where
     by : (o : Option Fault) → fault_of g e ≡ o → IsGraphWithinLimits (cond (is_some (fault_of g e)) g (effect g e))
-    by None none = subst (λ (o : Option Fault). IsGraphWithinLimits (cond (is_some o) g (effect g e))) (sym none) (limits_effect g e w fit (sym none))
+    by None none = subst (λ (o : Option Fault). IsGraphWithinLimits (cond (is_some o) g (effect g e))) (sym none) (keeps (sym none))
     by (Some f) met = subst (λ (o : Option Fault). IsGraphWithinLimits (cond (is_some o) g (effect g e))) (sym met) w
+
+-- a graph after a call that made an edit, or left the graph
+pub limits_kept : {A E : Type 0} (r : Result A E) (g h : SceneGraph) (e : Edit) → IsGraphWithinLimits g → (None ≡ fault_of g e → IsGraphWithinLimits (effect g e))
+    → OnOk r (h ≡ after g e) → OnErr r (h ≡ g) → IsGraphWithinLimits h
+limits_kept (Ok x) g h e w keeps ok err = subst IsGraphWithinLimits (sym ok) (limits_unless g e w keeps)
+limits_kept (Err x) g h e w keeps ok err = subst IsGraphWithinLimits (sym err) w
+
+pub limits_after : (g : SceneGraph) (e : Edit) → IsGraphWithinLimits g → fits e ≡ true → IsGraphWithinLimits (after g e)
+limits_after g e w fit = limits_unless g e w (limits_effect g e w fit)

@@ -2,6 +2,7 @@ pub mod Places
 pub mod Tables
 pub mod Rules
 pub mod Levels
+pub mod Named
 pub mod Histories
 pub mod EditLimits
 pub mod MakeLimits

@@ -395,8 +395,9 @@ fn attribute_fault(nodes: &[(u16, Node)], e: &Edit) -> Option<Fault>
     }
 }
 
-/// What such an edit makes of the kind of its node.
-fn kind_after(node: &Node, time: u32, e: &Edit) -> Result<Kind, NoMemory>
+/// What an edit that fits makes of the kind of its node at a time: another kind where it changes the kind alone, else an
+/// equal one.
+pub fn kind_after(node: &Node, time: u32, e: &Edit) -> Result<Kind, NoMemory>
     requires { fits e.now ≡ true }
     ensures { IfOk result (λ k. k ≡ kind_after time e.now node.now) }
 {

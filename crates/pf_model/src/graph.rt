@@ -3,7 +3,7 @@ ghost use Rattle.std.specs.Prelude.{◌≡◌, ◌+◌, ◌-◌, ◌^◌, ◌<�
 ghost use Rattle.std.specs.List.{position, position_or_len};
 ghost use Rattle.std.specs.Option.{option_copied};
 ghost use Rattle.pf_model.specs.Graphs.{SceneGraph, node_at, has_id, put, without, empty_scene};
-ghost use Rattle.pf_model.specs.Limits.{IsRising};
+ghost use Rattle.pf_model.specs.Limits.{IsRising, IsGraphWithinLimits};
 ghost use Rattle.pf_model.specs.Edits.{first, fault_of, after, remains, Refuses};
 ghost use Rattle.pf_model.specs.Attributes.{is_attribute};
 ghost use Rattle.pf_model.specs.Fits.{fits};
@@ -16,6 +16,7 @@ use crate::{attributes, links};
 use pf_io::NoMemory;
 use std::alloc::Global;
 use std::marker::Model;
+use std::mem;
 
 /// The place of a node in the list.
 pub(crate) fn place_of(nodes: &[(u16, Node)], id: u16) -> Option<usize>
@@ -97,6 +98,28 @@ fn remains(id: u16, node: Node) -> Gone
     }
 }
 
+/// Equal nodes.
+fn copied_nodes(alloc: Global, nodes: &[(u16, Node)]) -> Result<Vec<(u16, Node)>, NoMemory>
+    ensures { IfOk result (λ v. v.items ≡ nodes.now) }
+{
+    let mut copied = Vec::with_capacity(alloc, nodes.len())?;
+    for entry in nodes {
+        copied.push((entry.0, entry.1.copy()?))?;
+    }
+    Ok(copied)
+}
+
+/// Equal remains.
+fn copied_gone(alloc: Global, gone: &[Gone]) -> Result<Vec<Gone>, NoMemory>
+    ensures { IfOk result (λ v. v.items ≡ gone.now) }
+{
+    let mut copied = Vec::with_capacity(alloc, gone.len())?;
+    for remains in gone {
+        copied.push(remains.copy()?)?;
+    }
+    Ok(copied)
+}
+
 /// The fault of making a node.
 fn fault_of_make(nodes: &[(u16, Node)], id: u16) -> Option<Fault>
     ensures { result ≡ first (make_rules nodes.now id) }
@@ -110,8 +133,8 @@ fn fault_of_make(nodes: &[(u16, Node)], id: u16) -> Option<Fault>
     None
 }
 
-/// A scene graph as a list of ids and nodes, with the number of the frame in preparation, the next serial, and the
-/// nodes that were deleted.
+/// A scene graph within the limits, as a list of ids and nodes, with the number of the frame in preparation, the next
+/// serial, and the nodes that were deleted.
 #[derive(Debug, Drop)]
 pub struct Graph {
     nodes: Vec<(u16, Node)>,
@@ -130,11 +153,17 @@ impl Model for Graph {
       gone = g.gone.items;
     } };
 
-    ghost invariant = { λ g. IsRising (map (λ e. e.0) g.nodes.items) };
+    ghost invariant = { λ g. IsGraphWithinLimits (record {
+      nodes = g.nodes.items;
+      time = g.time;
+      next_serial = g.next_serial;
+      gone = g.gone.items;
+    }) };
 }
 
 impl Graph {
     /// The graph of the scene alone, which prepares frame 1.
+    #[tactic(auto, using(crate::proofs::Histories::limits_empty))]
     pub fn new(alloc: Global) -> Result<Graph, NoMemory>
         ensures { IfOk result (λ g. g ≡ empty_scene) }
     {
@@ -183,9 +212,34 @@ impl Graph {
         self.time += 1;
     }
 
+    /// An equal graph.
+    pub fn copy(&self) -> Result<Graph, NoMemory>
+        ensures { IfOk result (λ g. g ≡ self.now) }
+    {
+        let alloc = *self.nodes.allocator();
+        let nodes = copied_nodes(alloc, self.nodes.as_slice())?;
+        let gone = copied_gone(alloc, self.gone.as_slice())?;
+        Ok(Graph {
+            nodes,
+            time: self.time,
+            next_serial: self.next_serial,
+            gone,
+        })
+    }
+
+    /// Takes out what is left of the deleted nodes, in the order of their deletion.
+    pub fn take_gone(&mut self) -> Vec<Gone>
+        ensures gone { result.items ≡ self.old.gone }
+        ensures after { self.new ≡ record self.old { gone = [] } }
+    {
+        let alloc = *self.gone.allocator();
+        mem::replace(&mut self.gone, Vec::new(alloc))
+    }
+
     /// Makes a node without children, born in the frame in preparation.
     pub fn make(&mut self, id: u16, kind: Kind) -> Result<(), EditError>
-        requires { self.old.next_serial < 2 ^ 32 - 1 }
+        requires serials { self.old.next_serial < 2 ^ 32 - 1 }
+        requires fits { fits (Edit.Make id kind) ≡ true }
         ensures done { OnOk result (fault_of self.old (Edit.Make id kind) ≡ None) }
         ensures after { OnOk result (self.new ≡ after self.old (Edit.Make id kind)) }
         ensures fault { IfErr result (λ e. Refuses e (fault_of self.old (Edit.Make id kind))) }

@@ -1,10 +1,11 @@
 //! Laws of graphs, walks and boxes that the crates above rest on: functions that do nothing, whose contracts are the laws.
-ghost use Rattle.std.specs.Prelude.{◌≡◌, ◌+◌, ℕ, true, List, Option};
+ghost use Rattle.std.specs.Prelude.{◌≡◌, ◌+◌, ◌==◌, ℕ, true, false, map, List, Option};
+ghost use Rattle.pf_model.specs.Copies.{named_by};
 ghost use Rattle.std.specs.List.{list_all};
 ghost use Rattle.pf_model.specs.declared.edits.Edit.{Edit};
-ghost use Rattle.pf_model.specs.Graphs.{SceneGraph, empty_scene};
-ghost use Rattle.pf_model.specs.Limits.{IsGraphWithinLimits};
-ghost use Rattle.pf_model.specs.Edits.{after};
+ghost use Rattle.pf_model.specs.Graphs.{Nodes, SceneGraph, node_at, empty_scene};
+ghost use Rattle.pf_model.specs.Limits.{IsRising, IsGraphWithinLimits};
+ghost use Rattle.pf_model.specs.Edits.{after, effect};
 ghost use Rattle.pf_model.specs.Merges.{after_all};
 ghost use Rattle.pf_model.specs.Fits.{fits};
 ghost use Rattle.pf_model.specs.declared.nodes.Node.{Node};
@@ -40,4 +41,18 @@ pub fn graphs_stay_within_limits()
         → IsGraphWithinLimits (after_all g es) }
     ensures frame { (g : SceneGraph) → IsGraphWithinLimits g
         → IsGraphWithinLimits (record g { time = g.time + 1 }) }
+{}
+
+/// An edit changes the node that it names and no other, and keeps the ids in rising order.
+pub fn edits_change_what_they_name()
+    ensures others { (g : SceneGraph) → (e : Edit) → (b : ℕ) → IsRising (map (λ x. x.0) g.nodes)
+        → (b == named_by e) ≡ false → node_at (effect g e).nodes b ≡ node_at g.nodes b }
+    ensures order { (g : SceneGraph) → (e : Edit) → IsRising (map (λ x. x.0) g.nodes)
+        → IsRising (map (λ x. x.0) (effect g e).nodes) }
+{}
+
+/// Nodes in rising order of their ids are equal where the same are found under each id.
+pub fn equal_looks_are_equal_nodes()
+    ensures { (xs : Nodes) → (ys : Nodes) → IsRising (map (λ x. x.0) xs) → IsRising (map (λ x. x.0) ys)
+        → ((b : ℕ) → node_at xs b ≡ node_at ys b) → xs ≡ ys }
 {}

@@ -19,6 +19,7 @@ pub mod steps;
 pub(crate) mod survey;
 pub mod views;
 
+pub use attributes::kind_after;
 pub use choices::chosen_children;
 pub use edits::{Edit, EditError, EditList, Fault};
 pub use geometry::{Geom, Tri};

@@ -136,3 +136,18 @@ impl Node {
         })
     }
 }
+
+impl Gone {
+    /// Equal remains.
+    pub fn copy(&self) -> Result<Gone, NoMemory>
+        ensures { IfOk result (λ g. g ≡ self.now) }
+    {
+        let kind = self.kind.copy()?;
+        Ok(Gone {
+            id: self.id,
+            serial: self.serial,
+            born: self.born,
+            kind,
+        })
+    }
+}

@@ -87,6 +87,10 @@ fn delete_in_use(rt: HostRuntime) -> Result<(), Fail> {
     assert_eq!(rt; edit(&rt, &mut graph, &delete), Ok(()));
     assert_eq!(rt; edit(&rt, &mut graph, &delete), refused(Fault::Absent(1)));
     assert_eq!(rt; graph.next_serial(), 2);
+    let mut copy = graph.copy()?;
+    assert_eq!(rt; graph.take_gone().len(), 1);
+    assert_eq!(rt; graph.take_gone().len(), 0);
+    assert_eq!(rt; copy.take_gone().len(), 1);
     Ok(())
 }
 
