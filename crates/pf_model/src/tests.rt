@@ -188,6 +188,18 @@ fn sequence_run_and_stopped(rt: HostRuntime) -> Result<(), Fail> {
 }
 
 #[test]
+fn kind_after_an_edit(rt: HostRuntime) -> Result<(), Fail> {
+    let switch = node(rt.alloc(), Kind::Switch(Pick::Off))?;
+    let pick = Edit::Pick {
+        id: 1,
+        pick: Pick::One(1),
+    };
+    let kind = kind_after(&switch, 1, &pick)?;
+    assert!(rt; matches!(kind, Kind::Switch(Pick::One(1))));
+    Ok(())
+}
+
+#[test]
 fn links_and_attributes(rt: HostRuntime) -> Result<(), Fail> {
     let mut graph = Graph::new(rt.alloc())?;
     for id in 1..4 {
