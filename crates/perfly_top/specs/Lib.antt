@@ -4,6 +4,5 @@ pub mod Reading
 pub mod Entries
 pub mod Outcomes
 pub mod Stream
-pub mod Flat
 pub mod Program
 pub mod Stops

@@ -4,7 +4,6 @@ ghost use Rattle.std.specs.Io.KnownBytes.{append_known};
 ghost use Rattle.pf_io.specs.Causes.{Calm, Rose};
 ghost use Rattle.pf_io.specs.Streams.{AppendsFront};
 ghost use Rattle.perfly_top.specs.Entries.{script_of};
-ghost use Rattle.perfly_top.specs.Flat.{IsFlat};
 ghost use Rattle.perfly_top.specs.Program.{AppendsUpTo};
 ghost use Rattle.perfly_top.specs.Stream.{bytes_of, graph_after, pictures};
 ghost use Rattle.pf_model.specs.Edits.{after};
@@ -61,7 +60,6 @@ fn turn<O: Sink>(
     step: Step,
     frames: &mut O,
 ) -> Result<(), Stop>
-    requires flat { IsFlat graph.old.nodes }
     requires time { graph.old.time < 2 ^ 32 - 1 }
     requires serial { graph.old.next_serial < 2 ^ 32 - 1 }
     ensures graph { OnOk result (graph.new ≡ graph_after graph.old step) }

@@ -4,7 +4,6 @@ use Rattle.std.specs.Vec.Iter.{into_iter_items}
 use Rattle.pf_model.specs.Graphs.{SceneGraph}
 use Rattle.perfly_top.specs.Entries.{script_of}
 use Rattle.perfly_top.specs.Stream.{bytes_of, stream_of, graph_after, pictures}
-use Rattle.perfly_top.proofs.Flat.{flat_scene, flat_after}
 use Rattle.perfly_top.proofs.Told.{on_err}
 use Rattle.perfly_top.proofs.Streams.{Written, written_none, written_more, written_front, written_part, front_part}
 use Rattle.perfly_top.proofs.player.draw_frames.Goals as goal
@@ -27,8 +26,7 @@ loop-step-preserved g c =
       refl,
       refl,
       omega (arith, ap length next, t.time, i.6),
-      rw t.graph (flat_after at s i.7),
-      omega (arith, ap length next, t.serial, i.8),
+      omega (arith, ap length next, t.serial, i.7),
     )
 
 pub loop-step-init : goal.loop-step-init
@@ -44,7 +42,6 @@ loop-step-init g c =
       refl,
       refl,
       omega (arith, ap length all, time),
-      rw empty flat_scene,
       omega (arith, ap length all, serial),
     )
 

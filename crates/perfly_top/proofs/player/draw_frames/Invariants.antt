@@ -1,7 +1,6 @@
 use Rattle.std.proofs.Common.{◌≡◌, ◌+◌, ◌≤◌, length}
 use Rattle.std.specs.Vec.Iter.{into_iter_items}
 use Rattle.perfly_top.specs.Entries.{script_of}
-use Rattle.perfly_top.specs.Flat.{IsFlat}
 use Rattle.perfly_top.specs.Stream.{stream_of, pictures}
 use Rattle.perfly_top.proofs.Streams.{Written}
 use Rattle.perfly_top.proofs.player.draw_frames.Given as goal
@@ -14,5 +13,4 @@ invariant-loop-step g l =
     (g.O.Sink.faults l.frames ≡ g.O.Sink.faults l.fn.frames) ×
     (l.lens ≡ l.fn.play.lens) × (l.back ≡ l.fn.play.back) ×
     (l.graph.time + length (into_iter_items l.step-iterator) ≤ length l.fn.play.steps.items + 1) ×
-    IsFlat l.graph.nodes ×
     (l.graph.next_serial + length (into_iter_items l.step-iterator) ≤ length l.fn.play.steps.items + 1)
