@@ -183,6 +183,13 @@ impl Graph {
         })
     }
 
+    /// Does nothing: tells that the graph is within the limits.
+    pub fn keeps_limits(&self)
+        ensures { IsGraphWithinLimits self.now }
+    {
+        let _ = &self.time;
+    }
+
     /// The node of an id.
     pub(crate) fn find(&self, id: u16) -> Option<&Node>
         ensures { option_copied result ≡ node_at self.now.nodes id }
