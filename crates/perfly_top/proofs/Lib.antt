@@ -2,3 +2,4 @@ pub mod Numbers
 pub mod Entries
 pub mod Told
 pub mod Streams
+pub mod Views

@@ -30,6 +30,7 @@ pub(crate) fn draw(
 ) -> Result<Vec<u8>, NoMemory>
     ensures { IfOk result (λ v. v.items ≡ frame_bytes lens back graph.now) }
 {
+    graph.keeps_limits();
     let image = draw_plain(alloc, graph, graph.time(), &opening_view(), &lens, back)?;
     let mut bytes = Vec::new(alloc);
     append_ppm(&mut bytes, &image)?;
