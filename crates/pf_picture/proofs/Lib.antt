@@ -7,5 +7,6 @@ pub mod DrawnWalk
 pub mod Ordered
 pub mod PlacesShown
 pub mod Seen
+pub mod Unseen
 pub mod Walked
 pub mod Zipped

@@ -6,6 +6,7 @@ mod drawings;
 mod eye;
 mod fragments;
 pub mod instances;
+pub mod laws;
 mod leaves;
 mod numbers;
 mod pane;
@@ -18,5 +19,7 @@ mod walk;
 pub use instances::Instance;
 pub use renderer::{draw_instances, draw_plain};
 
+#[cfg(test)]
+mod scenes;
 #[cfg(test)]
 mod tests;

@@ -1,20 +1,19 @@
 //! Pictures of two by two pixels.
-use crate::{Instance, draw_instances, draw_plain};
+use crate::{Instance, draw_instances};
 use fx_math::{Affine, Lens, MAX_COORDINATE, Vec3, shift};
-use pf_model::laws::graphs_stay_within_limits;
-use pf_model::{Graph, Tri, View};
+use pf_model::Tri;
 use std::alloc::Global;
 use std::process::Abort;
 use std::test::Fail;
 
-const BACK: [u8; 3] = [10, 20, 30];
+pub(crate) const BACK: [u8; 3] = [10, 20, 30];
 
-fn point(x: i32, y: i32, z: i32) -> Result<Vec3, Fail> {
+pub(crate) fn point(x: i32, y: i32, z: i32) -> Result<Vec3, Fail> {
     Ok(Vec3::new(x, y, z).ok_or("a coordinate out of range")?)
 }
 
 /// A triangle of one colour that faces the eye at a depth and covers the whole picture.
-fn facing(depth: i32, colour: [u8; 3]) -> Result<Tri, Fail> {
+pub(crate) fn facing(depth: i32, colour: [u8; 3]) -> Result<Tri, Fail> {
     Ok(Tri {
         v: [
             point(-40960, depth, -40960)?,
@@ -151,22 +150,4 @@ fn two_panes_from_far_to_near(rt: HostRuntime) -> Result<(), Fail> {
         &[glass(0, 128, &green), glass(1, 128, &blue)],
         [1, 132, 70],
     )
-}
-
-#[test]
-fn an_empty_scene_shows_the_background(rt: HostRuntime) -> Result<(), Fail> {
-    let scene = Graph::new(rt.alloc())?;
-    let view = View {
-        eye: Vec3::ORIGIN,
-        h: 900,
-        p: 0,
-        r: 0,
-    };
-    let lens = Lens::new(2, 2, 1, 1, MAX_COORDINATE).ok_or("a lens out of range")?;
-    graphs_stay_within_limits();
-    let image = draw_plain(rt.alloc(), &scene, 1, &view, &lens, BACK)?;
-    assert_eq!(rt; image.width(), 2);
-    assert_eq!(rt; image.height(), 2);
-    assert_eq!(rt; image.get(1, 0), BACK);
-    Ok(())
 }
