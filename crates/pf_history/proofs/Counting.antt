@@ -11,14 +11,14 @@ use Rattle.pf_history.specs.Laws.{CountsLaw}
 abbrev pub one : Bool → ℕ
 one t = cond t 1 0
 
-frames_next : (s : FrameState) (c : Command) → (next_state s c).frames ≡ s.frames + one (is_frame c)
+pub frames_next : (s : FrameState) (c : Command) → (next_state s c).frames ≡ s.frames + one (is_frame c)
 frames_next s (command.Edit e) = omega arith
 frames_next s (command.Merge m) = omega arith
 frames_next s (command.View channel v) = omega arith
 frames_next s (command.Sync r) = omega arith
 frames_next s command.Frame = refl
 
-merges_next : (s : FrameState) (c : Command) → (next_state s c).merges ≡ s.merges + one (is_merge c)
+pub merges_next : (s : FrameState) (c : Command) → (next_state s c).merges ≡ s.merges + one (is_merge c)
 merges_next s (command.Edit e) = omega arith
 merges_next s (command.Merge m) = refl
 merges_next s (command.View channel v) = omega arith

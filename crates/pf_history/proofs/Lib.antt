@@ -7,3 +7,6 @@ pub mod Cutting
 pub mod Props
 pub mod Reach
 mod Rows
+pub mod Merging
+pub mod Running
+pub mod Views

@@ -4,3 +4,4 @@ pub mod Asks
 pub mod Fits
 pub mod Cuts
 pub mod Laws
+pub mod Runs

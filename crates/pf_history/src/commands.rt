@@ -1,5 +1,7 @@
 //! The commands of the two callers, and the replies to them.
 ghost use Rattle.std.specs.Prelude.{◌≡◌};
+ghost use Rattle.std.specs.List.{list_all};
+ghost use Rattle.pf_model.specs.Fits.{fits};
 
 use pf_model::{Edit, EditList, Fault, Serials, View};
 
@@ -19,6 +21,13 @@ pub struct Merge {
     pub dropped: u32,
 }
 
+/// Whether the numbers of all these edits are in the ranges of a play.
+fn all_fit(edits: &[Edit]) -> bool
+    ensures { result ≡ list_all fits edits.now }
+{
+    edits.iter().all(|e| e.fits())
+}
+
 /// A command.
 #[derive(Debug, Drop)]
 pub enum Command {
@@ -36,6 +45,8 @@ pub enum Command {
 
 impl Command {
     ghost use Rattle.pf_history.specs.Logs.{caller_of};
+    ghost use Rattle.pf_history.specs.Laws.{command_fits};
+    ghost use Rattle.pf_history.specs.Runs.{edit_count};
 
     /// Who makes such a command: the database process exactly the merges.
     pub fn caller(&self) -> Caller
@@ -44,6 +55,28 @@ impl Command {
         match self {
             Command::Merge(_) => Caller::Dbase,
             _ => Caller::App,
+        }
+    }
+
+    /// Whether the numbers of the command's edits are in the ranges of a play.
+    pub fn fits(&self) -> bool
+        ensures { result ≡ command_fits self.now }
+    {
+        match self {
+            Command::Edit(e) => e.fits(),
+            Command::Merge(merge) => all_fit(merge.edits.as_slice()),
+            _ => true,
+        }
+    }
+
+    /// The number of the command's edits.
+    pub fn edit_count(&self) -> usize
+        ensures { result ≡ edit_count self.now }
+    {
+        match self {
+            Command::Edit(_) => 1,
+            Command::Merge(merge) => merge.edits.len(),
+            _ => 0,
         }
     }
 }

@@ -5,7 +5,14 @@
 pub mod commands;
 pub mod history;
 pub mod laws;
+pub mod runs;
+pub mod sequential;
 
 pub use commands::{Caller, Command, Entry, Merge, Reply};
 pub use history::History;
 pub use pf_model::{EditList, Serials};
+pub use runs::{can_run, run};
+pub use sequential::Sequential;
+
+#[cfg(test)]
+mod tests;
