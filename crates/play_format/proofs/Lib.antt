@@ -1,3 +1,4 @@
+pub mod FrontLemmas
 pub mod NumberLemmas
 pub mod LineLemmas
 pub mod ReadingLemmas
@@ -14,4 +15,5 @@ pub mod LawLemmas
 pub mod TextLemmas
 pub mod AgainLemmas
 pub mod OneLemmas
+pub mod WholeLemmas
 pub mod ParseLemmas

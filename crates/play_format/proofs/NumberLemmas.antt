@@ -58,3 +58,10 @@ number_above r w v e f h = above_judged (is_number w) r.low r.high (value_of w) 
 pub number_within : (r : Limits) (w : List ℕ) (v : ℤ) → Some v ≡ cond (is_number w) (Some (held (value_of w))) None → FitsSigned w32 r.low → FitsSigned w32 r.high → r.low ≤ℤ v → v ≤ℤ r.high → number_at r w ≡ Ok v
 unfolding number_at
 number_within r w v e f g h i = within_judged (is_number w) r.low r.high (value_of w) v e f g h i
+
+pub number_none : (r : Limits) (w : List ℕ) (why : Why) → why ≡ whys.Number → is_number w ≡ false → number_at r w ≡ Err why
+unfolding number_at
+number_none r w why e h = rw (h, e) refl
+
+pub some_held : (w : List ℕ) (v : ℤ) → is_number w ≡ true → v ≡ held (value_of w) → Some v ≡ cond (is_number w) (Some (held (value_of w))) None
+some_held w v e h = rw (e, h) refl

@@ -3,16 +3,19 @@ use Rattle.std.proofs.Common.{◌≡◌, ℕ, ◌+◌, ◌<◌, arith, refl, tru
 use Rattle.std.specs.Prelude.{codes}
 use Rattle.std.specs.List.{join_with_byte}
 use Rattle.std.specs.Str.{bytes_eq}
-use Rattle.std.proofs.lemmas.Bool.{false_from_ne_true}
+use Rattle.std.proofs.lemmas.Bool.{eq-eqb, false_from_ne_true}
 use Rattle.std.proofs.lemmas.Slice.Eq.{bytes_eq-Decides}
-use Rattle.std.proofs.lemmas.List.{append-nil, drop_all}
+use Rattle.std.proofs.lemmas.List.{append-nil, drop_all, length-drop}
 use Rattle.std.proofs.lemmas.List.Splits.{length-slice_split, join_with_byte-slice_split}
 use Rattle.play_format.specs.declared.refusal.Why.{Why}
 use Rattle.play_format.specs.declared.refusal.Why.TheVariants as whys
 use Rattle.play_format.specs.declared.numbers.Limits.{Limits}
 use Rattle.play_format.specs.Numbers.{number_at}
 use Rattle.play_format.specs.Words.{words}
-use Rattle.play_format.specs.Grammar.{◌>>=◌, numbers_at, switched, switch_form}
+use Rattle.play_format.specs.declared.commands.Command.{Command}
+use Rattle.play_format.specs.declared.places.Spot.{Spot}
+use Rattle.play_format.specs.Commands.{limits_of, tail_of, words_in}
+use Rattle.play_format.specs.Grammar.{◌>>=◌, numbers_at, switched, switch_form, fields_at}
 
 pub bytes_yes : (xs ys : List ℕ) → bytes_eq xs ys ≡ true → xs ≡ ys
 bytes_yes xs ys e = (bytes_eq-Decides xs ys).0 e
@@ -79,3 +82,10 @@ unfolding numbers_at
 all_read front rs i ws all le so_far =
     let one : with_numbers front (numbers_at (drop i rs) ws) ≡ Ok front = rw (drop_all i rs le) (ap (λ (ns : List ℤ). Ok ns) (append-nil front)) in
     sym so_far ∙ one
+
+-- the numbers of a line that has as many words as its command
+pub fields_read : (s : Spot) (c : Command) (line : List ℕ) (left : List (List ℕ)) (zs : List ℤ) → numbers_at (limits_of s.channels c) (drop 1 (words line)) ≡ Ok zs
+    → length (limits_of s.channels c) + length left ≡ length (drop 1 (words line)) → length left ≡ length (tail_of c) → fields_at s c (words line) ≡ Ok zs
+fields_read s c line left zs numbers count tail =
+    let all : length (words line) ≡ words_in s.channels c = omega (arith, count, tail, length-drop 1 (words line), length-slice_split (λ b. eqb b 32) line) in
+    rw (eq-eqb _ _ all) numbers

@@ -2,6 +2,7 @@
 #![tactic(auto)]
 
 mod commands;
+mod edits;
 mod header;
 mod making;
 mod numbers;

@@ -1,17 +1,13 @@
 //! What the numbers of a line make.
-ghost use Rattle.std.specs.Prelude.{◌≡◌, ◌+◌, ◌<◌, []};
-ghost use Rattle.play_format.specs.Making.{below, byte_at, id_at, count_at, vector, vector_at, is_within, is_row, are_entries, affine, three_at, affine_at, angle_at, view_at, colour_at, tri_of, new_pose, origin, edit_of, app_step_of, base_step_of};
+ghost use Rattle.std.specs.Prelude.{◌≡◌, ◌+◌, ◌<◌};
+ghost use Rattle.play_format.specs.Making.{below, byte_at, id_at, count_at, vector, vector_at, is_within, is_row, are_entries, affine, three_at, affine_at, angle_at, view_at, colour_at, tri_of, app_step_of, base_step_of};
 ghost use Rattle.fx_math.specs.Within.{IsWithin};
-ghost use Rattle.pf_model.specs.declared.poses.Pose.TheVariants as pose;
-ghost use Rattle.pf_model.specs.declared.nodes.Kind.TheVariants as kind;
-ghost use Rattle.pf_model.specs.declared.nodes.Run.TheVariants as run;
 
-use crate::commands::{Command, Form};
+use crate::commands::Command;
+use crate::edits::{add, edit_of, remove};
 use crate::places::number;
-use fx_math::{Affine, MAX_ENTRY, UNIT, Vec3};
-use pf_model::{
-    AppStep, BaseStep, Edit, Euler, Geom, Kind, Pick, Pose, Ranges, Run, Times, Tri, View,
-};
+use fx_math::{Affine, MAX_ENTRY, Vec3};
+use pf_model::{AppStep, BaseStep, Geom, Tri, View};
 use std::alloc::Global;
 
 /// Number `k` of a line as a number of 8 bits.
@@ -29,7 +25,7 @@ pub fn id_at(numbers: &[i32], k: usize) -> u16
 }
 
 /// Number `k` of a line as a number of 32 bits.
-fn count_at(numbers: &[i32], k: usize) -> u32
+pub fn count_at(numbers: &[i32], k: usize) -> u32
     ensures { result ≡ count_at numbers.now k }
 {
     u32::try_from(number(numbers, k)).unwrap_or(0)
@@ -46,7 +42,7 @@ fn vector(x: i32, y: i32, z: i32) -> Vec3
 }
 
 /// The vector of the numbers from number `k` on.
-fn vector_at(numbers: &[i32], k: usize) -> Vec3
+pub fn vector_at(numbers: &[i32], k: usize) -> Vec3
     requires { k < 100 }
     ensures { result ≡ vector_at numbers.now k }
 {
@@ -99,7 +95,7 @@ fn three_at(numbers: &[i32], k: usize) -> [i32; 3]
 }
 
 /// The step of the twelve numbers from number `k` on: three rows and a translation.
-fn affine_at(numbers: &[i32], k: usize) -> Affine
+pub fn affine_at(numbers: &[i32], k: usize) -> Affine
     requires { k < 90 }
     ensures { result ≡ affine_at numbers.now k }
 {
@@ -166,152 +162,6 @@ pub fn tri_of(numbers: &[i32]) -> Tri
     }
 }
 
-/// The pose of a new dynamic coordinate system.
-fn new_pose() -> Pose
-    ensures { result ≡ pose.Euler new_pose }
-{
-    Pose::Euler(Euler {
-        scale: UNIT,
-        h: 0,
-        p: 0,
-        r: 0,
-        t: Vec3::ORIGIN,
-    })
-}
-
-fn new_lod(alloc: Global) -> Kind
-    ensures { result ≡ kind.Lod origin [] }
-{
-    Kind::Lod {
-        centre: Vec3::ORIGIN,
-        ranges: Ranges::new(alloc),
-    }
-}
-
-fn new_seq(alloc: Global) -> Kind
-    ensures { result ≡ kind.Seq [] (run.Held 0) }
-{
-    Kind::Seq {
-        times: Times::new(alloc),
-        run: Run::Held(0),
-    }
-}
-
-/// The edit of a line, and of the triangles behind it.
-pub fn edit_of(alloc: Global, form: Form, numbers: &[i32], geom: Geom) -> Edit
-    ensures { result ≡ edit_of form numbers.now geom }
-{
-    let id = id_at(numbers, 0);
-    match form {
-        Form::Group => Edit::Make {
-            id,
-            kind: Kind::Group,
-        },
-        Form::Switch => Edit::Make {
-            id,
-            kind: Kind::Switch(Pick::Off),
-        },
-        Form::Dcs => Edit::Make {
-            id,
-            kind: Kind::Dcs(new_pose()),
-        },
-        Form::Lod => Edit::Make {
-            id,
-            kind: new_lod(alloc),
-        },
-        Form::Seq => Edit::Make {
-            id,
-            kind: new_seq(alloc),
-        },
-        Form::Layer => Edit::Make {
-            id,
-            kind: Kind::Layer,
-        },
-        Form::Scs => Edit::Make {
-            id,
-            kind: Kind::Scs(affine_at(numbers, 1)),
-        },
-        Form::Geode => Edit::Make {
-            id,
-            kind: Kind::Geode {
-                state: id_at(numbers, 1),
-                geom,
-            },
-        },
-        Form::Glass => Edit::Make {
-            id,
-            kind: Kind::Glass {
-                state: id_at(numbers, 1),
-                alpha: byte_at(numbers, 2),
-                geom,
-            },
-        },
-        Form::Verts => Edit::Verts { id, geom },
-        Form::Add => Edit::Add {
-            parent: id,
-            child: id_at(numbers, 1),
-        },
-        Form::Remove => Edit::Remove {
-            parent: id,
-            child: id_at(numbers, 1),
-        },
-        Form::Insert => Edit::Insert {
-            parent: id,
-            place: id_at(numbers, 1),
-            child: id_at(numbers, 2),
-        },
-        Form::Replace => Edit::Replace {
-            parent: id,
-            child: id_at(numbers, 1),
-            by: id_at(numbers, 2),
-        },
-        Form::Delete => Edit::Delete { id },
-        Form::Run => Edit::Run { id },
-        Form::Stop => Edit::Stop { id },
-        Form::SwitchTo => Edit::Pick {
-            id,
-            pick: Pick::One(id_at(numbers, 1)),
-        },
-        Form::SwitchOn => Edit::Pick { id, pick: Pick::On },
-        Form::SwitchOff => Edit::Pick {
-            id,
-            pick: Pick::Off,
-        },
-        Form::Mat => Edit::Mat {
-            id,
-            mat: affine_at(numbers, 1),
-        },
-        Form::Trans => Edit::Trans {
-            id,
-            t: vector_at(numbers, 1),
-        },
-        Form::Centre => Edit::Centre {
-            id,
-            at: vector_at(numbers, 1),
-        },
-        Form::Rot => Edit::Rot {
-            id,
-            h: number(numbers, 1),
-            p: number(numbers, 2),
-            r: number(numbers, 3),
-        },
-        Form::Scale => Edit::Scale {
-            id,
-            s: number(numbers, 1),
-        },
-        Form::Range => Edit::Range {
-            id,
-            place: id_at(numbers, 1),
-            value: count_at(numbers, 2),
-        },
-        Form::Times => Edit::Times {
-            id,
-            place: id_at(numbers, 1),
-            frames: id_at(numbers, 2),
-        },
-    }
-}
-
 /// The step of the application that a line makes; None where it makes none.
 pub fn app_step_of(alloc: Global, command: Command, numbers: &[i32], geom: Geom) -> Option<AppStep>
     ensures { result ≡ app_step_of command numbers.now geom }
@@ -340,14 +190,8 @@ pub fn base_step_of(
         Command::Await => Some(BaseStep::Await(count_at(numbers, 0))),
         Command::Buffer => Some(BaseStep::Buffer),
         Command::Merge => Some(BaseStep::Merge),
-        Command::BufferAdd => Some(BaseStep::Ask(Edit::Add {
-            parent: id_at(numbers, 0),
-            child: id_at(numbers, 1),
-        })),
-        Command::BufferRemove => Some(BaseStep::Ask(Edit::Remove {
-            parent: id_at(numbers, 0),
-            child: id_at(numbers, 1),
-        })),
+        Command::BufferAdd => Some(BaseStep::Ask(add(numbers))),
+        Command::BufferRemove => Some(BaseStep::Ask(remove(numbers))),
         Command::Edit(form) => Some(BaseStep::Edit(edit_of(alloc, form, numbers, geom))),
         _ => None,
     }

@@ -1,8 +1,10 @@
 //! Numbers as a play spells them.
-ghost use Rattle.std.specs.Prelude.{◌≡◌, ◌<◌, ◌==◌, ◌&&◌, not, if◌then◌else◌, min, Some, None, pos, negsuc, slice_index, drop};
-ghost use Rattle.std.specs.List.{list_all};
+ghost use Rattle.std.specs.Prelude.{◌≡◌, ◌<◌, ◌≤◌, ◌==◌, if◌then◌else◌, true, false, min, pos, length, slice_index, MatchResult};
+ghost use Rattle.std.specs.List.{prefix_len, take_while, list_all};
 ghost use Rattle.std.specs.Char.{is_ascii_digit};
 ghost use Rattle.std.specs.Str.Parse.{digits_value};
+ghost use Rattle.play_format.specs.declared.refusal.Why.TheVariants as whys;
+ghost use Rattle.play_format.specs.Words.{front_word, front_len, IsBehind};
 ghost use Rattle.play_format.specs.Numbers.{is_natural, is_number, value_of, number_at, held, minus};
 
 use crate::refusal::Why;
@@ -17,85 +19,100 @@ pub struct Limits {
 /// Above every limit: a magnitude is counted no further.
 const ENOUGH: u64 = 1 << 40;
 
-/// The number that decimal digits write, up to `ENOUGH`; None where a byte is no digit.
-fn magnitude(digits: &[u8]) -> Option<u64>
-    ensures { result ≡ (if list_all is_ascii_digit digits.now then Some (min (digits_value 10 digits.now) 1099511627776) else None) }
+/// The decimal digits at the front of a text: the number that they write, up to `ENOUGH`, and how many they are.
+fn digits(text: &[u8]) -> (u64, usize)
+    ensures value { result.0 ≡ min (digits_value 10 (take_while is_ascii_digit text.now)) 1099511627776 }
+    ensures len { result.1 ≡ prefix_len is_ascii_digit text.now }
+    ensures bound { result.1 ≤ length text.now }
 {
     let mut value = 0;
-    for b in digits {
+    for (len, b) in text.iter().enumerate() {
         if !b.is_ascii_digit() {
-            return None;
+            return (value, len);
         }
         value = (value * 10 + u64::from(*b - b'0')).min(ENOUGH);
     }
-    Some(value)
+    (value, text.len())
 }
 
-/// The same for digits without a 0 in front; None where they are no number.
-fn natural(digits: &[u8]) -> Option<u64>
-    ensures { result ≡ (if is_natural digits.now then Some (min (digits_value 10 digits.now) 1099511627776) else None) }
+/// What is left of a text behind the digits at its front, of which there are `len`, and the space after them, where there
+/// is a space. It is `Err(Why::Number)` where the first word has another byte behind them.
+fn behind(text: &[u8], len: usize) -> Result<Option<&[u8]>, Why>
+    requires digits { len ≡ prefix_len is_ascii_digit text.now }
+    requires bound { len ≤ length text.now }
+    ensures { MatchResult result
+        (λ rest. (front_len text.now ≡ len) × IsBehind text.now rest)
+        (λ why. (why ≡ whys.Number) × (list_all is_ascii_digit (front_word text.now) ≡ false)) }
 {
-    if digits.is_empty() || (begins_with(digits, b'0') && digits.len() != 1) {
-        return None;
+    if len == text.len() {
+        Ok(None)
+    } else if text[len] == b' ' {
+        Ok(Some(&text[len + 1..]))
+    } else {
+        Err(Why::Number)
     }
-    magnitude(digits)
 }
 
-fn begins_with(word: &[u8], b: u8) -> bool
+fn begins_with(text: &[u8], b: u8) -> bool
     requires { 0 < b }
-    ensures { result ≡ (slice_index word.now 0 == b) }
+    ensures { result ≡ (slice_index text.now 0 == b) }
 {
-    match word {
+    match text {
         [] => false,
         [first, ..] => *first == b,
     }
 }
 
-/// The number that a word writes, up to `ENOUGH` in magnitude; None where it writes none.
-fn signed(word: &[u8]) -> Option<i64>
-    ensures { result ≡ (if is_number word.now then Some (held (value_of word.now)) else None) }
+/// The number that the first word of a text writes without a sign, up to `ENOUGH`, and what is left of the text behind the
+/// space after it, where there is a space. It is `Err(Why::Number)` where the word is no such number.
+fn natural(text: &[u8]) -> Result<(u64, Option<&[u8]>), Why>
+    ensures { MatchResult result
+        (λ r. (is_natural (front_word text.now) ≡ true) × (r.0 ≡ min (digits_value 10 (front_word text.now)) 1099511627776) × IsBehind text.now r.1)
+        (λ why. (why ≡ whys.Number) × (is_natural (front_word text.now) ≡ false)) }
 {
-    if begins_with(word, b'-') {
-        negative(&word[1..])
-    } else {
-        positive(word)
-    }
-}
-
-/// The number of digits without a sign.
-fn positive(digits: &[u8]) -> Option<i64>
-    ensures { result ≡ (if is_natural digits.now then Some (held (pos (digits_value 10 digits.now))) else None) }
-{
-    match natural(digits) {
-        None => None,
-        Some(n) => Some(n as i64),
-    }
-}
-
-/// The number of digits behind a `-`.
-fn negative(digits: &[u8]) -> Option<i64>
-    ensures { result ≡ (if not (slice_index digits.now 0 == 48) && is_natural digits.now then Some (held (minus (digits_value 10 digits.now))) else None) }
-{
-    if begins_with(digits, b'0') {
-        return None;
-    }
-    match natural(digits) {
-        None => None,
-        Some(n) => Some(-(n as i64)),
-    }
-}
-
-/// The number of a word. It is `Err(Why::Number)` where the word is no number, of whatever length, and else
-/// `Err(Why::Range)` where the number is outside the limits.
-#[tactic(auto, unfolding(crate::specs::Numbers::number_at))]
-pub fn number(word: &[u8], limits: Limits) -> Result<i32, Why>
-    ensures { result ≡ number_at limits word.now }
-{
-    let Some(value) = signed(word) else {
+    let (value, len) = digits(text);
+    let rest = behind(text, len)?;
+    if len == 0 || (len != 1 && begins_with(text, b'0')) {
         return Err(Why::Number);
-    };
+    }
+    Ok((value, rest))
+}
+
+/// A number with its sign.
+fn with_sign(is_negative: bool, n: u64) -> i64
+    requires { n ≤ 1099511627776 }
+    ensures { result ≡ (if is_negative then minus n else pos n) }
+{
+    if is_negative { -(n as i64) } else { n as i64 }
+}
+
+/// The number that the first word of a text writes, up to `ENOUGH` in magnitude, and what is left of the text behind the
+/// space after it, where there is a space. It is `Err(Why::Number)` where the word is no number.
+fn signed(text: &[u8]) -> Result<(i64, Option<&[u8]>), Why>
+    ensures { MatchResult result
+        (λ r. (is_number (front_word text.now) ≡ true) × (r.0 ≡ held (value_of (front_word text.now))) × IsBehind text.now r.1)
+        (λ why. (why ≡ whys.Number) × (is_number (front_word text.now) ≡ false)) }
+{
+    let is_negative = begins_with(text, b'-');
+    let magnitude = &text[usize::from(is_negative)..];
+    if is_negative && begins_with(magnitude, b'0') {
+        return Err(Why::Number);
+    }
+    let (n, rest) = natural(magnitude)?;
+    Ok((with_sign(is_negative, n), rest))
+}
+
+/// The number that the first word of a line writes, and what is left of the line behind the space after it, where there is
+/// a space. It is `Err(Why::Number)` where the word is no number, of whatever length, and else `Err(Why::Range)` where the
+/// number is outside the limits.
+pub fn number(line: &[u8], limits: Limits) -> Result<(i32, Option<&[u8]>), Why>
+    ensures { MatchResult result
+        (λ r. (number_at limits (front_word line.now) ≡ Ok r.0) × IsBehind line.now r.1)
+        (λ why. number_at limits (front_word line.now) ≡ Err why) }
+{
+    let (value, rest) = signed(line)?;
     if value < i64::from(limits.low) || i64::from(limits.high) < value {
         return Err(Why::Range);
     }
-    Ok(value as i32)
+    Ok((value as i32, rest))
 }

@@ -48,8 +48,9 @@ pub fn parse(alloc: Global, bytes: &[u8]) -> Result<Play, ParseError>
     read_play(alloc, bytes)
 }
 
-/// A text spells at most one play, and a text that spells one has no wrong line.
+/// A text spells at most one play, and it spells one exactly where it has no wrong line.
 pub fn one_reading()
     ensures one { (text : List ℕ) (p q : Script) → Reads text p → Reads text q → p ≡ q }
     ensures none_wrong { (text : List ℕ) → HasReading text → first_refusal text ≡ None }
+    ensures some_play { (text : List ℕ) → first_refusal text ≡ None → HasReading text }
 {}

@@ -1,5 +1,5 @@
 //! One line of a play: its command and its numbers, or the first cause against it.
-ghost use Rattle.std.specs.Prelude.{◌≡◌, ◌≤◌, ◌&&◌, Ok, MatchResult, length, codes};
+ghost use Rattle.std.specs.Prelude.{◌≡◌, ◌≤◌, ◌+◌, ◌&&◌, Ok, IfOk, MatchResult, length, drop, codes};
 ghost use Rattle.std.specs.List.{find};
 ghost use Rattle.std.specs.Option.{option_map};
 ghost use Rattle.std.specs.Str.{bytes_eq};
@@ -68,13 +68,14 @@ fn words_in(channels: u8, command: Command) -> usize
     1 + command.limits(channels).len() + command.tail_len()
 }
 
-/// Reads the numbers of a line, in place of what `numbers` holds.
-fn read_numbers(
+/// Reads as many numbers as there are limits, in place of what `numbers` holds, and returns what is left of the line.
+fn read_numbers<'a>(
     numbers: &mut Vec<i32>,
-    rest: Option<&[u8]>,
+    rest: Option<&'a [u8]>,
     limits: &[Limits],
-) -> Result<(), LineError>
-    ensures { MatchResult result (λ _. numbers_at limits.now (left_words rest.entry) ≡ Ok numbers.new.items) (λ e. Fails e (numbers_at limits.now (left_words rest.entry))) }
+) -> Result<Option<&'a [u8]>, LineError>
+    ensures read { MatchResult result (λ _. numbers_at limits.now (left_words rest.entry) ≡ Ok numbers.new.items) (λ e. Fails e (numbers_at limits.now (left_words rest.entry))) }
+    ensures left { IfOk result (λ left. length limits.now + length (left_words left) ≡ length (left_words rest.entry)) }
 {
     numbers.clear();
     let mut left = rest;
@@ -82,11 +83,52 @@ fn read_numbers(
         let Some(line) = left else {
             return Err(LineError::Wrong(Why::Fields));
         };
-        let (word, after) = first_word(line);
-        numbers.push(number(word, *limit)?)?;
+        let (value, after) = number(line, *limit)?;
+        numbers.push(value)?;
         left = after;
     }
-    Ok(())
+    Ok(left)
+}
+
+/// The number of words of what is left of a line, where anything is left.
+fn left_count(left: Option<&[u8]>) -> usize
+    ensures { result ≡ length (left_words left.entry) }
+{
+    match left {
+        None => 0,
+        Some(text) => word_count(text),
+    }
+}
+
+/// Reads the numbers of a line with this command, in place of what `numbers` holds; `rest` stands behind its first word.
+fn read_fields(
+    numbers: &mut Vec<i32>,
+    spot: Spot,
+    command: Command,
+    line: &[u8],
+    rest: Option<&[u8]>,
+) -> Result<(), LineError>
+    requires spot { IsSound spot }
+    requires rest { drop 1 (words line.now) ≡ left_words rest }
+    ensures { MatchResult result (λ _. fields_at spot command (words line.now) ≡ Ok numbers.new.items) (λ e. Fails e (fields_at spot command (words line.now))) }
+{
+    match read_numbers(numbers, rest, command.limits(spot.channels)) {
+        Ok(left) => {
+            if left_count(left) == command.tail_len() {
+                Ok(())
+            } else {
+                Err(LineError::Wrong(Why::Fields))
+            }
+        }
+        Err(LineError::Wrong(why)) => {
+            if word_count(line) == words_in(spot.channels, command) {
+                Err(LineError::Wrong(why))
+            } else {
+                Err(LineError::Wrong(Why::Fields))
+            }
+        }
+        Err(LineError::NoMemory) => Err(LineError::NoMemory),
+    }
 }
 
 /// Reads a line: its command, and its numbers in place of what `numbers` holds.
@@ -100,10 +142,7 @@ pub fn read_line(numbers: &mut Vec<i32>, spot: Spot, line: &[u8]) -> Result<Comm
         return Err(LineError::Wrong(Why::Command));
     };
     let command = picked(rest, command);
-    if word_count(line) != words_in(spot.channels, command) {
-        return Err(LineError::Wrong(Why::Fields));
-    }
-    read_numbers(numbers, rest, command.limits(spot.channels))?;
+    read_fields(numbers, spot, command, line, rest)?;
     if !is_ordered(command, numbers) {
         return Err(LineError::Wrong(Why::Range));
     }

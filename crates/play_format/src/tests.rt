@@ -104,32 +104,30 @@ fn check(
     Ok(())
 }
 
-#[test]
-fn each_cause_at_each_kind_of_line(rt: HostRuntime) -> Result<(), Fail> {
-    let alloc = rt.alloc();
-    check(&rt, alloc, "perfly 1\n", 2, "size 2 2")?;
-    check(&rt, alloc, "perfly 1\nsize 2 2\n", 3, "lens 1 1 9")?;
-    check(
-        &rt,
-        alloc,
-        "perfly 1\nsize 2 2\nlens 1 1 9\n",
-        4,
-        "back 1 2 3",
-    )?;
-    check(
-        &rt,
-        alloc,
+/// The lines of a header, each with its number and with what stands before it.
+static HEADER_LINES: [(&str, u32, &str); 5] = [
+    ("perfly 1\n", 2, "size 2 2"),
+    ("perfly 1\nsize 2 2\n", 3, "lens 1 1 9"),
+    ("perfly 1\nsize 2 2\nlens 1 1 9\n", 4, "back 1 2 3"),
+    ("perfly 1\nsize 2 2\nlens 1 1 9\nback 1 2 3\n", 5, "app"),
+    (
         "perfly 2\nsize 2 2\nlens 1 1 9\nback 1 2 3\n",
         5,
         "channels 2",
-    )?;
-    check(
-        &rt,
-        alloc,
-        "perfly 1\nsize 2 2\nlens 1 1 9\nback 1 2 3\n",
-        5,
-        "app",
-    )?;
+    ),
+];
+
+#[test]
+fn each_cause_at_each_line_of_a_header(rt: HostRuntime) -> Result<(), Fail> {
+    for (opening, number, line) in &HEADER_LINES {
+        check(&rt, rt.alloc(), opening, *number, line)?;
+    }
+    Ok(())
+}
+
+#[test]
+fn each_cause_at_each_kind_of_line(rt: HostRuntime) -> Result<(), Fail> {
+    let alloc = rt.alloc();
     for line in &APP_LINES {
         check(&rt, alloc, FIRST, 6, line)?;
     }
@@ -156,73 +154,54 @@ fn each_cause_at_each_kind_of_line(rt: HostRuntime) -> Result<(), Fail> {
     Ok(())
 }
 
-fn expect(
-    rt: &impl Abort,
-    alloc: Global,
-    opening: &str,
-    rest: &str,
-    line: u32,
-    why: Why,
-) -> Result<(), Fail> {
-    assert_eq!(rt;
-        refused(alloc, opening, rest)?,
-        Some(Refusal { line, why }),
-        "{rest}"
-    );
-    Ok(())
-}
-
-#[test]
-fn other_refusals(rt: HostRuntime) -> Result<(), Fail> {
-    let alloc = rt.alloc();
-    expect(&rt, alloc, "", "", 1, Why::Count)?;
-    expect(&rt, alloc, "", "perfly 1", 1, Why::Length)?;
-    expect(&rt, alloc, "", "perfly 3 x\n", 1, Why::Version)?;
-    expect(
-        &rt,
-        alloc,
-        "perfly 1\nsize 2 2\n",
-        "lens 1 5 4\n",
-        3,
-        Why::Range,
-    )?;
-    expect(&rt, alloc, "perfly 1\nsize 2 2\n", "", 3, Why::Count)?;
-    expect(
-        &rt,
-        alloc,
+/// Texts in two parts, with the refusal that each meets.
+static OTHERS: [(&str, &str, u32, Why); 27] = [
+    ("", "", 1, Why::Count),
+    ("", "perfly 1", 1, Why::Length),
+    ("", "perfly 3 x\n", 1, Why::Version),
+    ("perfly 1\nsize 2 2\n", "lens 1 5 4\n", 3, Why::Range),
+    ("perfly 1\nsize 2 2\n", "", 3, Why::Count),
+    (
         "perfly 1\nsize 2 2\nlens 1 1 9\nback 1 2 3\n",
         "channels 2\n",
         5,
         Why::Command,
-    )?;
-    expect(&rt, alloc, FIRST, "glass 1 0 0 0\n", 6, Why::Command)?;
-    expect(&rt, alloc, FIRST, "cview 1 0 0 0 0 0 0\n", 6, Why::Command)?;
-    expect(&rt, alloc, SECOND, "glass 1 0 256 0\n", 7, Why::Range)?;
-    expect(&rt, alloc, SECOND, "cview 0 0 0 0 0 0 0\n", 7, Why::Range)?;
-    expect(&rt, alloc, SECOND, "cview 2 0 0 0 0 0 0\n", 7, Why::Range)?;
-    expect(&rt, alloc, FIRST, "group 007\n", 6, Why::Number)?;
-    expect(&rt, alloc, FIRST, "group -0\n", 6, Why::Number)?;
-    expect(&rt, alloc, FIRST, "group 1\r\n", 6, Why::Number)?;
-    expect(&rt, alloc, FIRST, "group 0\n", 6, Why::Range)?;
-    expect(&rt, alloc, FIRST, "add 0  1\n", 6, Why::Fields)?;
-    expect(&rt, alloc, FIRST, "insert 0 256 x\n", 6, Why::Range)?;
-    expect(&rt, alloc, FIRST, "insert x 256 0\n", 6, Why::Number)?;
-    expect(&rt, alloc, FIRST, "\n", 6, Why::Command)?;
-    expect(&rt, alloc, FIRST, "merge\n", 6, Why::Command)?;
-    expect(&rt, alloc, FIRST, "geode 1 0 1\nframe\n", 7, Why::Command)?;
-    expect(
-        &rt,
-        alloc,
-        FIRST,
-        "geode 1 0 1\nt -40960 4096",
-        7,
-        Why::Length,
-    )?;
-    expect(&rt, alloc, FIRST, "geode 1 0 4096\n", 7, Why::Count)?;
-    expect(&rt, alloc, FIRST, "dbase\nbuffer\n", 8, Why::Count)?;
-    expect(&rt, alloc, FIRST, "dbase\ndbase\n", 7, Why::Command)?;
-    expect(&rt, alloc, FIRST, "dbase\nframe\n", 7, Why::Command)?;
-    expect(&rt, alloc, FIRST, "frame\nfra", 7, Why::Length)?;
+    ),
+    (FIRST, "glass 1 0 0 0\n", 6, Why::Command),
+    (FIRST, "cview 1 0 0 0 0 0 0\n", 6, Why::Command),
+    (SECOND, "glass 1 0 256 0\n", 7, Why::Range),
+    (SECOND, "cview 0 0 0 0 0 0 0\n", 7, Why::Range),
+    (SECOND, "cview 2 0 0 0 0 0 0\n", 7, Why::Range),
+    (FIRST, "group 007\n", 6, Why::Number),
+    (FIRST, "group -0\n", 6, Why::Number),
+    (FIRST, "group 1\r\n", 6, Why::Number),
+    (FIRST, "group 0\n", 6, Why::Range),
+    (FIRST, "add 0  1\n", 6, Why::Fields),
+    (FIRST, "insert 0 256 x\n", 6, Why::Range),
+    (FIRST, "insert x 256 0\n", 6, Why::Number),
+    (FIRST, "\n", 6, Why::Command),
+    (FIRST, "merge\n", 6, Why::Command),
+    (FIRST, "geode 1 0 1\nframe\n", 7, Why::Command),
+    (FIRST, "geode 1 0 1\nt -40960 4096", 7, Why::Length),
+    (FIRST, "geode 1 0 4096\n", 7, Why::Count),
+    (FIRST, "dbase\nbuffer\n", 8, Why::Count),
+    (FIRST, "dbase\ndbase\n", 7, Why::Command),
+    (FIRST, "dbase\nframe\n", 7, Why::Command),
+    (FIRST, "frame\nfra", 7, Why::Length),
+];
+
+#[test]
+fn other_refusals(rt: HostRuntime) -> Result<(), Fail> {
+    for (opening, rest, line, why) in &OTHERS {
+        assert_eq!(rt;
+            refused(rt.alloc(), opening, rest)?,
+            Some(Refusal {
+                line: *line,
+                why: *why
+            }),
+            "{rest}"
+        );
+    }
     Ok(())
 }
 
@@ -239,6 +218,44 @@ fn is_point(v: &Vec3, x: i32, y: i32, z: i32) -> bool {
     v.x == x && v.y == y && v.z == z
 }
 
+/// The steps of that play which carry triangles, and the view of channel 1.
+fn check_step(rt: &impl Abort, at: &AppLine) {
+    match (at.line, &at.step) {
+        (
+            14,
+            AppStep::Edit(
+                Edit::Make {
+                    id,
+                    kind: Kind::Geode { state, geom },
+                },
+            ),
+        ) => {
+            assert!(rt; *id == 8 && *state == 4 && geom.len() == 1);
+            for tri in geom.as_slice() {
+                assert!(rt; tri.v.iter().any(|v| is_point(v, -13, -14, -15)));
+                assert_eq!(rt; tri.c, [[4, 5, 6], [10, 11, 12], [16, 17, 18]]);
+            }
+        }
+        (
+            16,
+            AppStep::Edit(
+                Edit::Make {
+                    kind: Kind::Glass { alpha, .. },
+                    ..
+                },
+            ),
+        ) => {
+            assert_eq!(rt; *alpha, 128);
+        }
+        (17, AppStep::Edit(Edit::Verts { id, geom })) => assert!(rt; *id == 8 && geom.len() == 1),
+        (37, AppStep::View(channel, view)) => assert!(rt; *channel == 1 && view.h == 1800),
+        (line, step) => assert!(rt;
+            line != 14 && line != 16 && line != 17 && line != 37,
+            "{step:?}"
+        ),
+    }
+}
+
 #[test]
 fn a_play_with_each_form(rt: HostRuntime) -> Result<(), Fail> {
     let play = parse(rt.alloc(), EACH_FORM).ok().ok_or("it is a play")?;
@@ -251,42 +268,7 @@ fn a_play_with_each_form(rt: HostRuntime) -> Result<(), Fail> {
     assert_eq!(rt; play.dbase().len(), 6);
     let (app, dbase) = play.into_lists();
     for at in &app {
-        match (at.line, &at.step) {
-            (
-                14,
-                AppStep::Edit(
-                    Edit::Make {
-                        id,
-                        kind: Kind::Geode { state, geom },
-                    },
-                ),
-            ) => {
-                assert!(rt; *id == 8 && *state == 4 && geom.len() == 1);
-                for tri in geom.as_slice() {
-                    assert!(rt; tri.v.iter().any(|v| is_point(v, -13, -14, -15)));
-                    assert_eq!(rt; tri.c, [[4, 5, 6], [10, 11, 12], [16, 17, 18]]);
-                }
-            }
-            (
-                16,
-                AppStep::Edit(
-                    Edit::Make {
-                        kind: Kind::Glass { alpha, .. },
-                        ..
-                    },
-                ),
-            ) => {
-                assert_eq!(rt; *alpha, 128);
-            }
-            (17, AppStep::Edit(Edit::Verts { id, geom })) => assert!(rt;
-                *id == 8 && geom.len() == 1
-            ),
-            (37, AppStep::View(channel, view)) => assert!(rt; *channel == 1 && view.h == 1800),
-            (line, step) => assert!(rt;
-                line != 14 && line != 16 && line != 17 && line != 37,
-                "{step:?}"
-            ),
-        }
+        check_step(&rt, at);
     }
     assert_eq!(rt; dbase.first().map(|at| at.line), Some(42));
     assert_eq!(rt; dbase.last().map(|at| at.line), Some(47));
