@@ -7,6 +7,5 @@ pub mod DrawnWalk
 pub mod Ordered
 pub mod PlacesShown
 pub mod Seen
-pub mod Unseen
 pub mod Walked
 pub mod Zipped

@@ -2,7 +2,6 @@ pub mod Drawings
 pub mod Eye
 pub mod Fragments
 pub mod Instances
-pub mod LeftOut
 pub mod Panes
 pub mod Places
 pub mod Rows

@@ -6,7 +6,6 @@ mod drawings;
 mod eye;
 mod fragments;
 pub mod instances;
-pub mod laws;
 mod leaves;
 mod numbers;
 mod pane;

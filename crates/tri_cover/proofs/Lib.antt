@@ -6,3 +6,4 @@ pub mod Signs
 pub mod Sorts
 pub mod Stepped
 pub mod Weights
+pub mod Unseen

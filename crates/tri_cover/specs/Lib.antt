@@ -2,6 +2,7 @@ pub mod EdgeValues
 pub mod Glass
 pub mod Hits
 pub mod Judged
+pub mod LeftOut
 pub mod Orders
 pub mod Picture
 pub mod Sorting

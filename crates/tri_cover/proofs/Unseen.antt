@@ -17,7 +17,7 @@ use Rattle.tri_cover.specs.Sorting.{put_in, sorted}
 use Rattle.tri_cover.specs.Picture.{Fragment, nearer, glazed, fragment_of, fragment_at, fragments, ground, glazed_by, picture}
 use Rattle.tri_cover.proofs.GlassOrder.{drawn_in_order}
 use Rattle.tri_cover.proofs.Sorts.{NoneBefore, Rises, rises_one, rises_sorted, filter-sorted}
-use Rattle.pf_picture.specs.LeftOut.{HitsNothing, LeavesOutNoHit, IsSamePixel}
+use Rattle.tri_cover.specs.LeftOut.{HitsNothing, LeavesOutNoHit, IsSamePixel}
 
 -- ---- what hits nothing has no fragments
 none_from : (lens : Lens) (px py : ℕ) (x : Instance) (n : ℕ) (ts : List Tri) → All (λ t. hit lens px py x.steps t ≡ None) ts → filter_map (fragment_at lens px py x) (enumerate_from n ts) ≡ []

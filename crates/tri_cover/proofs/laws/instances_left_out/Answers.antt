@@ -1,5 +1,5 @@
-use Rattle.pf_picture.proofs.Unseen.{same_pixel}
-use Rattle.pf_picture.proofs.laws.instances_left_out.Goals as goal
+use Rattle.tri_cover.proofs.Unseen.{same_pixel}
+use Rattle.tri_cover.proofs.laws.instances_left_out.Goals as goal
 
 pub returns : goal.returns
 returns c = record {
