@@ -17,9 +17,9 @@ returns c =
     let g = c.args.graph.now in
     let colour = picture lens c.args.back (instances (node_at g.nodes) g.time opening_view) in
     let shown : Shows image colour = λ px py in_width in_height.
-        c.in_ok-image.ensures.pixels px py in_width in_height
-        ∙ ap (λ (t : ℕ). picture lens c.args.back (instances (node_at g.nodes) t c.opening_view.result) px py) c.time.ensures
-        ∙ ap (λ (v : Viewpoint). picture lens c.args.back (instances (node_at g.nodes) g.time v) px py) c.opening_view.ensures in
+    c.in_ok-image.ensures.pixels px py in_width in_height
+    ∙ ap (λ (t : ℕ). picture lens c.args.back (instances (node_at g.nodes) t c.opening_view.result) px py) c.time.ensures
+    ∙ ap (λ (v : Viewpoint). picture lens c.args.back (instances (node_at g.nodes) g.time v) px py) c.opening_view.ensures in
     c.in_ok-append_ppm.ensures.ok ∙ ap (λ (bs : List ℕ). bs ++ ppm_bytes image) c.new-bytes.ensures.items
     ∙ ppm_bytes-shown image colour shown
     ∙ ap (λ (w : ℕ). picture_bytes w image.height colour) c.in_ok-image.ensures.width
