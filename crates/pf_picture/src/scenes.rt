@@ -2,7 +2,7 @@
 use crate::draw_plain;
 use crate::tests::{BACK, facing, point};
 use fx_math::{Lens, MAX_COORDINATE, Vec3};
-use pf_model::{Edit, EditError, Euler, Geom, Graph, Kind, Pose, Ranges, Tri, View};
+use pf_model::{Edit, EditError, Euler, Fault, Geom, Graph, Kind, Pose, Ranges, Tri, View};
 use ppm_out::Image;
 use std::alloc::Global;
 use std::process::Abort;
@@ -137,6 +137,28 @@ fn shaded_triangle(rt: HostRuntime) -> Result<(), Fail> {
     Ok(())
 }
 
+/// A triangle from an x on, one unit away and to the right, shows nothing.
+fn beside_the_picture(rt: &impl Abort, alloc: Global, x: i32) -> Result<(), Fail> {
+    let mut scene = Graph::new(alloc)?;
+    let grey = Tri {
+        v: [
+            point(x, 4096, 0)?,
+            point(8192, 4096, -1000)?,
+            point(8192, 4096, 1000)?,
+        ],
+        c: [[9, 9, 9]; 3],
+    };
+    let grey = geode(alloc, 0, grey)?;
+    put(rt, &mut scene, 0, 1, grey)?;
+    shows(rt, alloc, &scene, BACK)
+}
+
+#[test]
+fn box_at_the_edge_of_the_frustum(rt: HostRuntime) -> Result<(), Fail> {
+    beside_the_picture(&rt, rt.alloc(), 2048)?;
+    beside_the_picture(&rt, rt.alloc(), 2049)
+}
+
 #[test]
 fn equal_depth_in_two_states(rt: HostRuntime) -> Result<(), Fail> {
     let mut scene = Graph::new(rt.alloc())?;
@@ -156,6 +178,67 @@ fn unmoved() -> Kind {
         r: 0,
         t: Vec3::ORIGIN,
     }))
+}
+
+fn add(rt: &impl Abort, scene: &mut Graph, parent: u16, child: u16) -> Result<(), EditError> {
+    edit(rt, scene, &Edit::Add { parent, child })
+}
+
+#[test]
+fn two_parents_and_a_cycle(rt: HostRuntime) -> Result<(), Fail> {
+    let mut scene = Graph::new(rt.alloc())?;
+    let red = geode(rt.alloc(), 0, facing(4096, RED)?)?;
+    let back = Edit::Trans {
+        id: 2,
+        t: point(0, 4096, 0)?,
+    };
+    put(&rt, &mut scene, 0, 1, unmoved())?;
+    put(&rt, &mut scene, 0, 2, unmoved())?;
+    put(&rt, &mut scene, 1, 3, red)?;
+    add(&rt, &mut scene, 2, 3)?;
+    edit(&rt, &mut scene, &back)?;
+    let group = Edit::Make {
+        id: 4,
+        kind: Kind::Group,
+    };
+    edit(&rt, &mut scene, &group)?;
+    add(&rt, &mut scene, 4, 1)?;
+    let refused = Err(EditError::Fault(Fault::Cycle(1, 4)));
+    assert_eq!(rt; add(&rt, &mut scene, 1, 4), refused);
+    shows(&rt, rt.alloc(), &scene, RED)
+}
+
+/// Takes a node out of the children of the scene, and deletes it.
+fn take_out(rt: &impl Abort, scene: &mut Graph, id: u16) -> Result<(), EditError> {
+    let taken = Edit::Remove {
+        parent: 0,
+        child: id,
+    };
+    edit(rt, scene, &taken)?;
+    edit(rt, scene, &Edit::Delete { id })
+}
+
+#[test]
+fn delete_in_use(rt: HostRuntime) -> Result<(), Fail> {
+    let mut scene = Graph::new(rt.alloc())?;
+    let geom = Geom::new(Vec::new(rt.alloc()))?;
+    put(&rt, &mut scene, 0, 1, Kind::Geode { state: 0, geom })?;
+    shows(&rt, rt.alloc(), &scene, BACK)?;
+    let refused = Err(EditError::Fault(Fault::InUse(1)));
+    assert_eq!(rt; edit(&rt, &mut scene, &Edit::Delete { id: 1 }), refused);
+    take_out(&rt, &mut scene, 1)?;
+    shows(&rt, rt.alloc(), &scene, BACK)
+}
+
+#[test]
+fn id_used_again(rt: HostRuntime) -> Result<(), Fail> {
+    let mut scene = Graph::new(rt.alloc())?;
+    let red = geode(rt.alloc(), 0, facing(4096, RED)?)?;
+    put(&rt, &mut scene, 0, 5, red)?;
+    shows(&rt, rt.alloc(), &scene, RED)?;
+    take_out(&rt, &mut scene, 5)?;
+    put(&rt, &mut scene, 0, 5, Kind::Group)?;
+    shows(&rt, rt.alloc(), &scene, BACK)
 }
 
 #[test]
