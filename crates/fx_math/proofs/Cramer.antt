@@ -7,7 +7,7 @@ use lib.IntN.{*ℤ-zero, zero-*ℤ}
 use Rattle.fx_math.specs.Plain.{Point}
 use Rattle.fx_math.specs.declared.lenses.Lens.{Lens}
 use Rattle.fx_math.specs.Hit.{ray, det3, Edges, edges, sum_of, is_inside}
-use Rattle.fx_math.specs.Laws.{weighed, scaled}
+use Rattle.fx_math.specs.Laws.{side, weighed, scaled}
 use Rattle.fx_math.proofs.Same.{point_same}
 use Rattle.fx_math.proofs.Ring.{expand, linear, order, times_lt, neg-mul}
 
@@ -27,6 +27,11 @@ cramer_z d u v w = simp expand (omega (arith, linear))
 pub cramer : (d u v w : Point) → weighed (edges d u v w) u v w ≡ scaled (det3 u v w) d
 unfolding edges
 cramer d u v w = point_same (scaled (det3 u v w) d) _ _ _ (cramer_x d u v w) (cramer_y d u v w) (cramer_z d u v w)
+
+-- the sum of the edge values is the determinant of the direction and two sides
+pub sum_parallel : (d u v w : Point) → sum_of (edges d u v w) ≡ det3 d (side u v) (side u w)
+unfolding det3 edges
+sum_parallel d u v w = simp expand (omega (arith, linear))
 
 -- the two ways to be inside: the determinant is above 0 and no edge value below it, or the other way round
 pub record IsFront (volume : ℤ) (e : Edges) : Type 0 where

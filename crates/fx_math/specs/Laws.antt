@@ -1,5 +1,5 @@
--- What the laws of quotients, edge values and hulls say.
-use Rattle.std.specs.Prelude.{ℤ, pos, negsuc, ◌+ℤ◌, ◌*ℤ◌, ◌≤ℤ◌}
+-- What the laws of quotients and edge values say.
+use Rattle.std.specs.Prelude.{ℤ, pos, negsuc, ◌+ℤ◌, ◌-ℤ◌, ◌*ℤ◌, ◌≤ℤ◌}
 use Rattle.fx_math.specs.Plain.{Point, point}
 use Rattle.fx_math.specs.Hit.{Edges}
 
@@ -12,6 +12,10 @@ IsAtMostQuotient n (negsuc d) z = n ≤ℤ (negsuc d *ℤ z)
 pub record IsFloor (n d q : ℤ) : Type 0 where
   pub at_most : IsAtMostQuotient n d q
   pub greatest : (z : ℤ) → IsAtMostQuotient n d z → z ≤ℤ q
+
+-- the side from p to q
+abbrev pub side : Point → Point → Point
+side p q = point (q.x -ℤ p.x) (q.y -ℤ p.y) (q.z -ℤ p.z)
 
 -- a point times a number
 abbrev pub scaled : ℤ → Point → Point

@@ -25,23 +25,26 @@ size_limit = 2 ^ 10
 abbrev pub focus_limit : ℕ
 focus_limit = 2 ^ 16 - 1
 
--- the greatest magnitude of a product of a coordinate and an entry, and of the sum of three
+-- the greatest magnitude of a product of a coordinate and an entry
 abbrev pub product_limit : ℕ
 product_limit = coordinate_limit * entry_limit
 
+-- and of the sum of three such products
 abbrev pub dot_limit : ℕ
 dot_limit = 3 * product_limit
 
--- the greatest magnitude of a number in the rows of a determinant, of a difference of two products of such numbers, of the
--- product of that with a third, and of the determinant
+-- the greatest magnitude of a number in the rows of a determinant
 abbrev pub row_limit : ℕ
 row_limit = 2 ^ 31
 
+-- of a difference of two products of such numbers
 abbrev pub minor_limit : ℕ
 minor_limit = 2 * row_limit ^ 2
 
+-- of the product of that difference with a third number
 abbrev pub term_limit : ℕ
 term_limit = 2 * row_limit ^ 3
 
+-- and of the determinant
 abbrev pub det_limit : ℕ
 det_limit = 6 * row_limit ^ 3

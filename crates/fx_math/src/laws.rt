@@ -6,7 +6,7 @@ ghost use Rattle.fx_math.specs.Constants.{origin_vector, identity_step};
 ghost use Rattle.fx_math.specs.Fixed.{apply, carry, carry_box};
 ghost use Rattle.fx_math.specs.Steps.{origin, identity, view_steps};
 ghost use Rattle.fx_math.specs.Hit.{det3, ray, edges, sum_of, is_inside};
-ghost use Rattle.fx_math.specs.Laws.{weighed, scaled};
+ghost use Rattle.fx_math.specs.Laws.{side, weighed, scaled};
 ghost use Rattle.fx_math.specs.declared.vectors.Vec3.{Vec3};
 ghost use Rattle.fx_math.specs.declared.lenses.Lens.{Lens};
 
@@ -43,9 +43,25 @@ pub fn steps_keep_boxes()
 {}
 
 /// Cramer's rule: the vertices, each times its edge value, add up to the direction times the determinant of the vertices.
-/// Where a pixel is inside a triangle, the sum of the edge values is not 0, so that its depth has a divisor.
+/// The sum of the edge values is the determinant of the direction and two sides, which is 0 where the direction is parallel
+/// to the triangle's plane. Where a pixel is inside the triangle, the sum is not 0, so that the depth has a divisor.
 pub fn edge_values_weigh_vertices()
     ensures cramer { (d u v w : Point) → weighed (edges d u v w) u v w ≡ scaled (det3 u v w) d }
-    ensures sum { (lens : Lens) → (px py : ℕ) → (u v w : Point)
+    ensures parallel { (d u v w : Point) → sum_of (edges d u v w) ≡ det3 d (side u v) (side u w) }
+    ensures inside { (lens : Lens) → (px py : ℕ) → (u v w : Point)
         → is_inside (det3 u v w) (edges (ray lens px py) u v w) ≡ true → sum_of (edges (ray lens px py) u v w) ≢ pos 0 }
 {}
+
+#[cfg(test)]
+mod tests {
+    use super::*;
+
+    #[test]
+    fn constants(rt: HostRuntime) {
+        let zero = origin();
+        assert_eq!(rt; (zero.x, zero.y, zero.z), (0, 0, 0));
+        let unit = identity();
+        assert_eq!(rt; unit.a, [[65_536, 0, 0], [0, 65_536, 0], [0, 0, 65_536]]);
+        assert_eq!(rt; unit.t, zero);
+    }
+}
