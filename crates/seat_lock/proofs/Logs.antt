@@ -37,16 +37,10 @@ module _ {E : Type 0} where
   of-append k [] ys = refl
   of-append k (x ∷ xs) ys = joined (eqb x.0 k) x.1 (of k xs) (of k ys) (of k (xs ++ ys)) (of-append k xs ys)
 
-  pub of_same : (k : ℕ) (e : E) → of k ((k, e) ∷ []) ≡ e ∷ []
-  of_same k e = ap (λ b. cond b (e ∷ []) []) (eq-eqb k k refl)
-
   pub of_other : (k j : ℕ) (e : E) → j ≢ k → of k ((j, e) ∷ []) ≡ []
   of_other k j e n = ap (λ b. cond b (e ∷ []) []) (ne_eqb j k n)
 
-  -- the log and one entry more
-  pub of_more : (k : ℕ) (xs : List (ℕ × E)) (e : E) → of k (xs ++ (k, e) ∷ []) ≡ of k xs ++ e ∷ []
-  of_more k xs e = of-append k xs ((k, e) ∷ []) ∙ ap (λ w. of k xs ++ w) (of_same k e)
-
+  -- an entry of another number more
   pub of_kept : (k j : ℕ) (xs : List (ℕ × E)) (e : E) → j ≢ k → of k (xs ++ (j, e) ∷ []) ≡ of k xs
   of_kept k j xs e n = of-append k xs ((j, e) ∷ []) ∙ (ap (λ w. of k xs ++ w) (of_other k j e n) ∙ append-nil (of k xs))
 
