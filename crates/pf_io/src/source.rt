@@ -26,8 +26,11 @@ pub trait Source {
         ensures cause { HasCause (faults self.old) (faults self.new) result };
 }
 
-/// The most bytes that [`read_all`] takes.
-pub const READ_LIMIT: usize = 16_777_217;
+/// The most bytes that a play has.
+pub const MAX_PLAY_BYTES: usize = 16_777_216;
+
+/// The most bytes that [`read_all`] takes: one more than the greatest play, so that a longer one is told from it.
+pub const READ_LIMIT: usize = MAX_PLAY_BYTES + 1;
 
 const PIECE: usize = 8192;
 
