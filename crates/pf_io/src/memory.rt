@@ -9,8 +9,8 @@ use crate::{Failed, NoMemory, Sink, Source};
 use std::alloc::Global;
 use std::marker::Model;
 
-/// A source over bytes in memory. A read that begins at a listed place fails, once for each entry of it, and a read that would cross
-/// one stops there.
+/// A source over bytes in memory. A read that begins at a listed place fails, once for each entry of it, and a read that
+/// would cross one stops there.
 #[derive(Drop)]
 pub struct MemSource {
     bytes: Vec<u8>,
@@ -68,9 +68,9 @@ impl Source for MemSource {
     }
 }
 
-/// A sink that keeps the bytes in memory. A write that begins at a listed place fails, once for each entry of it, and a write that
-/// would cross one stops there; a flush counts as a call that begins where the sink stands. A write fails where the
-/// room is full.
+/// A sink that keeps the bytes in memory. A write that begins at a listed place fails, once for each entry of it, and a
+/// write that would cross one stops there; a flush counts as a call that begins where the sink stands. A write fails
+/// where the room is full.
 #[derive(Drop)]
 pub struct MemSink {
     bytes: Vec<u8>,
@@ -123,7 +123,8 @@ impl Sink for MemSink {
 
         // It fails at the places of the plan and where the room is full, and nowhere else.
         ensures due { IsErr result ↔ (IsDue self.old ⊎ (self.old.room ≤ length self.old.bytes)) }
-        ensures fault { OnErr result (self.new ≡ record self.old { plan = after_fault (length self.old.bytes) self.old.plan }) }
+        ensures fault { OnErr result
+            (self.new ≡ record self.old { plan = after_fault (length self.old.bytes) self.old.plan }) }
         ensures moved { IfOk result (λ n. self.new ≡ record self.old { bytes = self.old.bytes ++ take n piece.now }) }
         ensures count { IfOk result (λ n. n ≡ reach self.old.plan (length self.old.bytes)
             (min (length piece.now) (self.old.room - length self.old.bytes))) }
@@ -144,7 +145,8 @@ impl Sink for MemSink {
 
         // It fails at the places of the plan and nowhere else.
         ensures due { IsErr result ↔ IsDue self.old }
-        ensures fault { OnErr result (self.new ≡ record self.old { plan = after_fault (length self.old.bytes) self.old.plan }) }
+        ensures fault { OnErr result
+            (self.new ≡ record self.old { plan = after_fault (length self.old.bytes) self.old.plan }) }
         ensures quiet { OnOk result (self.new ≡ self.old) }
     {
         if self.faults.is_due(self.bytes.len()) {

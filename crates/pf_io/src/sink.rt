@@ -45,7 +45,8 @@ pub struct WriteError {
 impl fmt::Display for WriteError {
     ghost use Rattle.std.specs.Prelude.{Some, ◌++◌, codes, decimal};
 
-    ghost output = { λ error. Some (codes "the stream reported a fault after " ++ decimal error.written ++ codes " bytes") };
+    ghost output = { λ error.
+        Some (codes "the stream reported a fault after " ++ decimal error.written ++ codes " bytes") };
 
     fn fmt<W: fmt::Write>(&self, f: &mut fmt::Formatter<W>) -> fmt::Result {
         let written = self.written;

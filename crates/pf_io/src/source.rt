@@ -83,7 +83,8 @@ impl From<AllocError> for ReadError {
 /// one byte.
 pub fn read_all<S: Source>(alloc: Global, source: &mut S) -> Result<Vec<u8>, ReadError>
     ensures taken { IfOk result (λ v. S.left source.old ≡ prepend_known v.items (S.left source.new)) }
-    ensures whole { IfOk result (λ v. (vec_len v ≡ READ_LIMIT) ⊎ ((vec_len v < READ_LIMIT) × IsAtEnd (S.left source.new))) }
+    ensures whole { IfOk result (λ v. (vec_len v ≡ READ_LIMIT)
+        ⊎ ((vec_len v < READ_LIMIT) × IsAtEnd (S.left source.new))) }
     ensures later { S.faults source.old ≤ S.faults source.new }
     ensures calm { OnOk result (Calm (S.faults source.old) (S.faults source.new)) }
     ensures failed { IsErrOf result ReadError.Failed → Rose (S.faults source.old) (S.faults source.new) }
