@@ -17,3 +17,9 @@ pub mod Entries
 pub mod Turns
 pub mod Relinks
 pub mod Changes
+pub mod Solutions
+pub mod Apart
+pub mod Between
+pub mod Editing
+pub mod Numbering
+pub mod Totals
