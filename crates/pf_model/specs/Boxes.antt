@@ -1,5 +1,5 @@
 -- Bounding boxes of nodes and of occurrences, from scratch.
-use Rattle.std.specs.Prelude.{◌≡◌, ℕ, zero, suc, List, map, Option, Some, None}
+use Rattle.std.specs.Prelude.{◌≡◌, ℕ, zero, suc, ◌+◌, ◌*◌, ℤ, ◌+ℤ◌, unsigned_abs, List, map, Option, Some, None}
 use Rattle.std.specs.List.{fold, flat_map}
 use Rattle.std.specs.Option.{option_map, option_map_or}
 use Rattle.fx_math.specs.Plain.{Point, Matrix, Bounds}
@@ -52,3 +52,10 @@ pub record AreBoxes (look : Look) (boxes : ℕ → Option Bounds) : Type 0 where
 -- the box of an occurrence in eye coordinates: the node's, carried through the steps to the eye
 abbrev pub eye_box : (ℕ → Option Bounds) → ℕ → List Matrix → Option Bounds
 eye_box boxes id steps = option_map (carry_box steps) (boxes id)
+
+abbrev pub square : ℤ → ℕ
+square z = unsigned_abs z * unsigned_abs z
+
+-- four times the squared distance of the middle of an eye box from the eye
+unfoldable pub squared_distance : Bounds → ℕ
+squared_distance b = square (b.lo.x +ℤ b.hi.x) + square (b.lo.y +ℤ b.hi.y) + square (b.lo.z +ℤ b.hi.z)

@@ -14,3 +14,5 @@ pub mod Laws
 pub mod Extents
 pub mod Places
 pub mod Attributes
+pub mod ShownPlaces
+pub mod Surfaces
