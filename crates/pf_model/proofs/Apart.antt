@@ -1,11 +1,10 @@
 -- A node is told apart only by what is below it.
-use Rattle.std.proofs.Common.{◌≡◌, ℕ, zero, suc, ◌+◌, Bool, true, false, ◌||◌, ◌==◌, List, [], ◌∷◌, map, sum, Option, Some, None, refl, sym, ◌∙◌, ap, subst, arith, add-zero, add-suc}
+use Rattle.std.proofs.Common.{◌≡◌, ℕ, zero, suc, ◌+◌, Bool, true, false, ◌||◌, ◌==◌, List, [], ◌∷◌, map, sum, Option, None, refl, sym, ◌∙◌, ap, subst, add-zero, add-suc}
 use Rattle.std.specs.List.{AllByRecursion, list_any}
-use Rattle.std.specs.Option.{option_map_or, option_map}
+use Rattle.std.specs.Option.{option_map_or}
 use Rattle.pf_model.specs.declared.nodes.Node.{Node}
-use Rattle.pf_model.specs.Graphs.{Look, children_of, greatest, height_in, size_in, below_in, levels, height_of, size_of, is_below}
-use Rattle.pf_model.specs.Boxes.{box_from, box_in, box_of}
-use Rattle.fx_math.specs.Plain.{Bounds}
+use Rattle.pf_model.specs.Graphs.{Look, children_of, greatest, height_in, size_in, below_in, levels, is_below}
+use Rattle.pf_model.specs.Boxes.{box_from, box_in}
 use Rattle.pf_model.proofs.Tables.{levels_are}
 use Rattle.pf_model.proofs.Levels.{all_map, map_agree, below_zero, below_agrees, boxes_agree, height_step, size_step, below_step, box_next}
 use Rattle.pf_model.specs.Laws.{AgreeBut, AgreeAt}

@@ -11,8 +11,8 @@ use Rattle.pf_model.specs.declared.nodes.Node.{Node}
 use Rattle.pf_model.specs.Kinds.{Surface, surface_of, geom_of, own_steps}
 use Rattle.pf_model.specs.Graphs.{Look}
 use Rattle.pf_model.specs.Limits.{IsRising}
-use Rattle.pf_model.specs.Walks.{Occurrence, Instance, instance_of, surface_in, instances_of}
-use Rattle.pf_model.specs.Boxes.{AreBoxes, box_from, box_step, box_in, box_of, box_of_tris, hull_of_all, eye_box}
+use Rattle.pf_model.specs.Walks.{Occurrence, instance_of, surface_in, instances_of}
+use Rattle.pf_model.specs.Boxes.{AreBoxes, box_from, box_step, box_in, box_of, box_of_tris, hull_of_all}
 use Rattle.pf_model.proofs.Levels.{box_next}
 use Rattle.pf_model.specs.Laws.{HasNodeBox}
 
