@@ -5,8 +5,7 @@ use Rattle.std.specs.Option.{option_map_or}
 use Rattle.pf_model.specs.declared.nodes.Node.{Node}
 use Rattle.pf_model.specs.Graphs.{Look, children_of, greatest, height_in, size_in, below_in, levels, is_below}
 use Rattle.pf_model.specs.Boxes.{box_from, box_in}
-use Rattle.pf_model.proofs.Tables.{levels_are}
-use Rattle.pf_model.proofs.Levels.{all_map, map_agree, below_zero, below_agrees, boxes_agree, height_step, size_step, below_step, box_next}
+use Rattle.pf_model.proofs.Levels.{levels_are, all_map, map_agree, below_zero, below_agrees, boxes_agree, height_step, size_step, below_step, box_next}
 use Rattle.pf_model.specs.Laws.{AgreeBut, AgreeAt}
 
 -- More levels keep what is below

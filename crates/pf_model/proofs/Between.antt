@@ -5,8 +5,7 @@ use Rattle.std.proofs.lemmas.Bool.{eqb-true, eq-eqb}
 use Rattle.pf_model.specs.Graphs.{Look, children_of, below_in, levels, is_below}
 use Rattle.pf_model.specs.Limits.{has_child}
 use Rattle.pf_model.specs.Laws.{AreLow}
-use Rattle.pf_model.proofs.Tables.{levels_are}
-use Rattle.pf_model.proofs.Levels.{below_zero, below_step, below_settles, below_at_limit, low_at}
+use Rattle.pf_model.proofs.Levels.{levels_are, below_zero, below_step, below_settles, below_at_limit, low_at}
 use Rattle.pf_model.specs.Laws.{HasChildAbove, HasParentBelow}
 use Rattle.pf_model.proofs.Apart.{any_wider, below_up}
 

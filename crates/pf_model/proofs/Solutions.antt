@@ -6,8 +6,7 @@ use Rattle.pf_model.specs.Boxes.{AreBoxes, box_step, box_in, box_of}
 use Rattle.pf_model.specs.Laws.{AreLow}
 use Rattle.fx_math.specs.Plain.{Bounds}
 use Rattle.pf_model.proofs.Places.{funext}
-use Rattle.pf_model.proofs.Tables.{levels_are, height_at_most}
-use Rattle.pf_model.proofs.Levels.{no_height, all_map, map_agree, boxes_agree, height_step, size_step, box_next, children_low, low_at, sizes_settle, size_at_limit, height_is, box_is_step}
+use Rattle.pf_model.proofs.Levels.{levels_are, height_at_most, no_height, all_map, map_agree, boxes_agree, height_step, size_step, box_next, children_low, low_at, sizes_settle, size_at_limit, height_is, box_is_step}
 use Rattle.pf_model.specs.Laws.{AreHeights, AreSizes}
 
 -- what meets a recursion is what the levels give, where no chain is longer

@@ -1,6 +1,7 @@
 -- Sums over all ids, node by node.
 use Rattle.std.proofs.Common.{◌≡◌, ℕ, zero, suc, ◌+◌, ◌<◌, ◌≤◌, Bool, true, false, cond, ◌==◌, List, [], ◌∷◌, map, sum, Option, Some, None, refl, sym, ◌∙◌, ap, arith}
 use Rattle.std.specs.List.{AllByRecursion, range_with_len}
+use Rattle.std.specs.Option.{option_map_or}
 use Rattle.std.proofs.lemmas.Bool.{eqb-true}
 use Rattle.std.proofs.lemmas.Bool.Decides.{nat_tests}
 use Rattle.std.proofs.lemmas.List.Sums.{sum_by-cons}
@@ -9,7 +10,7 @@ use Rattle.pf_model.specs.Graphs.{Nodes, node_at}
 use Rattle.pf_model.specs.Limits.{IsRising}
 use Rattle.pf_model.proofs.Places.{node_at_step}
 use Rattle.pf_model.proofs.Finds.{none_above}
-use Rattle.pf_model.specs.Laws.{triangles_of, triangle_count}
+use Rattle.pf_model.specs.Totals.{all_ids, triangles_of, triangle_count}
 
 -- all ids of nodes stand in a range
 abbrev AreFrom : ℕ → ℕ → Nodes → Type 0
@@ -79,10 +80,17 @@ all_from_zero : (m : ℕ) (xs : Nodes) → AllByRecursion (λ e. e.0 < m) xs →
 all_from_zero m [] h = tt
 all_from_zero m (x ∷ xs) h = ((omega arith, let l : x.0 < m = h.0 in omega arith), all_from_zero m xs h.1)
 
-sum_below : (m : ℕ) (xs : Nodes) → IsRising (map (λ e. e.0) xs) → AllByRecursion (λ e. e.0 < m) xs
-    → sum (map (λ id. triangles_of (node_at xs id)) (range_with_len 0 m)) ≡ sum (map (λ e. triangles_of (Some e.1)) xs)
-sum_below m xs rising below = sum_over triangles_of refl 0 m xs rising (all_from_zero m xs below)
+abbrev counted : Option Node → ℕ
+counted o = option_map_or (λ n. triangles_of n.kind) o 0
 
-pub triangles_counted : (xs : Nodes) → IsRising (map (λ e. e.0) xs) → AllByRecursion (λ e. e.0 < 65536) xs → triangle_count (node_at xs) ≡ sum (map (λ e. triangles_of (Some e.1)) xs)
-unfolding triangle_count
-triangles_counted xs rising below = sum_below 65536 xs rising below
+sum_below : (ids : List ℕ) (m : ℕ) (xs : Nodes) → ids ≡ range_with_len 0 m → IsRising (map (λ e. e.0) xs) → AllByRecursion (λ e. e.0 < m) xs
+    → sum (map (λ id. counted (node_at xs id)) ids) ≡ sum (map (λ e. triangles_of e.1.kind) xs)
+sum_below ids m xs are rising below =
+    ap (λ (is : List ℕ). sum (map (λ id. counted (node_at xs id)) is)) are ∙ sum_over counted refl 0 m xs rising (all_from_zero m xs below)
+
+ids_are : all_ids ≡ range_with_len 0 65536
+unfolding all_ids
+ids_are = refl
+
+pub triangles_counted : (xs : Nodes) → IsRising (map (λ e. e.0) xs) → AllByRecursion (λ e. e.0 < 65536) xs → triangle_count (node_at xs) ≡ sum (map (λ e. triangles_of e.1.kind) xs)
+triangles_counted xs rising below = sum_below all_ids 65536 xs ids_are rising below

@@ -1,7 +1,7 @@
 -- Laws of graphs, walks and boxes.
-use Rattle.std.specs.Prelude.{◌≡◌, ℕ, ◌+◌, ◌≤◌, ⊤, true, false, ◌||◌, ◌==◌, map, sum, length, Option, Some, None}
-use Rattle.std.specs.List.{AllByRecursion, range_with_len}
-use Rattle.std.specs.Option.{option_map, option_map_or}
+use Rattle.std.specs.Prelude.{◌≡◌, ℕ, ◌+◌, ◌≤◌, ⊤, true, false, ◌||◌, ◌==◌, map, sum, Option, Some, None}
+use Rattle.std.specs.List.{AllByRecursion}
+use Rattle.std.specs.Option.{option_map}
 use Rattle.fx_math.specs.Plain.{Bounds, IsBox, IsInside}
 use Rattle.fx_math.specs.Fixed.{carry_box}
 use Rattle.pf_model.specs.declared.nodes.Kind.{Kind}
@@ -12,10 +12,11 @@ use Rattle.pf_model.specs.Angles.{Viewpoint}
 use Rattle.pf_model.specs.Kinds.{geom_of, own_steps}
 use Rattle.pf_model.specs.Graphs.{Look, SceneGraph, children_of, greatest, height_in, size_in, below_in, height_of, size_of, is_below, change}
 use Rattle.pf_model.specs.Limits.{has_child}
+use Rattle.pf_model.specs.NodeEdits.{node_after}
 use Rattle.pf_model.specs.Edits.{made, deleted, with_nodes}
 use Rattle.pf_model.specs.Copies.{named_by}
-use Rattle.pf_model.specs.Walks.{Occurrence, Instance, walk_in, walk, instances}
-use Rattle.pf_model.specs.Boxes.{box_in, box_of, box_of_tris, box_step, eye_box}
+use Rattle.pf_model.specs.Walks.{Occurrence, Instance, walk_in, walk, instances, instance_box}
+use Rattle.pf_model.specs.Boxes.{box_in, box_of, box_step, eye_box}
 
 -- all heights are within the limit
 abbrev pub AreLow : Look → Type 0
@@ -101,18 +102,8 @@ KeepsBirth f = (n : Node) → ((f n).serial ≡ n.serial) × ((f n).born ≡ n.b
 pub data IsEdited (g : SceneGraph) (e : Edit) : SceneGraph → Type 0 where
   Makes : (kind : Kind) → e ≡ edit.Make (named_by e) kind → IsEdited g e (made (named_by e) kind g)
   Deletes : e ≡ edit.Delete (named_by e) → IsEdited g e (deleted (named_by e) g)
-  Changes : (f : Node → Node) → KeepsBirth f → IsEdited g e (with_nodes (change (named_by e) f) g)
-
-abbrev pub instance_box : Instance → Option Bounds
-instance_box x = option_map (carry_box x.steps) (box_of_tris x.tris)
+  Changes : KeepsBirth (node_after g.time e) → IsEdited g e (with_nodes (change (named_by e) (node_after g.time e)) g)
 
 -- the box of an instance is that of its node, carried to the eye
 abbrev pub HasNodeBox : (ℕ → Option Bounds) → Instance → Type 0
 HasNodeBox boxes x = instance_box x ≡ eye_box boxes x.id x.steps
-
-abbrev pub triangles_of : Option Node → ℕ
-triangles_of None = 0
-triangles_of (Some n) = option_map_or (λ ts. length ts) (geom_of n.kind) 0
-
-unfoldable pub triangle_count : Look → ℕ
-triangle_count look = sum (map (λ id. triangles_of (look id)) (range_with_len 0 65536))

@@ -1,17 +1,25 @@
 //! Boxes of triangles, and how far a box is from the eye.
 ghost use Rattle.std.specs.Prelude.{◌≡◌, ◌*◌, ◌+◌, ◌≤◌, ◌+ℤ◌, map, fold, Some};
+ghost use Rattle.std.specs.List.{flat_map};
 ghost use Rattle.std.specs.Option.{option_map};
 ghost use Rattle.fx_math.specs.Within.{IsCoordinate};
 ghost use Rattle.fx_math.specs.Views.{point_of, bounds_of};
 ghost use Rattle.fx_math.specs.Fixed.{box_at};
-ghost use Rattle.pf_model.specs.Boxes.{joined, box_of_tris, corners, square, squared_distance};
+ghost use Rattle.pf_model.specs.Boxes.{joined, hull_of_all, box_of_tris, corners, square, squared_distance};
 
 use crate::geometry::Tri;
 use fx_math::{Box3, Vec3, hull};
 
 /// The least box around triangles, none where there are none.
+#[tactic(auto, using(crate::proofs::Hulls::hull_of_points))]
 pub fn box_of_tris(tris: &[Tri]) -> Option<Box3>
     ensures { option_map bounds_of result ≡ box_of_tris tris.now }
+{
+    widened(tris)
+}
+
+fn widened(tris: &[Tri]) -> Option<Box3>
+    ensures { option_map bounds_of result ≡ hull_of_all (map (λ p. Some (box_at p)) (flat_map corners tris.now)) }
 {
     let mut around = None;
     for tri in tris {

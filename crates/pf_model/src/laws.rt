@@ -13,7 +13,8 @@ ghost use Rattle.pf_model.specs.Boxes.{AreBoxes, box_of};
 ghost use Rattle.pf_model.specs.Walks.{Occurrence, instances_of};
 ghost use Rattle.pf_model.specs.Laws.{AreLow, IsAcyclic, LevelsSuffice, BoxesNest, LooksAgree};
 ghost use Rattle.pf_model.specs.Laws.{AreHeights, AreSizes, AgreeBut, AgreeAt, HasChildAbove, HasParentBelow};
-ghost use Rattle.pf_model.specs.Laws.{IsEdited, HasNodeBox, triangles_of, triangle_count};
+ghost use Rattle.pf_model.specs.Laws.{IsEdited, HasNodeBox};
+ghost use Rattle.pf_model.specs.Totals.{triangles_of, triangle_count};
 
 /// Where no chain has more than 32 nodes, no node is below itself.
 pub fn low_graphs_have_no_cycle()
@@ -116,5 +117,5 @@ pub fn instances_have_the_boxes_of_their_nodes()
 /// The number of triangles of nodes in rising order of ids below 65,536 is the sum over them.
 pub fn triangles_count_node_by_node()
     ensures { (nodes : Nodes) → IsRising (map (λ e. e.0) nodes) → AllByRecursion (λ e. e.0 < 65536) nodes
-        → triangle_count (node_at nodes) ≡ sum (map (λ e. triangles_of (Some e.1)) nodes) }
+        → triangle_count (node_at nodes) ≡ sum (map (λ e. triangles_of e.1.kind) nodes) }
 {}
