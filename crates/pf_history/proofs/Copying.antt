@@ -1,6 +1,7 @@
 -- The copy that the cuts keep has the nodes of each Frame's graph.
 use Rattle.std.proofs.Common.{◌≡◌, ℕ, suc, zero, Bool, true, false, cond, ◌||◌, ◌==◌, nat_lt, List, [], ◌∷◌, map, take, is_some, slice_get, Some, refl, sym, ◌∙◌, ap, subst, arith, add-one, eqb-true, eq-eqb}
 use Rattle.std.proofs.lemmas.Bool.Decides.{nat_tests}
+use Rattle.std.proofs.lemmas.Option.{same_Some}
 use Rattle.std.specs.List.{fold, list_any}
 use Rattle.pf_model.specs.declared.edits.Edit.{Edit}
 use Rattle.pf_model.specs.Graphs.{SceneGraph, Nodes, node_at, empty_scene}
@@ -12,9 +13,10 @@ use Rattle.pf_model.proofs.Named.{nodes_same, effect_rising, only_named, node_at
 use Rattle.pf_history.specs.declared.commands.Command.{Command}
 use Rattle.pf_history.specs.declared.commands.Command.TheVariants as command
 use Rattle.pf_history.specs.Objects.{FrameState, opening_state, next_state}
-use Rattle.pf_history.specs.Logs.{Log, is_frame}
+use Rattle.pf_history.specs.Commands.{is_frame}
+use Rattle.pf_history.specs.Logs.{Log}
 use Rattle.pf_history.specs.Cuts.{put_in, put_all, names, updates_of, Cutting, cuttings, cut_at}
-use Rattle.pf_history.specs.Laws.{CopyLaw}
+use Rattle.pf_history.specs.CutLaws.{CopyLaw}
 
 -- the ids of these nodes rise
 abbrev AreRising : Nodes → Type 0
@@ -115,9 +117,6 @@ next_rising s (command.View channel v) rising = rising
 next_rising s (command.Sync r) rising = rising
 next_rising s command.Frame rising = rising
 
-some_same : {X : Type 0} (a b : X) → Some a ≡ Some b → a ≡ b
-some_same a b h = cc
-
 -- Copies along a log
 
 -- each Frame's update list makes of the copy the nodes that the Frame found
@@ -158,7 +157,7 @@ copies_right copy ids s (e ∷ es) rc rg agree =
 
 copies_at : (copy : Nodes) (cs : List Cutting) (k : ℕ) (s : FrameState) → CopiesRight copy cs → slice_get (map (λ c. c.found) cs) k ≡ Some s → fold updated_by copy (take (suc k) (map cut_at cs)) ≡ s.graph.nodes
 copies_at copy [] k s right at = absurd (cc)
-copies_at copy (c ∷ cs) zero s right at = right.0 ∙ ap (λ (x : FrameState). x.graph.nodes) (some_same c.found s at)
+copies_at copy (c ∷ cs) zero s right at = right.0 ∙ ap (λ (x : FrameState). x.graph.nodes) (same_Some c.found s at)
 copies_at copy (c ∷ cs) (suc k) s right at = copies_at (updated_by copy (cut_at c)) cs k s right.1 at
 
 pub copy_law : CopyLaw

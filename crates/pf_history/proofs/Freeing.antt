@@ -1,6 +1,6 @@
 -- A freed serial stands in no frame after the retired ones.
 use Rattle.std.proofs.Common.{◌≡◌, ℕ, suc, zero, ◌+◌, ◌<◌, ◌≤◌, Bool, true, false, cond, not, ◌||◌, ◌==◌, nat_lt, nat_le, List, [], ◌∷◌, ◌++◌, map, length, take, drop, is_some, slice_get, Some, refl, sym, ◌∙◌, ap, subst, arith, append_assoc}
-use Rattle.std.proofs.lemmas.List.{append-nil}
+use Rattle.std.proofs.lemmas.List.{append-nil, map-append, length-append}
 use Rattle.std.proofs.lemmas.Bool.Decides.{nat_tests}
 use Rattle.std.specs.List.{AllByRecursion, fold, filter, list_any}
 use Rattle.pf_model.specs.declared.nodes.Node.{Node}
@@ -12,14 +12,19 @@ use Rattle.pf_model.specs.Edits.{fault_of, effect, after, remains}
 use Rattle.pf_model.specs.Merges.{merge_fault, after_all}
 use Rattle.pf_model.specs.Copies.{GraveState, is_due, freed_by}
 use Rattle.pf_model.proofs.Places.{node_at_step}
+use Rattle.pf_model.proofs.Levels.{all_map}
 use Rattle.pf_history.specs.declared.commands.Command.{Command}
 use Rattle.pf_history.specs.declared.commands.Command.TheVariants as command
+use Rattle.pf_history.specs.declared.commands.Reply.TheVariants as reply
 use Rattle.pf_history.specs.declared.commands.Entry.{Entry}
 use Rattle.pf_history.specs.Objects.{FrameState, opening_state, next_state, grave_of}
-use Rattle.pf_history.specs.Logs.{Log, state_after, is_frame}
-use Rattle.pf_history.specs.Cuts.{put_all, names, Cutting, cuttings}
-use Rattle.pf_history.specs.Laws.{has_serial, FreedLaw}
-use Rattle.pf_history.proofs.Folds.{all_append, all_filter, all_weaker}
+use Rattle.pf_history.specs.Commands.{is_frame}
+use Rattle.pf_history.specs.Logs.{Log, state_after, state_at, IsLegalEntry}
+use Rattle.pf_history.specs.Cuts.{put_all, names, Cutting, cuttings, found_by_frames}
+use Rattle.pf_history.specs.CutLaws.{has_serial, is_among, sync_entry, FreedLaw}
+use Rattle.pf_history.proofs.Lists.{all_append, all_filter, all_drop, all_drop_at}
+use Rattle.pf_history.proofs.Folds.{legal_at}
+use Rattle.pf_history.proofs.Counting.{one, one_most}
 
 -- Serials and births of nodes
 
@@ -30,9 +35,6 @@ Tags = List (ℕ × ℕ)
 abbrev tags : Nodes → Tags
 tags nodes = map (λ e. (e.1.serial, e.1.born)) nodes
 
-abbrev one : Bool → ℕ
-one t = cond t 1 0
-
 -- how many nodes have a serial
 abbrev times : ℕ → Tags → ℕ
 times x [] = 0
@@ -42,10 +44,6 @@ times x (t ∷ ts) = one (t.0 == x) + times x ts
 abbrev graves_of : ℕ → List GraveState → ℕ
 graves_of x [] = 0
 graves_of x (g ∷ gs) = one (g.serial == x) + graves_of x gs
-
-one_most : (t : Bool) → one t ≤ 1
-one_most true = omega arith
-one_most false = omega arith
 
 times_none : (x : ℕ) (nodes : Nodes) → times x (tags nodes) ≡ 0 → has_serial x nodes ≡ false
 times_none x [] h = refl
@@ -206,11 +204,6 @@ past_frames x ids s (e ∷ es) h =
 abbrev NoneFrom : ℕ → ℕ → List FrameState → Type 0
 NoneFrom r x found = AllByRecursion (Lacks x) (drop r found)
 
-all_drop : (P : FrameState → Type 0) (r : ℕ) (xs : List FrameState) → AllByRecursion P xs → AllByRecursion P (drop r xs)
-all_drop P zero xs h = h
-all_drop P (suc r) [] h = tt
-all_drop P (suc r) (x ∷ xs) h = all_drop P r xs h.1
-
 none_append : (r x : ℕ) (xs ys : List FrameState) → NoneFrom r x xs → AllByRecursion (Lacks x) ys → NoneFrom r x (xs ++ ys)
 none_append r x [] ys h k = all_drop (Lacks x) r ys k
 none_append zero x (s ∷ xs) ys h k = all_append (Lacks x) (s ∷ xs) ys h k
@@ -304,15 +297,11 @@ all_buried : (found : List FrameState) (frames : ℕ) (gs : List Gone) → lengt
 all_buried found frames [] many h = tt
 all_buried found frames (g ∷ gs) many h = (buried_now found frames g many h.0, all_buried found frames gs many h.1)
 
-map_append : (frames : ℕ) (xs ys : List Gone) → map (grave_of frames) (xs ++ ys) ≡ map (grave_of frames) xs ++ map (grave_of frames) ys
-map_append frames [] ys = refl
-map_append frames (x ∷ xs) ys = ap (λ gs. grave_of frames x ∷ gs) (map_append frames xs ys)
-
 kept_delete : (found : List FrameState) (frames : ℕ) (graves : List GraveState) (g : SceneGraph) (id : ℕ) → GraphKept found frames graves g → GraphKept found frames graves (effect g (edit.Delete id))
 kept_delete found frames graves g id h =
     let out = map (grave_of frames) (remains id (node_at g.nodes id)) in
     let joined : all_graves frames graves g ++ out ≡ graves ++ map (grave_of frames) (g.gone ++ remains id (node_at g.nodes id)) =
-    append_assoc graves (map (grave_of frames) g.gone) out ∙ ap (λ gs. graves ++ gs) (sym (map_append frames g.gone (remains id (node_at g.nodes id)))) in
+    append_assoc graves (map (grave_of frames) g.gone) out ∙ ap (λ gs. graves ++ gs) (sym (map-append (grave_of frames) g.gone (remains id (node_at g.nodes id)))) in
     subst (λ (gs : List GraveState). AreKept found frames (tags (without id g.nodes)) g.time g.next_serial gs) joined
     (record {
       preparing = h.preparing;
@@ -400,10 +389,6 @@ all_graves_lack found s h (g ∷ gs) within k =
 abbrev noted : List FrameState → FrameState → Command → List FrameState
 noted found s c = cond (is_frame c) (found ++ s ∷ []) found
 
-length_snoc : (xs : List FrameState) (s : FrameState) → length (xs ++ s ∷ []) ≡ length xs + 1
-length_snoc [] s = refl
-length_snoc (x ∷ xs) s = let rest = length_snoc xs s in omega (arith, rest)
-
 kept_next : (found : List FrameState) (s : FrameState) (c : Command) → IsKept found s → IsKept (noted found s c) (next_state s c)
 kept_next found s (command.Edit e) h = record { kept = by (is_some (fault_of s.graph e)); emptied = refl }
   where
@@ -434,9 +419,9 @@ kept_next found s command.Frame h =
     record {
       kept = record {
         preparing = omega arith;
-        many = let n = length_snoc found s in let m = h.kept.many in omega (arith, n, m);
-        born = all_weaker (λ (t : ℕ × ℕ). t.1 ≤ s.frames + 1) (λ t. t.1 ≤ s.frames + 1 + 1) (tags s.graph.nodes) (λ t l. omega (arith, l)) h.kept.born;
-        fresh = all_weaker (λ (t : ℕ × ℕ). t.1 ≤ s.frames + 1) (λ t. s.frames + 1 < t.1 → NoneFrom 0 t.0 (found ++ s ∷ [])) (tags s.graph.nodes) (λ t l k. absurd (omega (arith, l, k))) h.kept.born;
+        many = let n = length-append found (s ∷ []) in let m = h.kept.many in omega (arith, n, m);
+        born = all_map (λ (t : ℕ × ℕ). t.1 ≤ s.frames + 1) (λ t. t.1 ≤ s.frames + 1 + 1) (λ t l. omega (arith, l)) (tags s.graph.nodes) h.kept.born;
+        fresh = all_map (λ (t : ℕ × ℕ). t.1 ≤ s.frames + 1) (λ t. s.frames + 1 < t.1 → NoneFrom 0 t.0 (found ++ s ∷ [])) (λ t l k. absurd (omega (arith, l, k))) (tags s.graph.nodes) h.kept.born;
         buried = all_graves_lack found s h s.graves (λ x. omega arith) h.kept.buried;
         free = λ x l. let z = h.kept.below x l in none_append 0 x found (s ∷ []) (h.kept.free x l) (times_none x s.graph.nodes (omega (arith, z)), tt);
         once = h.kept.once;
@@ -510,5 +495,34 @@ opening_kept channels =
     above : (x : ℕ) → 1 ≤ x → (0 == x) ≡ false
     above x l = grind (arith, nat_tests)
 
+-- Freed in the words of a reply
+
+-- what a Sync of a legal history replies is what is freed
+replied : (s : FrameState) (seat r : ℕ) (serials : List ℕ) → IsLegalEntry s (sync_entry r serials) → serials ≡ freed_by r s.graves
+replied s seat r serials legal = let same : reply.Freed serials ≡ reply.Freed (freed_by r s.graves) = legal.reply in cc
+
+within : (r x k : ℕ) (s : FrameState) (found : List FrameState) → NoneFrom r x found → slice_get found k ≡ Some s → has_serial x s.graph.nodes ≡ true → k + 1 ≤ r
+within r x k s found none at there = by (nat_le r k) refl
+  where
+    from : (a b : ℕ) → nat_le a b ≡ true → a ≤ b
+    from a b e = grind (arith, nat_tests)
+
+    before : (a b : ℕ) → nat_le a b ≡ false → b < a
+    before a b e = grind (arith, nat_tests)
+
+    by : (t : Bool) → nat_le r k ≡ t → k + 1 ≤ r
+    by true e = absurd (let lacks : has_serial x s.graph.nodes ≡ false = all_drop_at (Lacks x) r found none k s at (from r k e) in cc)
+    by false e = let l : k < r = before r k e in omega arith
+
 pub freed_law : FreedLaw
-freed_law channels log j e r x at is freed = freed_from [] [] (opening_state channels) log (opening_kept channels) j e r x at is freed
+freed_law channels log j r x =
+    record {
+      object = λ e at is freed. freed_from [] [] (opening_state channels) log (opening_kept channels) j e r x at is freed;
+      replied = λ seat serials legal at freed k s found there.
+          let e = legal_at (opening_state channels) log j (seat, sync_entry r serials) legal at in
+          let same = replied (state_at channels log j) seat r serials e in
+          within r x k s (found_by_frames channels log)
+          (freed_from [] [] (opening_state channels) log (opening_kept channels) j (seat, sync_entry r serials) r x at refl
+          (subst (λ (xs : List ℕ). is_among x xs ≡ true) same freed))
+          found there;
+    }

@@ -8,7 +8,8 @@ use Rattle.pf_model.specs.Copies.{named_by, UpdateList, copy_of}
 use Rattle.pf_history.specs.declared.commands.Command.{Command}
 use Rattle.pf_history.specs.declared.commands.Command.TheVariants as command
 use Rattle.pf_history.specs.Objects.{FrameState, opening_state, next_state}
-use Rattle.pf_history.specs.Logs.{Log, state_of, is_frame}
+use Rattle.pf_history.specs.Commands.{is_frame}
+use Rattle.pf_history.specs.Logs.{Log, state_of}
 
 -- a number put into a rising list, once
 abbrev pub put_in : ℕ → List ℕ → List ℕ
@@ -61,11 +62,14 @@ copy_after channels log k = copy_of (take k (cuts_of channels log))
 abbrev pub cut_of : ℕ → Log → ℕ → UpdateList
 cut_of channels log k = slice_index_or (cuts_of channels log) (k - 1) []
 
+-- the ids named since the last Frame, where these were and one more command was made in this state
+abbrev pub marks_after : List ℕ → FrameState → Command → List ℕ
+marks_after ids s c = if is_frame c then [] else put_all (names s c) ids
+
 -- the ids named since the last Frame of a log, from a state on where these were
 abbrev pub marks_from : List ℕ → FrameState → Log → List ℕ
 marks_from ids s [] = ids
-marks_from ids s (e ∷ es) =
-    marks_from (if is_frame e.1.command then [] else put_all (names s e.1.command) ids) (next_state s e.1.command) es
+marks_from ids s (e ∷ es) = marks_from (marks_after ids s e.1.command) (next_state s e.1.command) es
 
 -- the ids that the next Frame's update list holds
 abbrev pub marked : ℕ → Log → List ℕ

@@ -4,9 +4,9 @@ use Rattle.std.proofs.lemmas.Iterator.Consumers.{YieldsList-so_far, YieldsList-t
 use Rattle.std.proofs.lemmas.Iterator.Adapters.{YieldsList-from_vec}
 use Rattle.pf_history.specs.Objects.{FrameState, opening_state, next_state}
 use Rattle.pf_history.specs.Logs.{Log, state_after, entry_of, IsLegal}
-use Rattle.pf_history.specs.Runs.{entries_from}
-use Rattle.pf_history.proofs.Running.{IsNext, next_fits, counts_push, behind_push, entries_push, behind_entries, entries_legal, same_map}
-use Rattle.pf_history.proofs.runs.run.Goals as goal
+use Rattle.one_thread.specs.Runs.{entries_from}
+use Rattle.one_thread.proofs.Running.{IsNext, next_fits, counts_push, behind_push, entries_push, behind_entries, entries_legal, same_map}
+use Rattle.one_thread.proofs.runs.run.Goals as goal
 
 pub note-requires-clause-fits : goal.note-requires-clause-fits
 note-requires-clause-fits c =

@@ -1,6 +1,7 @@
 use super::*;
+use pf_history::{Caller, Command, Merge, Reply};
 use pf_io::NoMemory;
-use pf_model::{Edit, Fault, Geom, Kind};
+use pf_model::{Edit, EditList, Fault, Geom, Kind};
 use std::alloc::Global;
 use std::process::Abort;
 use std::test::Fail;

@@ -5,12 +5,12 @@ use Rattle.std.specs.List.{list_all, sum_by}
 use Rattle.pf_history.specs.declared.commands.Command.{Command}
 use Rattle.pf_history.specs.declared.commands.Command.TheVariants as command
 use Rattle.pf_history.specs.Objects.{FrameState, next_state}
-use Rattle.pf_history.specs.Logs.{Log, state_after, IsLegalFrom, is_frame, is_merge, entry_of}
-use Rattle.pf_history.specs.Laws.{command_fits}
-use Rattle.pf_history.specs.Runs.{edit_count, CanRun, state_behind, entries_from, CanMakeEach}
+use Rattle.pf_history.specs.Commands.{is_frame, is_merge, command_fits, edit_count}
+use Rattle.pf_history.specs.Logs.{Log, state_after, IsLegalFrom, entry_of}
+use Rattle.one_thread.specs.Runs.{CanRun, state_behind, entries_from, CanMakeEach}
 use Rattle.pf_history.proofs.Counting.{one, frames_next, merges_next}
 use Rattle.pf_history.proofs.Folds.{own_entry_legal}
-use Rattle.pf_history.proofs.Merging.{after_serials, after_all_serials}
+use Rattle.one_thread.proofs.Merging.{after_serials, after_all_serials}
 
 serials_next : (s : FrameState) (c : Command) → (next_state s c).graph.next_serial ≤ s.graph.next_serial + edit_count c
 serials_next s (command.Edit e) = after_serials s.graph e

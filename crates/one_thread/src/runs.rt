@@ -3,12 +3,11 @@ ghost use Rattle.std.specs.Prelude.{◌≡◌, ◌+◌, ◌-◌, ◌^◌, ◌<�
 ghost use Rattle.std.specs.List.{list_all, sum_by};
 ghost use Rattle.pf_history.specs.Objects.{opening_state, next_state};
 ghost use Rattle.pf_history.specs.Logs.{state_of, IsLegal, entry_of};
-ghost use Rattle.pf_history.specs.Laws.{command_fits};
-ghost use Rattle.pf_history.specs.Runs.{edit_count, CanCount, CanRun, CanMakeEach, entries_from};
+ghost use Rattle.pf_history.specs.Commands.{command_fits, edit_count};
+ghost use Rattle.one_thread.specs.Runs.{CanCount, CanRun, CanMakeEach, entries_from};
 
-use crate::commands::{Command, Entry};
-use crate::history::History;
 use crate::sequential::Sequential;
+use pf_history::{Command, Entry, History};
 use pf_io::NoMemory;
 use std::alloc::Global;
 

@@ -1,6 +1,6 @@
 use Rattle.std.proofs.Common.{◌≡◌, ◌+◌, ◌≤◌, length, take}
 use Rattle.pf_model.specs.Copies.{freed_by}
-use Rattle.pf_history.proofs.sequential.freed.Given as goal
+use Rattle.one_thread.proofs.sequential.freed.Given as goal
 
 abbrev pub invariant-loop-grave : goal.invariant-loop-grave
 invariant-loop-grave l = record {

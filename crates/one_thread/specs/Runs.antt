@@ -1,17 +1,10 @@
 -- Runs of the one-thread object: commands that one thread makes one after the other.
-use Rattle.std.specs.Prelude.{◌≡◌, ⊤, ℕ, ◌+◌, ◌-◌, ◌^◌, ◌<◌, true, List, [], ◌∷◌, length}
+use Rattle.std.specs.Prelude.{◌≡◌, ⊤, ◌+◌, ◌-◌, ◌^◌, ◌<◌, true, List, [], ◌∷◌, length}
 use Rattle.std.specs.List.{fold, list_all, sum_by}
 use Rattle.pf_history.specs.declared.commands.Command.{Command}
-use Rattle.pf_history.specs.declared.commands.Command.TheVariants as command
 use Rattle.pf_history.specs.Objects.{FrameState, next_state}
+use Rattle.pf_history.specs.Commands.{command_fits, edit_count}
 use Rattle.pf_history.specs.Logs.{Log, CanMake, entry_of}
-use Rattle.pf_history.specs.Laws.{command_fits}
-
--- how many edits a command has
-abbrev pub edit_count : Command → ℕ
-edit_count (command.Edit e) = 1
-edit_count (command.Merge m) = length m.edits
-edit_count _ = 0
 
 -- A command can be counted in a state: the number of the next serial stays below 2 ^ 32, and so do the numbers of the
 -- frame in preparation and of the merges made.

@@ -1,9 +1,10 @@
 use Rattle.std.proofs.Common.{◌≡◌, length}
 use Rattle.std.specs.List.{sum_by}
 use Rattle.pf_history.specs.Objects.{opening_state}
-use Rattle.pf_history.specs.Runs.{edit_count, state_behind, entries_from}
-use Rattle.pf_history.proofs.Running.{Counts}
-use Rattle.pf_history.proofs.runs.run.Given as goal
+use Rattle.pf_history.specs.Commands.{edit_count}
+use Rattle.one_thread.specs.Runs.{state_behind, entries_from}
+use Rattle.one_thread.proofs.Running.{Counts}
+use Rattle.one_thread.proofs.runs.run.Given as goal
 
 abbrev pub invariant-loop-command : goal.invariant-loop-command
 invariant-loop-command l = record {

@@ -8,11 +8,11 @@ ghost use Rattle.pf_model.specs.Merges.{merge_fault, after_all};
 ghost use Rattle.pf_model.specs.Copies.{is_due, freed_by};
 ghost use Rattle.pf_history.specs.declared.commands.Reply.TheVariants as reply;
 ghost use Rattle.pf_history.specs.Objects.{home_view, opening_state, reply_of, next_state, grave_of, emptied, graves_kept};
-ghost use Rattle.pf_history.specs.Runs.{CanCount};
-ghost use Rattle.pf_history.specs.Laws.{command_fits};
+ghost use Rattle.pf_history.specs.Commands.{command_fits};
+ghost use Rattle.one_thread.specs.Runs.{CanCount};
 
-use crate::commands::{Command, Merge, Reply};
 use fx_math::Vec3;
+use pf_history::{Command, Merge, Reply};
 use pf_io::NoMemory;
 use pf_model::{Edit, EditError, Fault, Gone, Graph, Serials, View};
 use std::alloc::Global;
@@ -285,7 +285,7 @@ impl Sequential {
         Ok((self, reply))
     }
 
-    #[tactic(auto, using(crate::proofs::Folds::after_all_time))]
+    #[tactic(auto, using(pf_history::proofs::Folds::after_all_time))]
     fn merged(self, merge: &Merge) -> Result<(Sequential, Reply), NoMemory>
         requires counts { CanCount self (Command.Merge merge.now) }
         requires fits { list_all fits merge.now.edits ≡ true }
