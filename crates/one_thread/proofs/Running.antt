@@ -1,5 +1,8 @@
 -- Runs of the object: what each command leaves of the counts, and that the entries of a run are legal.
 use Rattle.std.proofs.Common.{◌≡◌, ℕ, zero, suc, ◌+◌, ◌<◌, ◌≤◌, Bool, true, false, ◌&&◌, List, [], ◌∷◌, ◌++◌, map, length, take, get_or, refl, sym, ap, subst, arith}
+use Rattle.std.proofs.lemmas.Bool.{both_ways, true_from_ne_false}
+use Rattle.std.proofs.lemmas.List.{length-append}
+use Rattle.std.proofs.lemmas.List.Folds.{list_all_at}
 use Rattle.std.proofs.lemmas.List.Sums.{sum_by-append, sum_by-cons}
 use Rattle.std.specs.List.{list_all, sum_by}
 use Rattle.pf_history.specs.declared.commands.Command.{Command}
@@ -8,7 +11,7 @@ use Rattle.pf_history.specs.Objects.{FrameState, next_state}
 use Rattle.pf_history.specs.Commands.{is_frame, is_merge, command_fits, edit_count}
 use Rattle.pf_history.specs.Logs.{Log, state_after, IsLegalFrom, entry_of}
 use Rattle.one_thread.specs.Runs.{CanRun, state_behind, entries_from, CanMakeEach}
-use Rattle.pf_history.proofs.Counting.{one, frames_next, merges_next}
+use Rattle.pf_history.proofs.Counting.{one_most, frames_next, merges_next}
 use Rattle.pf_history.proofs.Folds.{own_entry_legal}
 use Rattle.one_thread.proofs.Merging.{after_serials, after_all_serials}
 
@@ -18,10 +21,6 @@ serials_next s (command.Merge m) = after_all_serials s.graph m.edits
 serials_next s (command.View channel v) = omega arith
 serials_next s (command.Sync r) = omega arith
 serials_next s command.Frame = omega arith
-
-one_most : (t : Bool) → one t ≤ 1
-one_most true = omega arith
-one_most false = omega arith
 
 -- what commands leave of the counts
 pub record Counts (s : FrameState) (edits commands : ℕ) : Type 0 where
@@ -68,10 +67,6 @@ pub record IsNext (all so_far : List Command) (c : Command) : Type 0 where
   pub within : length so_far < length all
   pub here : c ≡ get_or all (length so_far) c
 
-pub same_map : (cs : List Command) → map (λ x. x) cs ≡ cs
-same_map [] = refl
-same_map (c ∷ cs) = ap (λ (ds : List Command). c ∷ ds) (same_map cs)
-
 sum_push : (cs : List Command) (c : Command) → sum_by edit_count (cs ++ c ∷ []) ≡ sum_by edit_count cs + edit_count c
 sum_push cs c =
     let both = sum_by-append edit_count cs (c ∷ []) in
@@ -79,18 +74,9 @@ sum_push cs c =
     let none : sum_by edit_count [] ≡ 0 = refl in
     omega (arith, both, one, none)
 
-front : (a b : Bool) → (a && b) ≡ true → a ≡ true
-front true b h = refl
-front false b h = absurd (cc)
-
-rest : (a b : Bool) → (a && b) ≡ true → b ≡ true
-rest true b h = h
-rest false b h = absurd (cc)
-
 all_at : (cs : List Command) (i : ℕ) (d : Command) → list_all command_fits cs ≡ true → i < length cs → command_fits (get_or cs i d) ≡ true
-all_at [] i d h l = absurd (omega arith)
-all_at (c ∷ cs) zero d h l = front (command_fits c) (list_all command_fits cs) h
-all_at (c ∷ cs) (suc i) d h l = all_at cs i d (rest (command_fits c) (list_all command_fits cs) h) (omega arith)
+all_at cs i d fit l =
+    true_from_ne_false (command_fits (get_or cs i d)) (λ e. both_ways (list_all command_fits cs) (list_all_at command_fits cs i d l e) fit)
 
 pub next_fits : (all so_far : List Command) (c : Command) → CanRun all → IsNext all so_far c → command_fits c ≡ true
 next_fits all so_far c can next = subst (λ (d : Command). command_fits d ≡ true) (sym next.here) (all_at all (length so_far) c can.fits next.within)
@@ -100,10 +86,6 @@ pub counts_push : (s : FrameState) (so_far : List Command) (c : Command) → Cou
 counts_push s so_far c counts =
     let P : ℕ → ℕ → Type 0 = λ edits commands. Counts (next_state s c) edits commands in
     let edits : sum_by edit_count so_far + edit_count c ≡ sum_by edit_count (so_far ++ c ∷ []) = sym (sum_push so_far c) in
-    let many : length so_far + 1 ≡ length (so_far ++ c ∷ []) = length_push so_far in
+    let many : length so_far + 1 ≡ length (so_far ++ c ∷ []) = sym (length-append so_far (c ∷ [])) in
     subst (λ (n : ℕ). P n (length (so_far ++ c ∷ []))) edits
     (subst (λ (n : ℕ). P (sum_by edit_count so_far + edit_count c) n) many (counts_next s (sum_by edit_count so_far) (length so_far) c counts))
-  where
-    length_push : (cs : List Command) → length cs + 1 ≡ length (cs ++ c ∷ [])
-    length_push [] = omega arith
-    length_push (d ∷ ds) = let more = length_push ds in omega (arith, more)

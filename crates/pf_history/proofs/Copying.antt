@@ -1,5 +1,6 @@
 -- The copy that the cuts keep has the nodes of each Frame's graph.
 use Rattle.std.proofs.Common.{◌≡◌, ℕ, suc, zero, Bool, true, false, cond, ◌||◌, ◌==◌, nat_lt, List, [], ◌∷◌, map, take, is_some, slice_get, Some, refl, sym, ◌∙◌, ap, subst, arith, add-one, eqb-true, eq-eqb}
+use Rattle.std.proofs.lemmas.Bool.{or_parts, or_from}
 use Rattle.std.proofs.lemmas.Bool.Decides.{nat_tests}
 use Rattle.std.proofs.lemmas.Option.{same_Some}
 use Rattle.std.specs.List.{fold, list_any}
@@ -30,18 +31,10 @@ other_way a b h = grind (arith, nat_tests)
 abbrev among : ℕ → List ℕ → Bool
 among id ids = list_any (λ x. x == id) ids
 
-neither : (t u : Bool) → (t || u) ≡ false → (t ≡ false) × (u ≡ false)
-neither true u h = absurd (cc)
-neither false u h = (refl, h)
-
-both_false : (t u : Bool) → t ≡ false → u ≡ false → (t || u) ≡ false
-both_false true u h k = absurd (cc)
-both_false false u h k = k
-
 effects_elsewhere : (g : SceneGraph) (es : List Edit) (id : ℕ) → AreRising g.nodes → among id (map named_by es) ≡ false → node_at (fold effect g es).nodes id ≡ node_at g.nodes id
 effects_elsewhere g [] id rising none = refl
 effects_elsewhere g (e ∷ es) id rising none =
-    let n = neither (named_by e == id) (among id (map named_by es)) none in
+    let n = or_parts (named_by e == id) (among id (map named_by es)) none in
     effects_elsewhere (effect g e) es id (effect_rising g e rising) n.1 ∙ only_named g e id rising (other_way (named_by e) id n.0)
 
 -- a command changes the nodes of the ids that it names alone
@@ -50,7 +43,7 @@ names_elsewhere s (command.Edit e) id rising none = by (is_some (fault_of s.grap
   where
     by : (t : Bool) → among id (cond t [] (named_by e ∷ [])) ≡ false → node_at (cond t s.graph (effect s.graph e)).nodes id ≡ node_at s.graph.nodes id
     by true h = refl
-    by false h = only_named s.graph e id rising (other_way (named_by e) id (neither (named_by e == id) false h).0)
+    by false h = only_named s.graph e id rising (other_way (named_by e) id (or_parts (named_by e == id) false h).0)
 names_elsewhere s (command.Merge m) id rising none = by (is_some (merge_fault s.graph m.edits)) none
   where
     by : (t : Bool) → among id (cond t [] (map named_by m.edits)) ≡ false → node_at (cond t s.graph (fold effect s.graph m.edits)).nodes id ≡ node_at s.graph.nodes id
@@ -61,24 +54,24 @@ names_elsewhere s (command.Sync r) id rising none = refl
 names_elsewhere s command.Frame id rising none = refl
 
 put_in_none : (x id : ℕ) (ys : List ℕ) → among id (put_in x ys) ≡ false → ((x == id) ≡ false) × (among id ys ≡ false)
-put_in_none x id [] none = neither (x == id) false none
+put_in_none x id [] none = or_parts (x == id) false none
 put_in_none x id (y ∷ ys) none = by (nat_lt x y) (y == x) refl (put_in_none x id ys) none
   where
     by : (t u : Bool) → (y == x) ≡ u → (among id (put_in x ys) ≡ false → ((x == id) ≡ false) × (among id ys ≡ false)) →
         among id (cond t (x ∷ y ∷ ys) (cond u (y ∷ ys) (y ∷ put_in x ys))) ≡ false → ((x == id) ≡ false) × (among id (y ∷ ys) ≡ false)
-    by true u e rest h = neither (x == id) (among id (y ∷ ys)) h
-    by false true e rest h = (subst (λ (n : ℕ). (n == id) ≡ false) (eqb-true y x e) (neither (y == id) (among id ys) h).0, h)
+    by true u e rest h = or_parts (x == id) (among id (y ∷ ys)) h
+    by false true e rest h = (subst (λ (n : ℕ). (n == id) ≡ false) (eqb-true y x e) (or_parts (y == id) (among id ys) h).0, h)
     by false false e rest h =
-        let n = neither (y == id) (among id (put_in x ys)) h in
+        let n = or_parts (y == id) (among id (put_in x ys)) h in
         let r = rest n.1 in
-        (r.0, both_false (y == id) (among id ys) n.0 r.1)
+        (r.0, or_from (y == id) (among id ys) n.0 r.1)
 
 put_all_none : (id : ℕ) (xs ys : List ℕ) → among id (put_all xs ys) ≡ false → (among id xs ≡ false) × (among id ys ≡ false)
 put_all_none id [] ys none = (refl, none)
 put_all_none id (x ∷ xs) ys none =
     let r = put_all_none id xs (put_in x ys) none in
     let p = put_in_none x id ys r.1 in
-    (both_false (x == id) (among id xs) p.0 r.0, p.1)
+    (or_from (x == id) (among id xs) p.0 r.0, p.1)
 
 -- An update list
 
@@ -94,7 +87,7 @@ updates_agree nodes (x ∷ ids) xs id rising agree =
         let same : id ≡ x = sym (eqb-true x id e) in
         ap (λ u. cond u (node_at nodes x) (node_at xs id)) (eq-eqb id x same) ∙ ap (node_at nodes) (sym same)
     by false e none =
-        ap (λ u. cond u (node_at nodes x) (node_at xs id)) (other_way x id e) ∙ agree (both_false (x == id) (among id ids) e none)
+        ap (λ u. cond u (node_at nodes x) (node_at xs id)) (other_way x id e) ∙ agree (or_from (x == id) (among id ids) e none)
 
 -- Nodes in rising order of their ids
 

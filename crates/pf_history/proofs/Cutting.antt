@@ -2,6 +2,7 @@
 use Rattle.std.proofs.Common.{◌≡◌, ℕ, ◌+◌, ◌-◌, ◌<◌, Bool, true, false, cond, ◌==◌, nat_lt, List, [], ◌∷◌, ◌++◌, map, take, length, slice_get, Some, refl, sym, ◌∙◌, ap, subst, arith}
 use Rattle.std.proofs.lemmas.List.{append-nil, map-append, take-append-le}
 use Rattle.std.proofs.Math.ListN.{get_or-append}
+use Rattle.std.proofs.lemmas.Bool.{ltb-true}
 use Rattle.std.proofs.lemmas.Bool.Decides.{nat_tests}
 use Rattle.std.specs.Prelude.{slice_index_or}
 use Rattle.std.specs.List.{AllByRecursion}
@@ -35,15 +36,12 @@ all_above a b (y ∷ ys) l h = (let k : b < y = h.0 in omega arith, all_above a 
 less : (a b : ℕ) → nat_lt a b ≡ false → (b == a) ≡ false → b < a
 less a b h k = grind (arith, nat_tests)
 
-below : (a b : ℕ) → nat_lt a b ≡ true → a < b
-below a b h = grind (arith, nat_tests)
-
 pub put_in_rising : (x : ℕ) (ys : List ℕ) → IsRising ys → IsRising (put_in x ys)
 put_in_rising x [] rising = (tt, tt)
 put_in_rising x (y ∷ ys) rising = by (nat_lt x y) (y == x) refl refl (put_in_rising x ys rising.1)
   where
     by : (t u : Bool) → nat_lt x y ≡ t → (y == x) ≡ u → IsRising (put_in x ys) → IsRising (cond t (x ∷ y ∷ ys) (cond u (y ∷ ys) (y ∷ put_in x ys)))
-    by true u et eu rest = let l : x < y = below x y et in ((l, all_above x y ys l rising.0), rising)
+    by true u et eu rest = let l : x < y = ltb-true x y et in ((l, all_above x y ys l rising.0), rising)
     by false true et eu rest = rising
     by false false et eu rest = (above_put y x ys (less x y et eu) rising.0, rest)
 

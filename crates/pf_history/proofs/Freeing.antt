@@ -1,7 +1,7 @@
 -- A freed serial stands in no frame after the retired ones.
 use Rattle.std.proofs.Common.{◌≡◌, ℕ, suc, zero, ◌+◌, ◌<◌, ◌≤◌, Bool, true, false, cond, not, ◌||◌, ◌==◌, nat_lt, nat_le, List, [], ◌∷◌, ◌++◌, map, length, take, drop, is_some, slice_get, Some, refl, sym, ◌∙◌, ap, subst, arith, append_assoc}
 use Rattle.std.proofs.lemmas.List.{append-nil, map-append, length-append}
-use Rattle.std.proofs.lemmas.Bool.Decides.{nat_tests}
+use Rattle.std.proofs.lemmas.Bool.{ltb-true, ltb-false, leb-true, leb-false, eqb-true, eq-eqb, ne_eqb}
 use Rattle.std.specs.List.{AllByRecursion, fold, filter, list_any}
 use Rattle.pf_model.specs.declared.nodes.Node.{Node}
 use Rattle.pf_model.specs.declared.nodes.Gone.{Gone}
@@ -133,14 +133,11 @@ Lacks x s = has_serial x s.graph.nodes ≡ false
 past_change : (x : ℕ) (g : SceneGraph) (id : ℕ) (f : Node → Node) → ((n : Node) → ((f n).serial ≡ n.serial) × ((f n).born ≡ n.born)) → IsPast x g → IsPast x (record g { nodes = change id f g.nodes })
 past_change x g id f same h = record { none = ap (times x) (change_tags id f g.nodes same) ∙ h.none; given = h.given }
 
-not_this : (a b : ℕ) → b < a → (a == b) ≡ false
-not_this a b l = grind (arith, nat_tests)
-
 past_effect : (x : ℕ) (g : SceneGraph) (e : Edit) → IsPast x g → IsPast x (effect g e)
 past_effect x g (edit.Make id kind) h =
     let n : Node = record { serial = g.next_serial; born = g.time; kind = kind; children = [] } in
     let p = put_times x id n g.nodes in
-    let z : one (g.next_serial == x) ≡ 0 = ap one (not_this g.next_serial x h.given) in
+    let z : one (g.next_serial == x) ≡ 0 = ap one (ne_eqb g.next_serial x (let l = h.given in omega (arith, l))) in
     record { none = omega (arith, p, z, h.none); given = omega (arith, h.given) }
 past_effect x g (edit.Add id child) h = past_change x g id _ (λ n. (refl, refl)) h
 past_effect x g (edit.Insert id place child) h = past_change x g id _ (λ n. (refl, refl)) h
@@ -286,12 +283,9 @@ kept_make found frames graves g id n serial born h =
 buried_now : (found : List FrameState) (frames : ℕ) (g : Gone) → length found ≡ frames → (frames < g.born → NoneFrom 0 g.serial found) → NoneFrom (grave_of frames g).last g.serial found
 buried_now found frames g many fresh = by (nat_le g.born frames) refl
   where
-    after_this : (a b : ℕ) → nat_le a b ≡ false → b < a
-    after_this a b e = grind (arith, nat_tests)
-
     by : (t : Bool) → nat_le g.born frames ≡ t → NoneFrom (cond t frames 0) g.serial found
     by true e = subst (λ (n : ℕ). NoneFrom n g.serial found) many (none_past g.serial found)
-    by false e = fresh (after_this g.born frames e)
+    by false e = fresh (leb-false g.born frames e)
 
 all_buried : (found : List FrameState) (frames : ℕ) (gs : List Gone) → length found ≡ frames → AllByRecursion (λ g. frames < g.born → NoneFrom 0 g.serial found) gs → AllByRecursion (λ g. NoneFrom g.last g.serial found) (map (grave_of frames) gs)
 all_buried found frames [] many h = tt
@@ -361,30 +355,20 @@ graph_kept found s h =
 grave_past : (found : List FrameState) (s : FrameState) (x : ℕ) → IsKept found s → 1 ≤ graves_of x s.graves → IsPast x s.graph
 grave_past found s x h l = record { none = let o = h.kept.once x in omega (arith, o, l); given = by (nat_lt x s.graph.next_serial) refl }
   where
-    not_below : (a b : ℕ) → nat_lt a b ≡ false → b ≤ a
-    not_below a b e = grind (arith, nat_tests)
-
-    is_below : (a b : ℕ) → nat_lt a b ≡ true → a < b
-    is_below a b e = grind (arith, nat_tests)
-
     by : (t : Bool) → nat_lt x s.graph.next_serial ≡ t → x < s.graph.next_serial
-    by true e = is_below x s.graph.next_serial e
-    by false e = let z = h.kept.below x (not_below x s.graph.next_serial e) in absurd (omega (arith, z, l))
+    by true e = ltb-true x s.graph.next_serial e
+    by false e = let z = h.kept.below x (ltb-false x s.graph.next_serial e) in absurd (omega (arith, z, l))
 
 -- one more frame: what is in a grave does not stand in it
 all_graves_lack : (found : List FrameState) (s : FrameState) → IsKept found s → (gs : List GraveState) → ((x : ℕ) → graves_of x gs ≤ graves_of x s.graves) → AllByRecursion (λ g. NoneFrom g.last g.serial found) gs → AllByRecursion (λ g. NoneFrom g.last g.serial (found ++ s ∷ [])) gs
 all_graves_lack found s h [] within k = tt
 all_graves_lack found s h (g ∷ gs) within k =
-    let this : one (g.serial == g.serial) ≡ 1 = ap one (self_same g.serial) in
+    let this : one (g.serial == g.serial) ≡ 1 = ap one (eq-eqb g.serial g.serial refl) in
     let w = within g.serial in
     let past = grave_past found s g.serial h (omega (arith, this, w)) in (
       none_append g.last g.serial found (s ∷ []) k.0 (times_none g.serial s.graph.nodes past.none, tt),
       all_graves_lack found s h gs (λ x. let v = within x in omega (arith, v)) k.1,
     )
-  where
-    self_same : (a : ℕ) → (a == a) ≡ true
-    self_same a = grind (arith, nat_tests)
-
 -- the frames found, with this one where the command is a Frame
 abbrev noted : List FrameState → FrameState → Command → List FrameState
 noted found s c = cond (is_frame c) (found ++ s ∷ []) found
@@ -437,19 +421,13 @@ freed_grave : (found : List FrameState) (r x : ℕ) (gs : List GraveState) → A
 freed_grave found r x [] h is = absurd (cc)
 freed_grave found r x (g ∷ gs) h is = by (is_due r g) refl (freed_grave found r x gs h.1) is
   where
-    due : (a b : ℕ) → nat_le a b ≡ true → a ≤ b
-    due a b e = grind (arith, nat_tests)
-
-    same : (a b : ℕ) → (a == b) ≡ true → a ≡ b
-    same a b e = grind (arith, nat_tests)
-
     more : NoneFrom r x found × (1 ≤ graves_of x gs) → NoneFrom r x found × (1 ≤ one (g.serial == x) + graves_of x gs)
     more rest = let l = rest.1 in (rest.0, omega (arith, l))
 
     here : is_due r g ≡ true → (list_any (λ y. y == x) (freed_by r gs) ≡ true → NoneFrom r x found × (1 ≤ graves_of x gs)) → (u : Bool) → (g.serial == x) ≡ u → (u || list_any (λ y. y == x) (freed_by r gs)) ≡ true → NoneFrom r x found × (1 ≤ one (g.serial == x) + graves_of x gs)
     here d rest true e is =
         let z : one (g.serial == x) ≡ 1 = ap one e in
-        (subst (λ (y : ℕ). NoneFrom r y found) (same g.serial x e) (none_later g.last r g.serial found (due g.last r d) h.0), omega (arith, z))
+        (subst (λ (y : ℕ). NoneFrom r y found) (eqb-true g.serial x e) (none_later g.last r g.serial found (leb-true g.last r d) h.0), omega (arith, z))
     here d rest false e is = more (rest is)
 
     by : (t : Bool) → is_due r g ≡ t → (list_any (λ y. y == x) (freed_by r gs) ≡ true → NoneFrom r x found × (1 ≤ graves_of x gs)) →
@@ -487,13 +465,10 @@ opening_kept channels =
         buried = tt;
         free = λ x l. tt;
         once = λ x. let o = one_most (0 == x) in omega (arith, o);
-        below = λ x l. let z : one (0 == x) ≡ 0 = ap one (above x l) in omega (arith, z);
+        below = λ x l. let z : one (0 == x) ≡ 0 = ap one (ne_eqb 0 x (omega (arith, l))) in omega (arith, z);
       };
       emptied = refl;
     }
-  where
-    above : (x : ℕ) → 1 ≤ x → (0 == x) ≡ false
-    above x l = grind (arith, nat_tests)
 
 -- Freed in the words of a reply
 
@@ -504,15 +479,9 @@ replied s seat r serials legal = let same : reply.Freed serials ≡ reply.Freed 
 within : (r x k : ℕ) (s : FrameState) (found : List FrameState) → NoneFrom r x found → slice_get found k ≡ Some s → has_serial x s.graph.nodes ≡ true → k + 1 ≤ r
 within r x k s found none at there = by (nat_le r k) refl
   where
-    from : (a b : ℕ) → nat_le a b ≡ true → a ≤ b
-    from a b e = grind (arith, nat_tests)
-
-    before : (a b : ℕ) → nat_le a b ≡ false → b < a
-    before a b e = grind (arith, nat_tests)
-
     by : (t : Bool) → nat_le r k ≡ t → k + 1 ≤ r
-    by true e = absurd (let lacks : has_serial x s.graph.nodes ≡ false = all_drop_at (Lacks x) r found none k s at (from r k e) in cc)
-    by false e = let l : k < r = before r k e in omega arith
+    by true e = absurd (let lacks : has_serial x s.graph.nodes ≡ false = all_drop_at (Lacks x) r found none k s at (leb-true r k e) in cc)
+    by false e = let l : k < r = leb-false r k e in omega arith
 
 pub freed_law : FreedLaw
 freed_law channels log j r x =

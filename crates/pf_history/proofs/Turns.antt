@@ -1,5 +1,6 @@
 -- Turns: those of a seat, those along a longer log, and the Frames among them.
 use Rattle.std.proofs.Common.{◌≡◌, ◌≢◌, ℕ, Bool, true, false, cond, ◌&&◌, ◌==◌, List, [], ◌∷◌, ◌++◌, map, refl, ◌∙◌, ap, eqb-true, eq-eqb}
+use Rattle.std.proofs.lemmas.Bool.{ne_eqb}
 use Rattle.std.proofs.lemmas.List.{append-nil}
 use Rattle.std.specs.List.{AllByRecursion, filter}
 use Rattle.pf_history.specs.declared.commands.Caller.{Caller}
@@ -60,16 +61,9 @@ at_is_by : (seat : ℕ) (caller : Caller) (log : Log) → AllByRecursion (λ e. 
 at_is_by seat caller [] h = tt
 at_is_by seat caller (e ∷ es) h = (both_or_none (e.0 == seat) (is_by caller e) (λ is. eq-eqb e.0 seat (h.0 is)), at_is_by seat caller es h.1)
 
-apart : (a b : ℕ) → a ≢ b → (a == b) ≡ false
-apart a b h = by (a == b) refl
-  where
-    by : (t : Bool) → (a == b) ≡ t → t ≡ false
-    by true e = absurd (h (eqb-true a b e))
-    by false e = refl
-
 none_at : (seat : ℕ) (caller : Caller) (log : Log) → AllByRecursion (λ e. e.0 ≢ seat) log → AllByRecursion (λ e. is_at seat caller e ≡ false) log
 none_at seat caller [] h = tt
-none_at seat caller (e ∷ es) h = (ap (λ t. t && is_caller caller e.1.caller) (apart e.0 seat h.0), none_at seat caller es h.1)
+none_at seat caller (e ∷ es) h = (ap (λ t. t && is_caller caller e.1.caller) (ne_eqb e.0 seat h.0), none_at seat caller es h.1)
 
 pub seat_law : SeatLaw
 seat_law channels seat caller log =

@@ -1,11 +1,12 @@
 -- The commands that the loop has come to are the first of all commands.
 use Rattle.std.proofs.Common.{◌≡◌, ◌∙◌, [], ◌∷◌, ◌++◌, ap, sym, subst, length, vec_len, rules}
+use Rattle.std.proofs.lemmas.List.{map-id}
 use Rattle.std.proofs.lemmas.Iterator.Consumers.{YieldsList-so_far, YieldsList-turn, YieldsList-end}
 use Rattle.std.proofs.lemmas.Iterator.Adapters.{YieldsList-from_vec}
 use Rattle.pf_history.specs.Objects.{FrameState, opening_state, next_state}
 use Rattle.pf_history.specs.Logs.{Log, state_after, entry_of, IsLegal}
 use Rattle.one_thread.specs.Runs.{entries_from}
-use Rattle.one_thread.proofs.Running.{IsNext, next_fits, counts_push, behind_push, entries_push, behind_entries, entries_legal, same_map}
+use Rattle.one_thread.proofs.Running.{IsNext, next_fits, counts_push, behind_push, entries_push, behind_entries, entries_legal}
 use Rattle.one_thread.proofs.runs.run.Goals as goal
 
 pub note-requires-clause-fits : goal.note-requires-clause-fits
@@ -51,5 +52,5 @@ returns-clause-legal c can =
     let road = YieldsList-from_vec c.args.commands.items gives.0 (gives.1 ∙ counted) in
     let all = YieldsList-end road c.loop-command.yielded c.loop-command.command-iterator c.loop-command.yielded_by c.next.result c.next.new.self c.in-None.is c.next.ensures.steps in
     let same : c.loop-command.history.entries ≡ entries_from s c.args.commands.items =
-    c.loop-command.invariant.entries ∙ ap (λ cs. entries_from s cs) (sym (same_map c.loop-command.yielded) ∙ all.0) in
+    c.loop-command.invariant.entries ∙ ap (λ cs. entries_from s cs) (sym (map-id c.loop-command.yielded) ∙ all.0) in
     subst (λ (es : Log). IsLegal c.args.channels es) (sym same) (entries_legal s c.args.commands.items can)
