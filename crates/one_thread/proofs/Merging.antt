@@ -10,22 +10,8 @@ use Rattle.pf_model.specs.Fits.{fits}
 
 effect_serials : (g : SceneGraph) (e : Edit) → (effect g e).next_serial ≤ g.next_serial + 1
 effect_serials g (edit.Make id kind) = omega arith
-effect_serials g (edit.Add parent child) = omega arith
-effect_serials g (edit.Insert parent place child) = omega arith
-effect_serials g (edit.Replace parent child by) = omega arith
-effect_serials g (edit.Remove parent child) = omega arith
 effect_serials g (edit.Delete id) = omega arith
-effect_serials g (edit.Pick id pick) = omega arith
-effect_serials g (edit.Mat id mat) = omega arith
-effect_serials g (edit.Trans id t) = omega arith
-effect_serials g (edit.Rot id h p r) = omega arith
-effect_serials g (edit.Scale id s) = omega arith
-effect_serials g (edit.Range id place value) = omega arith
-effect_serials g (edit.Centre id at) = omega arith
-effect_serials g (edit.Times id place frames) = omega arith
-effect_serials g (edit.Run id) = omega arith
-effect_serials g (edit.Stop id) = omega arith
-effect_serials g (edit.Verts id geom) = omega arith
+effect_serials g e = omega arith
 
 pub after_serials : (g : SceneGraph) (e : Edit) → (after g e).next_serial ≤ g.next_serial + 1
 after_serials g e = by (is_some (fault_of g e))

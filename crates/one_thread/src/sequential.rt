@@ -2,19 +2,20 @@
 ghost use Rattle.std.specs.Prelude.{◌≡◌, ◌+◌, ◌-◌, ◌^◌, ◌<◌, true, None, ◌++◌, length, map, replicate, slice_get, IfOk, OnOk};
 ghost use Rattle.std.specs.List.{filter, fold, list_all};
 ghost use Rattle.std.specs.Option.{option_map_or};
+ghost use Rattle.pf_model.specs.Angles.{home_view};
 ghost use Rattle.pf_model.specs.Edits.{fault_of, after, effect};
 ghost use Rattle.pf_model.specs.Fits.{fits};
 ghost use Rattle.pf_model.specs.Merges.{merge_fault, after_all};
-ghost use Rattle.pf_model.specs.Copies.{is_due, freed_by};
+ghost use Rattle.pf_model.specs.Copies.{is_due, freed_by, grave_of, graves_kept};
 ghost use Rattle.pf_history.specs.declared.commands.Reply.TheVariants as reply;
-ghost use Rattle.pf_history.specs.Objects.{home_view, opening_state, reply_of, next_state, grave_of, emptied, graves_kept};
+ghost use Rattle.pf_history.specs.Objects.{opening_state, reply_of, next_state, emptied};
 ghost use Rattle.pf_history.specs.Commands.{command_fits};
 ghost use Rattle.one_thread.specs.Runs.{CanCount};
 
-use fx_math::Vec3;
 use pf_history::{Command, Merge, Reply};
 use pf_io::NoMemory;
-use pf_model::{Edit, EditError, Fault, Gone, Graph, Serials, View};
+use pf_model::{Edit, EditError, Fault, Gone, Serials, View};
+use plain_graph::Graph;
 use std::alloc::Global;
 use std::marker::Model;
 
@@ -151,25 +152,13 @@ fn freed(alloc: Global, graves: &[Grave], retired: u32) -> Result<Serials, NoMem
     Ok(serials.finish())
 }
 
-/// A view from the origin, with angles of 0.
-fn home() -> View
-    ensures { result ≡ home_view }
-{
-    View {
-        eye: Vec3::ORIGIN,
-        h: 0,
-        p: 0,
-        r: 0,
-    }
-}
-
 /// The view of each of so many channels before any is set.
 #[tactic(auto, using(crate::proofs::Views::filled))]
 fn home_views(alloc: Global, channels: u8) -> Result<Vec<View>, NoMemory>
     ensures { IfOk result (λ views. views.items ≡ replicate channels home_view) }
 {
     let mut views = Vec::new(alloc);
-    views.resize(channels as usize, home())?;
+    views.resize(channels as usize, View::home())?;
     Ok(views)
 }
 

@@ -9,14 +9,14 @@ use Rattle.pf_model.specs.Graphs.{SceneGraph, Nodes, node_at, empty_scene}
 use Rattle.pf_model.specs.Edits.{fault_of, effect}
 use Rattle.pf_model.specs.Merges.{merge_fault}
 use Rattle.pf_model.specs.Limits.{IsRising}
-use Rattle.pf_model.specs.Copies.{named_by, updated, updated_by}
+use Rattle.pf_model.specs.Copies.{named_by, updated, updated_by, put_in, put_all, updates_of}
 use Rattle.pf_model.proofs.Named.{nodes_same, effect_rising, only_named, node_at_updated, updated_rising, updated_by_rising}
 use Rattle.pf_history.specs.declared.commands.Command.{Command}
 use Rattle.pf_history.specs.declared.commands.Command.TheVariants as command
 use Rattle.pf_history.specs.Objects.{FrameState, opening_state, next_state}
 use Rattle.pf_history.specs.Commands.{is_frame}
 use Rattle.pf_history.specs.Logs.{Log}
-use Rattle.pf_history.specs.Cuts.{put_in, put_all, names, updates_of, Cutting, cuttings, cut_at}
+use Rattle.pf_history.specs.Cuts.{names, Cutting, cuttings, cut_at}
 use Rattle.pf_history.specs.CutLaws.{CopyLaw}
 
 -- the ids of these nodes rise
@@ -76,7 +76,7 @@ put_all_none id (x ∷ xs) ys none =
 -- An update list
 
 -- what agrees with the nodes outside the ids agrees with them once these ids are updated
-updates_agree : (nodes : Nodes) (ids : List ℕ) (xs : Nodes) (id : ℕ) → AreRising xs → (among id ids ≡ false → node_at xs id ≡ node_at nodes id) → node_at (updated_by xs (updates_of nodes ids)) id ≡ node_at nodes id
+updates_agree : (nodes : Nodes) (ids : List ℕ) (xs : Nodes) (id : ℕ) → AreRising xs → (among id ids ≡ false → node_at xs id ≡ node_at nodes id) → node_at (updated_by xs (updates_of (node_at nodes) ids)) id ≡ node_at nodes id
 updates_agree nodes [] xs id rising agree = agree refl
 updates_agree nodes (x ∷ ids) xs id rising agree =
     updates_agree nodes ids (updated xs (x, node_at nodes x)) id (updated_rising xs (x, node_at nodes x) rising)
@@ -129,20 +129,20 @@ copies_right copy ids s [] rc rg agree = tt
 copies_right copy ids s (e ∷ es) rc rg agree =
     by (is_frame e.1.command) refl
     (λ is.
-    copies_right (updated_by copy (updates_of s.graph.nodes ids)) [] (next_state s e.1.command) es (updated_by_rising copy (updates_of s.graph.nodes ids) rc) (next_rising s e.1.command rg)
+    copies_right (updated_by copy (updates_of (node_at s.graph.nodes) ids)) [] (next_state s e.1.command) es (updated_by_rising copy (updates_of (node_at s.graph.nodes) ids) rc) (next_rising s e.1.command rg)
     (λ id none. updates_agree s.graph.nodes ids copy id rc (agree id) ∙ sym (ap (λ (n : Nodes). node_at n id) (is_frame_same s e.1.command is))))
     (copies_right copy (put_all (names s e.1.command) ids) (next_state s e.1.command) es rc (next_rising s e.1.command rg)
     (λ id none.
     let n = put_all_none id (names s e.1.command) ids none in
     agree id n.1 ∙ sym (names_elsewhere s e.1.command id rg n.0)))
   where
-    here : updated_by copy (updates_of s.graph.nodes ids) ≡ s.graph.nodes
+    here : updated_by copy (updates_of (node_at s.graph.nodes) ids) ≡ s.graph.nodes
     here =
-        nodes_same (updated_by copy (updates_of s.graph.nodes ids)) s.graph.nodes (updated_by_rising copy (updates_of s.graph.nodes ids) rc) rg
+        nodes_same (updated_by copy (updates_of (node_at s.graph.nodes) ids)) s.graph.nodes (updated_by_rising copy (updates_of (node_at s.graph.nodes) ids) rc) rg
         (λ id. updates_agree s.graph.nodes ids copy id rc (agree id))
 
     by : (t : Bool) → is_frame e.1.command ≡ t →
-        (is_frame e.1.command ≡ true → CopiesRight (updated_by copy (updates_of s.graph.nodes ids)) (cuttings [] (next_state s e.1.command) es)) →
+        (is_frame e.1.command ≡ true → CopiesRight (updated_by copy (updates_of (node_at s.graph.nodes) ids)) (cuttings [] (next_state s e.1.command) es)) →
         CopiesRight copy (cuttings (put_all (names s e.1.command) ids) (next_state s e.1.command) es) →
         CopiesRight copy (cond t (record { ids = ids; found = s } ∷ cuttings [] (next_state s e.1.command) es) (cuttings (put_all (names s e.1.command) ids) (next_state s e.1.command) es))
     by true is framed passed = (here, framed is)

@@ -6,14 +6,14 @@ use Rattle.std.proofs.lemmas.Bool.{ltb-true}
 use Rattle.std.proofs.lemmas.Bool.Decides.{nat_tests}
 use Rattle.std.specs.Prelude.{slice_index_or}
 use Rattle.std.specs.List.{AllByRecursion}
-use Rattle.pf_model.specs.Graphs.{Nodes}
+use Rattle.pf_model.specs.Graphs.{Look, node_at}
 use Rattle.pf_model.specs.Limits.{IsRising}
-use Rattle.pf_model.specs.Copies.{copy_of}
+use Rattle.pf_model.specs.Copies.{copy_of, put_in, put_all, updates_of}
 use Rattle.pf_history.specs.declared.commands.Entry.{Entry}
 use Rattle.pf_history.specs.Objects.{FrameState, opening_state, next_state}
 use Rattle.pf_history.specs.Commands.{is_frame}
 use Rattle.pf_history.specs.Logs.{Log, state_after, state_of, how_many}
-use Rattle.pf_history.specs.Cuts.{put_in, put_all, names, updates_of, Cutting, cuttings, found_by_frames, cut_at, cuts_of, marks_after, marks_from}
+use Rattle.pf_history.specs.Cuts.{names, Cutting, cuttings, found_by_frames, cut_at, cuts_of, marks_after, marks_from}
 use Rattle.pf_history.specs.CutLaws.{with_last, CutsLaw, CutsStayLaw}
 use Rattle.pf_history.proofs.Lists.{get_front}
 use Rattle.pf_history.proofs.Counting.{frames_after, how_many_step}
@@ -49,9 +49,9 @@ pub put_all_rising : (xs ys : List ℕ) → IsRising ys → IsRising (put_all xs
 put_all_rising [] ys rising = rising
 put_all_rising (x ∷ xs) ys rising = put_all_rising xs (put_in x ys) (put_in_rising x ys rising)
 
-updates_ids : (nodes : Nodes) (ids : List ℕ) → map (λ u. u.0) (updates_of nodes ids) ≡ ids
-updates_ids nodes [] = refl
-updates_ids nodes (x ∷ ids) = ap (λ xs. x ∷ xs) (updates_ids nodes ids)
+updates_ids : (look : Look) (ids : List ℕ) → map (λ u. u.0) (updates_of look ids) ≡ ids
+updates_ids look [] = refl
+updates_ids look (x ∷ ids) = ap (λ xs. x ∷ xs) (updates_ids look ids)
 
 -- Along a log
 
@@ -64,7 +64,7 @@ cuttings_rising ids s (e ∷ es) rising =
     by : (t : Bool) → AllByRecursion (λ us. IsRising (map (λ u. u.0) us)) (map cut_at (cuttings [] (next_state s e.1.command) es)) →
         AllByRecursion (λ us. IsRising (map (λ u. u.0) us)) (map cut_at (cuttings (put_all (names s e.1.command) ids) (next_state s e.1.command) es)) →
         AllByRecursion (λ us. IsRising (map (λ u. u.0) us)) (map cut_at (cond t (record { ids = ids; found = s } ∷ cuttings [] (next_state s e.1.command) es) (cuttings (put_all (names s e.1.command) ids) (next_state s e.1.command) es)))
-    by true framed passed = (subst IsRising (sym (updates_ids s.graph.nodes ids)) rising, framed)
+    by true framed passed = (subst IsRising (sym (updates_ids (node_at s.graph.nodes) ids)) rising, framed)
     by false framed passed = passed
 
 marks_rise : (ids : List ℕ) (s : FrameState) (log : Log) → IsRising ids → IsRising (marks_from ids s log)

@@ -8,12 +8,12 @@ use Rattle.pf_model.specs.declared.nodes.Gone.{Gone}
 use Rattle.pf_model.specs.Graphs.{SceneGraph}
 use Rattle.pf_model.specs.Edits.{fault_of, effect, after}
 use Rattle.pf_model.specs.Merges.{merge_fault, after_all}
-use Rattle.pf_model.specs.Copies.{GraveState, is_due}
+use Rattle.pf_model.specs.Copies.{GraveState, is_due, grave_of}
 use Rattle.pf_model.proofs.Levels.{all_map}
 use Rattle.pf_history.specs.declared.commands.Command.{Command}
 use Rattle.pf_history.specs.declared.commands.Command.TheVariants as command
 use Rattle.pf_history.specs.declared.commands.Entry.{Entry}
-use Rattle.pf_history.specs.Objects.{FrameState, opening_state, next_state, grave_of}
+use Rattle.pf_history.specs.Objects.{FrameState, opening_state, next_state}
 use Rattle.pf_history.specs.Logs.{Log, state_after, state_of, state_at, CanMake, IsLegalEntry, IsLegalFrom, entry_of}
 use Rattle.pf_history.specs.Laws.{OwnEntryLaw, IsOwnThere, LegalEntryLaw, PreparationLaw, GravesLaw}
 use Rattle.pf_history.proofs.Lists.{all_append, all_filter}
@@ -70,22 +70,8 @@ kept_after P step s (e ∷ es) h = kept_after P step (next_state s e.1.command) 
 
 pub effect_time : (g : SceneGraph) (e : Edit) → (effect g e).time ≡ g.time
 effect_time g (edit.Make id kind) = refl
-effect_time g (edit.Add parent child) = refl
-effect_time g (edit.Insert parent place child) = refl
-effect_time g (edit.Replace parent child by) = refl
-effect_time g (edit.Remove parent child) = refl
 effect_time g (edit.Delete id) = refl
-effect_time g (edit.Pick id pick) = refl
-effect_time g (edit.Mat id mat) = refl
-effect_time g (edit.Trans id t) = refl
-effect_time g (edit.Rot id h p r) = refl
-effect_time g (edit.Scale id s) = refl
-effect_time g (edit.Range id place value) = refl
-effect_time g (edit.Centre id at) = refl
-effect_time g (edit.Times id place frames) = refl
-effect_time g (edit.Run id) = refl
-effect_time g (edit.Stop id) = refl
-effect_time g (edit.Verts id geom) = refl
+effect_time g e = refl
 
 pub after_time : (g : SceneGraph) (e : Edit) → (after g e).time ≡ g.time
 after_time g e = by (is_some (fault_of g e))

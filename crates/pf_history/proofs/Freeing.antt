@@ -9,18 +9,19 @@ use Rattle.pf_model.specs.declared.edits.Edit.{Edit}
 use Rattle.pf_model.specs.declared.edits.Edit.TheVariants as edit
 use Rattle.pf_model.specs.Graphs.{SceneGraph, Nodes, node_at, change, put, without}
 use Rattle.pf_model.specs.Edits.{fault_of, effect, after, remains}
+use Rattle.pf_model.specs.NodeEdits.{node_after}
 use Rattle.pf_model.specs.Merges.{merge_fault, after_all}
-use Rattle.pf_model.specs.Copies.{GraveState, is_due, freed_by}
+use Rattle.pf_model.specs.Copies.{GraveState, named_by, is_due, freed_by, put_all, grave_of}
 use Rattle.pf_model.proofs.Places.{node_at_step}
 use Rattle.pf_model.proofs.Levels.{all_map}
 use Rattle.pf_history.specs.declared.commands.Command.{Command}
 use Rattle.pf_history.specs.declared.commands.Command.TheVariants as command
 use Rattle.pf_history.specs.declared.commands.Reply.TheVariants as reply
 use Rattle.pf_history.specs.declared.commands.Entry.{Entry}
-use Rattle.pf_history.specs.Objects.{FrameState, opening_state, next_state, grave_of}
+use Rattle.pf_history.specs.Objects.{FrameState, opening_state, next_state}
 use Rattle.pf_history.specs.Commands.{is_frame}
 use Rattle.pf_history.specs.Logs.{Log, state_after, state_at, IsLegalEntry}
-use Rattle.pf_history.specs.Cuts.{put_all, names, Cutting, cuttings, found_by_frames}
+use Rattle.pf_history.specs.Cuts.{names, Cutting, cuttings, found_by_frames}
 use Rattle.pf_history.specs.CutLaws.{has_serial, is_among, sync_entry, FreedLaw}
 use Rattle.pf_history.proofs.Lists.{all_append, all_filter, all_drop, all_drop_at}
 use Rattle.pf_history.proofs.Folds.{legal_at}
@@ -66,6 +67,25 @@ graves_filter x test (g ∷ gs) = by (test g) (graves_filter x test gs)
     by false rest = omega arith
 
 -- A node changed, put and taken out
+
+birth_kept : (time : ℕ) (e : Edit) (n : Node) → ((node_after time e n).serial ≡ n.serial) × ((node_after time e n).born ≡ n.born)
+birth_kept time (edit.Make id kind) n = (refl, refl)
+birth_kept time (edit.Add parent child) n = (refl, refl)
+birth_kept time (edit.Insert parent place child) n = (refl, refl)
+birth_kept time (edit.Replace parent child by) n = (refl, refl)
+birth_kept time (edit.Remove parent child) n = (refl, refl)
+birth_kept time (edit.Delete id) n = (refl, refl)
+birth_kept time (edit.Pick id pick) n = (refl, refl)
+birth_kept time (edit.Mat id mat) n = (refl, refl)
+birth_kept time (edit.Trans id t) n = (refl, refl)
+birth_kept time (edit.Rot id h p r) n = (refl, refl)
+birth_kept time (edit.Scale id s) n = (refl, refl)
+birth_kept time (edit.Range id place value) n = (refl, refl)
+birth_kept time (edit.Centre id at) n = (refl, refl)
+birth_kept time (edit.Times id place frames) n = (refl, refl)
+birth_kept time (edit.Run id) n = (refl, refl)
+birth_kept time (edit.Stop id) n = (refl, refl)
+birth_kept time (edit.Verts id geom) n = (refl, refl)
 
 change_tags : (id : ℕ) (f : Node → Node) (nodes : Nodes) → ((n : Node) → ((f n).serial ≡ n.serial) × ((f n).born ≡ n.born)) → tags (change id f nodes) ≡ tags nodes
 change_tags id f [] same = refl
@@ -139,22 +159,8 @@ past_effect x g (edit.Make id kind) h =
     let p = put_times x id n g.nodes in
     let z : one (g.next_serial == x) ≡ 0 = ap one (ne_eqb g.next_serial x (let l = h.given in omega (arith, l))) in
     record { none = omega (arith, p, z, h.none); given = omega (arith, h.given) }
-past_effect x g (edit.Add id child) h = past_change x g id _ (λ n. (refl, refl)) h
-past_effect x g (edit.Insert id place child) h = past_change x g id _ (λ n. (refl, refl)) h
-past_effect x g (edit.Replace id child by) h = past_change x g id _ (λ n. (refl, refl)) h
-past_effect x g (edit.Remove id child) h = past_change x g id _ (λ n. (refl, refl)) h
 past_effect x g (edit.Delete id) h = let w = without_times x 0 id g.nodes in record { none = omega (arith, w, h.none); given = h.given }
-past_effect x g (edit.Pick id pick) h = past_change x g id _ (λ n. (refl, refl)) h
-past_effect x g (edit.Mat id mat) h = past_change x g id _ (λ n. (refl, refl)) h
-past_effect x g (edit.Trans id t) h = past_change x g id _ (λ n. (refl, refl)) h
-past_effect x g (edit.Rot id a b c) h = past_change x g id _ (λ n. (refl, refl)) h
-past_effect x g (edit.Scale id s) h = past_change x g id _ (λ n. (refl, refl)) h
-past_effect x g (edit.Range id place value) h = past_change x g id _ (λ n. (refl, refl)) h
-past_effect x g (edit.Centre id at) h = past_change x g id _ (λ n. (refl, refl)) h
-past_effect x g (edit.Times id place frames) h = past_change x g id _ (λ n. (refl, refl)) h
-past_effect x g (edit.Run id) h = past_change x g id _ (λ n. (refl, refl)) h
-past_effect x g (edit.Stop id) h = past_change x g id _ (λ n. (refl, refl)) h
-past_effect x g (edit.Verts id geom) h = past_change x g id _ (λ n. (refl, refl)) h
+past_effect x g e h = past_change x g (named_by e) (node_after g.time e) (birth_kept g.time e) h
 
 past_effects : (x : ℕ) (es : List Edit) (g : SceneGraph) → IsPast x g → IsPast x (fold effect g es)
 past_effects x [] g h = h
@@ -319,22 +325,8 @@ kept_delete found frames graves g id h =
 
 kept_effect : (found : List FrameState) (frames : ℕ) (graves : List GraveState) (g : SceneGraph) (e : Edit) → GraphKept found frames graves g → GraphKept found frames graves (effect g e)
 kept_effect found frames graves g (edit.Make id kind) h = kept_make found frames graves g id (record { serial = g.next_serial; born = g.time; kind = kind; children = [] }) refl refl h
-kept_effect found frames graves g (edit.Add id child) h = kept_change found frames graves g id _ (λ n. (refl, refl)) h
-kept_effect found frames graves g (edit.Insert id place child) h = kept_change found frames graves g id _ (λ n. (refl, refl)) h
-kept_effect found frames graves g (edit.Replace id child by) h = kept_change found frames graves g id _ (λ n. (refl, refl)) h
-kept_effect found frames graves g (edit.Remove id child) h = kept_change found frames graves g id _ (λ n. (refl, refl)) h
 kept_effect found frames graves g (edit.Delete id) h = kept_delete found frames graves g id h
-kept_effect found frames graves g (edit.Pick id pick) h = kept_change found frames graves g id _ (λ n. (refl, refl)) h
-kept_effect found frames graves g (edit.Mat id mat) h = kept_change found frames graves g id _ (λ n. (refl, refl)) h
-kept_effect found frames graves g (edit.Trans id t) h = kept_change found frames graves g id _ (λ n. (refl, refl)) h
-kept_effect found frames graves g (edit.Rot id a b c) h = kept_change found frames graves g id _ (λ n. (refl, refl)) h
-kept_effect found frames graves g (edit.Scale id s) h = kept_change found frames graves g id _ (λ n. (refl, refl)) h
-kept_effect found frames graves g (edit.Range id place value) h = kept_change found frames graves g id _ (λ n. (refl, refl)) h
-kept_effect found frames graves g (edit.Centre id at) h = kept_change found frames graves g id _ (λ n. (refl, refl)) h
-kept_effect found frames graves g (edit.Times id place span) h = kept_change found frames graves g id _ (λ n. (refl, refl)) h
-kept_effect found frames graves g (edit.Run id) h = kept_change found frames graves g id _ (λ n. (refl, refl)) h
-kept_effect found frames graves g (edit.Stop id) h = kept_change found frames graves g id _ (λ n. (refl, refl)) h
-kept_effect found frames graves g (edit.Verts id geom) h = kept_change found frames graves g id _ (λ n. (refl, refl)) h
+kept_effect found frames graves g e h = kept_change found frames graves g (named_by e) (node_after g.time e) (birth_kept g.time e) h
 
 kept_effects : (found : List FrameState) (frames : ℕ) (graves : List GraveState) (es : List Edit) (g : SceneGraph) → GraphKept found frames graves g → GraphKept found frames graves (fold effect g es)
 kept_effects found frames graves [] g h = h

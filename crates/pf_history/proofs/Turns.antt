@@ -3,6 +3,7 @@ use Rattle.std.proofs.Common.{◌≡◌, ◌≢◌, ℕ, Bool, true, false, cond
 use Rattle.std.proofs.lemmas.Bool.{ne_eqb}
 use Rattle.std.proofs.lemmas.List.{append-nil}
 use Rattle.std.specs.List.{AllByRecursion, filter}
+use Rattle.pf_model.specs.Copies.{put_all}
 use Rattle.pf_history.specs.declared.commands.Caller.{Caller}
 use Rattle.pf_history.specs.declared.commands.Caller.TheVariants.{App}
 use Rattle.pf_history.specs.declared.commands.Command.{Command}
@@ -12,7 +13,7 @@ use Rattle.pf_history.specs.Commands.{is_frame, caller_of}
 use Rattle.pf_history.specs.Objects.{FrameState, opening_state, next_state}
 use Rattle.pf_history.specs.Logs.{Log, state_after, IsLegalFrom, is_caller, is_by, own}
 use Rattle.pf_history.specs.Asks.{Turn, turns_from, is_at}
-use Rattle.pf_history.specs.Cuts.{put_all, names, Cutting, cuttings}
+use Rattle.pf_history.specs.Cuts.{names, Cutting, cuttings}
 use Rattle.pf_history.specs.FitLaws.{SeatLaw, found_by, FramesLaw}
 
 pub turns_append : (test : ℕ × Entry → Bool) (s : FrameState) (xs ys : Log) → turns_from test s (xs ++ ys) ≡ turns_from test s xs ++ turns_from test (state_after s xs) ys
