@@ -1,5 +1,5 @@
 -- The copy that the cuts keep has the nodes of each Frame's graph.
-use Rattle.std.proofs.Common.{◌≡◌, ℕ, suc, zero, Bool, true, false, cond, ◌||◌, ◌==◌, nat_lt, List, [], ◌∷◌, map, take, is_some, slice_get, Some, refl, sym, ◌∙◌, ap, subst, arith, add-one, eqb-true, eq-eqb}
+use Rattle.std.proofs.Common.{◌≡◌, ℕ, suc, zero, Bool, true, false, cond, ◌==◌, nat_lt, List, [], ◌∷◌, map, take, is_some, slice_get, Some, refl, sym, ◌∙◌, ap, subst, arith, add-one, eqb-true, eq-eqb}
 use Rattle.std.proofs.lemmas.Bool.{or_parts, or_from}
 use Rattle.std.proofs.lemmas.Bool.Decides.{nat_tests}
 use Rattle.std.proofs.lemmas.Option.{same_Some}

@@ -261,22 +261,16 @@ kept_make found frames graves g id n serial born h =
       once = λ x. once x (n.serial == x) refl;
       below = λ x l.
           let p = put_times x id n g.nodes in
-          let z : one (n.serial == x) ≡ 0 = ap one (other x (omega (arith, l, serial))) in
+          let z : one (n.serial == x) ≡ 0 = ap one (ne_eqb n.serial x (omega (arith, l, serial))) in
           let b = h.below x (omega (arith, l)) in
           omega (arith, p, z, b);
     }
   where
-    other : (x : ℕ) → n.serial < x → (n.serial == x) ≡ false
-    other x l = grind (arith, nat_tests)
-
-    same : (x : ℕ) → (n.serial == x) ≡ true → n.serial ≡ x
-    same x e = grind (arith, nat_tests)
-
     once : (x : ℕ) (t : Bool) → (n.serial == x) ≡ t → times x (tags (put id n g.nodes)) + graves_of x (all_graves frames graves g) ≤ 1
     once x true e =
         let p = put_times x id n g.nodes in
         let z : one (n.serial == x) ≡ 1 = ap one e in
-        let i = same x e in
+        let i = eqb-true n.serial x e in
         let b = h.below x (omega (arith, i, serial)) in
         omega (arith, p, z, b)
     once x false e =
@@ -361,6 +355,7 @@ all_graves_lack found s h (g ∷ gs) within k =
       none_append g.last g.serial found (s ∷ []) k.0 (times_none g.serial s.graph.nodes past.none, tt),
       all_graves_lack found s h gs (λ x. let v = within x in omega (arith, v)) k.1,
     )
+
 -- the frames found, with this one where the command is a Frame
 abbrev noted : List FrameState → FrameState → Command → List FrameState
 noted found s c = cond (is_frame c) (found ++ s ∷ []) found

@@ -23,8 +23,9 @@ CopyLaw =
 abbrev pub with_last : {X : Type 0} → Bool → List X → X → List X
 with_last test xs x = if test then xs ++ x ∷ [] else xs
 
--- What an entry adds to the Frames of a log: a Frame the state that it found and the update list of the marked ids, each
--- with its node in that state, and then no id is marked; any other command no Frame, and the ids that it names are marked.
+-- What an entry adds to the Frames of a log: a Frame the state that it found and the update list of the marked ids,
+-- each with its node in that state, and then no id is marked; any other command no Frame, and the ids that it names are
+-- marked.
 pub record AddsToCuts (channels : ℕ) (log : Log) (e : ℕ × Entry) : Type 0 where
   pub found : found_by_frames channels (log ++ e ∷ [])
       ≡ with_last (is_frame e.1.command) (found_by_frames channels log) (state_of channels log)

@@ -32,7 +32,8 @@ impl History {
         }
     }
 
-    /// Makes room for `n` more entries; the entries stay, and no room is lost. It fails only where that room was missing.
+    /// Makes room for `n` more entries; the entries stay, and no room is lost. It fails only where that room was
+    /// missing.
     pub fn reserve(&mut self, n: usize) -> Result<(), NoMemory>
         ensures room { OnOk result (n ≤ self.new.spare) }
         ensures entries { self.new.entries ≡ self.old.entries }

@@ -45,8 +45,8 @@ pub fn following_is_fitting()
     ensures { FitLaw }
 {}
 
-/// The turns of a seat for a caller are the caller's where each of its entries has that seat, and entries of other seats
-/// add none.
+/// The turns of a seat for a caller are the caller's where each of its entries has that seat, and entries of other
+/// seats add none.
 pub fn turns_of_a_seat_are_the_callers()
     ensures { SeatLaw }
 {}
