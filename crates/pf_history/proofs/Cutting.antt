@@ -9,6 +9,7 @@ use Rattle.std.specs.List.{AllByRecursion}
 use Rattle.pf_model.specs.Graphs.{Look, node_at}
 use Rattle.pf_model.specs.Limits.{IsRising}
 use Rattle.pf_model.specs.Copies.{copy_of, put_in, put_all, updates_of}
+use Rattle.pf_model.proofs.Levels.{all_map}
 use Rattle.pf_history.specs.declared.commands.Entry.{Entry}
 use Rattle.pf_history.specs.Objects.{FrameState, opening_state, next_state}
 use Rattle.pf_history.specs.Commands.{is_frame}
@@ -29,10 +30,6 @@ above_put m x (y ∷ ys) l h = by (nat_lt x y) (y == x) (above_put m x ys l h.1)
     by false true rest = h
     by false false rest = (h.0, rest)
 
-all_above : (a b : ℕ) (ys : List ℕ) → a < b → AllByRecursion (λ y. b < y) ys → AllByRecursion (λ y. a < y) ys
-all_above a b [] l h = tt
-all_above a b (y ∷ ys) l h = (let k : b < y = h.0 in omega arith, all_above a b ys l h.1)
-
 less : (a b : ℕ) → nat_lt a b ≡ false → (b == a) ≡ false → b < a
 less a b h k = grind (arith, nat_tests)
 
@@ -41,7 +38,7 @@ put_in_rising x [] rising = (tt, tt)
 put_in_rising x (y ∷ ys) rising = by (nat_lt x y) (y == x) refl refl (put_in_rising x ys rising.1)
   where
     by : (t u : Bool) → nat_lt x y ≡ t → (y == x) ≡ u → IsRising (put_in x ys) → IsRising (cond t (x ∷ y ∷ ys) (cond u (y ∷ ys) (y ∷ put_in x ys)))
-    by true u et eu rest = let l : x < y = ltb-true x y et in ((l, all_above x y ys l rising.0), rising)
+    by true u et eu rest = let l : x < y = ltb-true x y et in ((l, all_map (λ z. y < z) (λ z. x < z) (λ z k. omega (arith, k, l)) ys rising.0), rising)
     by false true et eu rest = rising
     by false false et eu rest = (above_put y x ys (less x y et eu) rising.0, rest)
 
