@@ -18,7 +18,7 @@ pub mod views;
 
 pub use attributes::{attribute_fault, kind_after};
 pub use choices::chosen_children;
-pub use edits::{Edit, EditError, EditList, Fault};
+pub use edits::{Edit, EditError, EditList, EditListBuilder, Fault};
 pub use geometry::{Geom, Tri};
 pub use lines::{AppLine, AppStep, BaseLine, BaseStep};
 pub use lists::{Ids, Ranges, Serials, SerialsBuilder, ShortList, Times};
