@@ -228,3 +228,7 @@ all_commands =
     ∷ command.Edit form.Stop ∷ command.Edit form.Lod ∷ command.Edit form.Seq ∷ command.Edit form.Switch ∷ command.Edit form.Layer
     ∷ command.Edit form.Scs ∷ command.Size ∷ command.Lens ∷ command.Back ∷ command.Channels
     ∷ command.App ∷ command.Dbase ∷ []
+
+-- a line behind the first: its command and its numbers
+abbrev pub Entry : Type 0
+Entry = Command × List ℤ

@@ -16,12 +16,8 @@ use Rattle.play_format.specs.declared.places.Version.TheVariants as version
 use Rattle.play_format.specs.declared.places.Spot.{Spot}
 use Rattle.play_format.specs.Numbers.{number_at}
 use Rattle.play_format.specs.Words.{words, pieces}
-use Rattle.play_format.specs.Commands.{text_of, limits_of, words_in, all_commands}
+use Rattle.play_format.specs.Commands.{Entry, text_of, limits_of, words_in, all_commands}
 use Rattle.play_format.specs.Places.{may_stand, may_end, is_ordered, has_room, next_spot, start}
-
--- a line behind the first: its command and its numbers
-abbrev pub Entry : Type 0
-Entry = Command × List ℤ
 
 infixl 10 ◌>>=◌
 abbrev pub ◌>>=◌ : {A B E : Type 0} → Result A E → (A → Result B E) → Result B E

@@ -4,18 +4,19 @@ ghost use Rattle.play_format.specs.declared.refusal.Why.TheVariants as whys;
 ghost use Rattle.play_format.specs.Outcomes.{Refuses};
 ghost use Rattle.play_format.specs.Places.{may_end, start};
 ghost use Rattle.play_format.specs.Grammar.{reading, with_version, judged_version};
-ghost use Rattle.play_format.specs.Steps.{unread};
-ghost use Rattle.play_format.specs.Sections.{stand, LineRead, Passes, IsAt, IsSize, StartRead, HeaderRead};
+ghost use Rattle.play_format.specs.Rests.{unread, stand};
+ghost use Rattle.play_format.specs.Sections.{LineRead, Passes, IsAt, IsSize, StartRead, HeaderRead};
 ghost use Rattle.play_format.specs.declared.commands.Command.TheVariants as command;
 ghost use Rattle.play_format.specs.declared.places.Place.TheVariants as place;
 
 use crate::commands::Command;
-use crate::making::{byte_at, id_at};
+use crate::making::{u8_at, u16_at};
 use crate::places::{Version, number};
 use crate::reader::{MAX_LINE_LEN, Reader};
 use crate::refusal::{ParseError, Refusal, Why};
 use crate::words::cut;
 use fx_math::Lens;
+use crate::reader::MAX_PLAY_BYTES;
 
 /// Reads a line where a play may not end.
 fn line(reader: &mut Reader, numbers: &mut Vec<i32>) -> Result<Command, ParseError>
@@ -39,7 +40,7 @@ fn size(reader: &mut Reader, numbers: &mut Vec<i32>) -> Result<(u16, u16), Parse
         (λ e. Refuses e (unread reader.old.spot reader.old.line reader.old.rest.now)) }
 {
     line(reader, numbers)?;
-    Ok((id_at(numbers, 0), id_at(numbers, 1)))
+    Ok((u16_at(numbers, 0), u16_at(numbers, 1)))
 }
 
 /// Reads the line `lens`, for pictures of this size.
@@ -53,7 +54,7 @@ fn lens(reader: &mut Reader, numbers: &mut Vec<i32>, w: u16, h: u16) -> Result<L
 {
     line(reader, numbers)?;
     let (near, far) = (number(numbers, 1), number(numbers, 2));
-    match Lens::new(w, h, id_at(numbers, 0), near, far) {
+    match Lens::new(w, h, u16_at(numbers, 0), near, far) {
         Some(lens) => Ok(lens),
         None => unreachable!(),
     }
@@ -69,9 +70,9 @@ fn back(reader: &mut Reader, numbers: &mut Vec<i32>) -> Result<[u8; 3], ParseErr
 {
     line(reader, numbers)?;
     Ok([
-        byte_at(numbers, 0),
-        byte_at(numbers, 1),
-        byte_at(numbers, 2),
+        u8_at(numbers, 0),
+        u8_at(numbers, 1),
+        u8_at(numbers, 2),
     ])
 }
 
@@ -106,16 +107,13 @@ pub fn header(reader: &mut Reader, numbers: &mut Vec<i32>) -> Result<(Lens, [u8;
     Ok((lens, back))
 }
 
-/// The most bytes of a play.
-const MAX_LEN: usize = 16_777_216;
-
 /// Reads the first line of a text: the version, and what is left behind it.
 pub fn version(text: &[u8]) -> Result<(Version, &[u8]), ParseError>
     ensures { MatchResult result
         (λ r. reading text.now ≡ with_version r.0 (unread (start r.0) 2 r.1.now))
         (λ e. Refuses e (reading text.now)) }
 {
-    if text.len() > MAX_LEN {
+    if text.len() > MAX_PLAY_BYTES {
         return Err(ParseError::Refused(Refusal {
             line: 0,
             why: Why::Length,

@@ -4,8 +4,8 @@ ghost use Rattle.std.specs.List.{prefix_len, take_while, list_all};
 ghost use Rattle.std.specs.Char.{is_ascii_digit};
 ghost use Rattle.std.specs.Str.Parse.{digits_value};
 ghost use Rattle.play_format.specs.declared.refusal.Why.TheVariants as whys;
-ghost use Rattle.play_format.specs.Words.{front_word, front_len, IsBehind};
-ghost use Rattle.play_format.specs.Numbers.{is_natural, is_number, value_of, number_at, held, minus};
+ghost use Rattle.play_format.specs.Rests.{front_word, front_len, IsBehind, held};
+ghost use Rattle.play_format.specs.Numbers.{is_natural, is_number, value_of, number_at, minus};
 
 use crate::refusal::Why;
 

@@ -1,15 +1,18 @@
 //! The lines of a play, one after the other.
 ghost use Rattle.std.specs.Prelude.{◌≡◌, ◌+◌, ◌<◌, ◌≤◌, [], ◌∷◌, length, Ok, IfOk, IfSome, IfNone, IsTrue, OnOk, MatchResult, MatchOption};
 ghost use Rattle.play_format.specs.Outcomes.{Refuses};
-ghost use Rattle.play_format.specs.Places.{IsSound, may_end, next_spot};
+ghost use Rattle.play_format.specs.Places.{may_end, next_spot, Fits};
 ghost use Rattle.play_format.specs.Grammar.{entry_at, line_at, end_at};
-ghost use Rattle.play_format.specs.Steps.{unread, with_front, Fits};
+ghost use Rattle.play_format.specs.Rests.{IsSound, unread, with_front};
 
 use crate::commands::Command;
 use crate::places::Spot;
 use crate::reading::read_line;
 use crate::refusal::{ParseError, Refusal, Why};
 use crate::words::cut;
+
+/// The most bytes of a play.
+pub const MAX_PLAY_BYTES: usize = 16_777_216;
 
 /// The most lines of a play.
 const MAX_LINES: u32 = 262_144;

@@ -3,11 +3,12 @@ ghost use Rattle.std.specs.Prelude.{◌≡◌, ◌≤◌, ◌+◌, ◌&&◌, Ok,
 ghost use Rattle.std.specs.List.{find};
 ghost use Rattle.std.specs.Option.{option_map};
 ghost use Rattle.std.specs.Str.{bytes_eq};
-ghost use Rattle.play_format.specs.Words.{words, left_words};
-ghost use Rattle.play_format.specs.Commands.{text_of, tail_of, words_in, all_commands};
-ghost use Rattle.play_format.specs.Places.{may_stand, IsSound};
-ghost use Rattle.play_format.specs.Grammar.{Entry, numbers_at, switched, switch_form, picked, named, entry_at, fields_at};
+ghost use Rattle.play_format.specs.Words.{words};
+ghost use Rattle.play_format.specs.Commands.{text_of, tail_of, words_in, all_commands, Entry};
+ghost use Rattle.play_format.specs.Places.{may_stand};
+ghost use Rattle.play_format.specs.Grammar.{numbers_at, switched, switch_form, picked, named, entry_at, fields_at};
 ghost use Rattle.play_format.specs.Outcomes.{Fails};
+ghost use Rattle.play_format.specs.Rests.{left_words, IsSound};
 
 use crate::commands::{ALL, Command, Form};
 use crate::numbers::{Limits, number};

@@ -1,8 +1,8 @@
 //! The two sections of a play, step by step.
 ghost use Rattle.std.specs.Prelude.{◌≡◌, ◌+◌, ◌≤◌, Bool, MatchResult, length};
 ghost use Rattle.play_format.specs.Outcomes.{Refuses};
-ghost use Rattle.play_format.specs.Steps.{unread};
-ghost use Rattle.play_format.specs.Sections.{stand, TrianglesRead, IsAt, IsInBase, AppTurn, AppSection, BaseTurn, BaseSection};
+ghost use Rattle.play_format.specs.Rests.{unread, stand};
+ghost use Rattle.play_format.specs.Sections.{TrianglesRead, IsAt, IsInBase, AppTurn, AppSection, BaseTurn, BaseSection};
 ghost use Rattle.play_format.specs.declared.places.Place.TheVariants as place;
 
 use crate::making::{app_step_of, base_step_of, tri_of};

@@ -133,8 +133,14 @@ fn each_cause_at_each_kind_of_line(rt: HostRuntime) -> Result<(), Fail> {
     }
     for line in &NEW_LINES {
         check(&rt, alloc, SECOND, 7, line)?;
-        let unknown = refused(alloc, FIRST, line.split(' ').next().unwrap_or(""))?;
-        assert!(rt; unknown.is_some());
+        let whole = format!(in alloc; "{line}\n")?;
+        assert_eq!(rt;
+            refused(alloc, FIRST, whole.as_str())?,
+            Some(Refusal {
+                line: 6,
+                why: Why::Command
+            })
+        );
     }
     let geode = format!(in alloc; "{FIRST}geode 1 0 1\n")?;
     check(
@@ -298,6 +304,19 @@ fn the_flight(rt: HostRuntime) -> Result<(), Fail> {
     assert_eq!(rt; nodes, 36);
     assert_eq!(rt; frames, 24);
     assert_eq!(rt; merges, 3);
+    Ok(())
+}
+
+#[test]
+fn a_refusal_is_shown_as_its_line_and_its_cause(rt: HostRuntime) -> Result<(), Fail> {
+    let alloc = rt.alloc();
+    let refusal = Refusal {
+        line: 6,
+        why: Why::Number,
+    };
+    assert_eq!(rt; format!(in alloc; "{refusal}")?.as_str(), "line 6: Number");
+    let error = ParseError::Refused(refusal);
+    assert_eq!(rt; format!(in alloc; "{error}")?.as_str(), "line 6: Number");
     Ok(())
 }
 

@@ -1,7 +1,8 @@
 //! Lines of a text, and words of a line.
 ghost use Rattle.std.specs.Prelude.{◌≡◌, ◌+◌, ◌<◌, ◌^◌, ◌==◌, [], ◌∷◌, length, count_by, MatchOption, IfSome};
 ghost use Rattle.std.specs.List.{slice_split, position};
-ghost use Rattle.play_format.specs.Words.{words, left_words};
+ghost use Rattle.play_format.specs.Words.{words};
+ghost use Rattle.play_format.specs.Rests.{left_words};
 
 use memchr::memchr;
 

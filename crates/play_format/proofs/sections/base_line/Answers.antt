@@ -1,9 +1,10 @@
 use Rattle.std.proofs.Common.{◌≡◌, ◌≤◌, sym, ap, ◌∙◌, Some, length, List, ℤ, rules}
 use Rattle.pf_model.specs.declared.geometry.Tri.{Tri}
 use Rattle.play_format.specs.Making.{base_step_of}
-use Rattle.play_format.specs.Sections.{stand, LineRead}
+use Rattle.play_format.specs.Sections.{LineRead}
 use Rattle.play_format.proofs.SectionLemmas.{few_in_base, base_step_read, closed_end}
 use Rattle.play_format.proofs.sections.base_line.Goals as goal
+use Rattle.play_format.specs.Rests.{stand}
 
 pub returns-in_default : goal.returns-in_default
 returns-in_default c = let e = rw c.in_default.is at c.in_ok-command.ensures in (e.read, e.stays, closed_end c.args.reader.now.spot e.ends)

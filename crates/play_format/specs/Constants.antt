@@ -1,0 +1,36 @@
+-- The values of the code's constants.
+use Rattle.std.specs.Prelude.{[], ◌∷◌, pos}
+use Rattle.std.proofs.Common.{lit≤}
+use Rattle.fx_math.specs.Within.{IsWithin}
+use Rattle.fx_math.specs.declared.vectors.Vec3.{Vec3}
+use Rattle.fx_math.specs.declared.matrices.Affine.{Affine}
+
+-- `Vec3::ORIGIN`
+abbrev pub origin_vector : Vec3
+origin_vector = record {
+  x = pos 0;
+  y = pos 0;
+  z = pos 0;
+  in_range = record { x_within = none; y_within = none; z_within = none };
+}
+  where
+    none : IsWithin 1073741823 (pos 0)
+    none = record { size = lit≤ tt }
+
+-- `Affine::IDENTITY`
+abbrev pub identity_step : Affine
+identity_step = record {
+  a = (pos 65536 ∷ pos 0 ∷ pos 0 ∷ []) ∷ (pos 0 ∷ pos 65536 ∷ pos 0 ∷ []) ∷ (pos 0 ∷ pos 0 ∷ pos 65536 ∷ []) ∷ [];
+  t = origin_vector;
+  entries = record {
+    x_row = record { first = one; second = none; third = none };
+    y_row = record { first = none; second = one; third = none };
+    z_row = record { first = none; second = none; third = one };
+  };
+}
+  where
+    none : IsWithin 1048576 (pos 0)
+    none = record { size = lit≤ tt }
+
+    one : IsWithin 1048576 (pos 65536)
+    one = record { size = lit≤ tt }
