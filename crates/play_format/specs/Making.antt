@@ -60,10 +60,19 @@ are_coordinates x y z = is_within 1073741823 x && (is_within 1073741823 y && is_
 
 pub coordinates : (x y z : ℤ) → are_coordinates x y z ≡ true → AreCoordinates x y z
 coordinates x y z e = record {
-  x_within = within 1073741823 x (first_of_both (is_within 1073741823 x) (is_within 1073741823 y && is_within 1073741823 z) e);
-  y_within = within 1073741823 y (first_of_both (is_within 1073741823 y) (is_within 1073741823 z) (second_of_both (is_within 1073741823 x) (is_within 1073741823 y && is_within 1073741823 z) e));
-  z_within = within 1073741823 z (second_of_both (is_within 1073741823 y) (is_within 1073741823 z) (second_of_both (is_within 1073741823 x) (is_within 1073741823 y && is_within 1073741823 z) e));
+  x_within = within 1073741823 x (first_of_both on_x (on_y && on_z) e);
+  y_within = within 1073741823 y (first_of_both on_y on_z (second_of_both on_x (on_y && on_z) e));
+  z_within = within 1073741823 z (second_of_both on_y on_z (second_of_both on_x (on_y && on_z) e));
 }
+  where
+    on_x : Bool
+    on_x = is_within 1073741823 x
+
+    on_y : Bool
+    on_y = is_within 1073741823 y
+
+    on_z : Bool
+    on_z = is_within 1073741823 z
 
 -- the vector of three numbers, where they are coordinates
 unfoldable pub vector_if : (x y z : ℤ) (b : Bool) → are_coordinates x y z ≡ b → Vec3

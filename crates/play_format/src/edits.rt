@@ -10,7 +10,7 @@ ghost use Rattle.play_format.specs.Written.{new_pose};
 ghost use Rattle.play_format.specs.Constants.{origin_vector};
 
 use crate::commands::Form;
-use crate::making::{affine_at, u8_at, u32_at, u16_at, vector_at};
+use crate::making::{affine_at, u8_at, u16_at, u32_at, vector_at};
 use crate::places::number;
 use fx_math::{UNIT, Vec3};
 use pf_model::{Edit, Euler, Geom, Kind, Pick, Pose, Ranges, Run, Times};

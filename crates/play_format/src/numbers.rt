@@ -67,7 +67,8 @@ fn begins_with(text: &[u8], b: u8) -> bool
 /// space after it, where there is a space. It is `Err(Why::Number)` where the word is no such number.
 fn natural(text: &[u8]) -> Result<(u64, Option<&[u8]>), Why>
     ensures { MatchResult result
-        (λ r. (is_natural (front_word text.now) ≡ true) × (r.0 ≡ min (digits_value 10 (front_word text.now)) 1099511627776) × IsBehind text.now r.1)
+        (λ r. (is_natural (front_word text.now) ≡ true)
+        × (r.0 ≡ min (digits_value 10 (front_word text.now)) 1099511627776) × IsBehind text.now r.1)
         (λ why. (why ≡ whys.Number) × (is_natural (front_word text.now) ≡ false)) }
 {
     let (value, len) = digits(text);
@@ -90,7 +91,8 @@ fn with_sign(is_negative: bool, n: u64) -> i64
 /// space after it, where there is a space. It is `Err(Why::Number)` where the word is no number.
 fn signed(text: &[u8]) -> Result<(i64, Option<&[u8]>), Why>
     ensures { MatchResult result
-        (λ r. (is_number (front_word text.now) ≡ true) × (r.0 ≡ held (value_of (front_word text.now))) × IsBehind text.now r.1)
+        (λ r. (is_number (front_word text.now) ≡ true)
+        × (r.0 ≡ held (value_of (front_word text.now))) × IsBehind text.now r.1)
         (λ why. (why ≡ whys.Number) × (is_number (front_word text.now) ≡ false)) }
 {
     let is_negative = begins_with(text, b'-');

@@ -75,7 +75,9 @@ fn read_numbers<'a>(
     rest: Option<&'a [u8]>,
     limits: &[Limits],
 ) -> Result<Option<&'a [u8]>, LineError>
-    ensures read { MatchResult result (λ _. numbers_at limits.now (left_words rest.entry) ≡ Ok numbers.new.items) (λ e. Fails e (numbers_at limits.now (left_words rest.entry))) }
+    ensures read { MatchResult result
+        (λ _. numbers_at limits.now (left_words rest.entry) ≡ Ok numbers.new.items)
+        (λ e. Fails e (numbers_at limits.now (left_words rest.entry))) }
     ensures left { IfOk result (λ left. length limits.now + length (left_words left) ≡ length (left_words rest.entry)) }
 {
     numbers.clear();
@@ -111,7 +113,9 @@ fn read_fields(
 ) -> Result<(), LineError>
     requires spot { IsSound spot }
     requires rest { drop 1 (words line.now) ≡ left_words rest }
-    ensures { MatchResult result (λ _. fields_at spot command (words line.now) ≡ Ok numbers.new.items) (λ e. Fails e (fields_at spot command (words line.now))) }
+    ensures { MatchResult result
+        (λ _. fields_at spot command (words line.now) ≡ Ok numbers.new.items)
+        (λ e. Fails e (fields_at spot command (words line.now))) }
 {
     match read_numbers(numbers, rest, command.limits(spot.channels)) {
         Ok(left) => {
