@@ -6,13 +6,14 @@ use Rattle.std.specs.List.{AllByRecursion, fold, filter, list_any}
 use Rattle.pf_model.specs.declared.nodes.Node.{Node}
 use Rattle.pf_model.specs.declared.nodes.Gone.{Gone}
 use Rattle.pf_model.specs.declared.edits.Edit.{Edit}
-use Rattle.pf_model.specs.declared.edits.Edit.TheVariants as edit
 use Rattle.pf_model.specs.Graphs.{SceneGraph, Nodes, node_at, change, put, without}
-use Rattle.pf_model.specs.Edits.{fault_of, effect, after, remains}
+use Rattle.pf_model.specs.Edits.{fault_of, effect, after, remains, deleted}
 use Rattle.pf_model.specs.NodeEdits.{node_after}
+use Rattle.pf_model.specs.Laws.{KeepsBirth, IsEdited, Makes, Deletes, Changes}
 use Rattle.pf_model.specs.Merges.{merge_fault, after_all}
 use Rattle.pf_model.specs.Copies.{GraveState, named_by, is_due, freed_by, put_all, grave_of}
 use Rattle.pf_model.proofs.Places.{node_at_step}
+use Rattle.pf_model.proofs.Editing.{effect_edited}
 use Rattle.pf_model.proofs.Levels.{all_map}
 use Rattle.pf_history.specs.declared.commands.Command.{Command}
 use Rattle.pf_history.specs.declared.commands.Command.TheVariants as command
@@ -68,26 +69,7 @@ graves_filter x test (g ∷ gs) = by (test g) (graves_filter x test gs)
 
 -- A node changed, put and taken out
 
-birth_kept : (time : ℕ) (e : Edit) (n : Node) → ((node_after time e n).serial ≡ n.serial) × ((node_after time e n).born ≡ n.born)
-birth_kept time (edit.Make id kind) n = (refl, refl)
-birth_kept time (edit.Add parent child) n = (refl, refl)
-birth_kept time (edit.Insert parent place child) n = (refl, refl)
-birth_kept time (edit.Replace parent child by) n = (refl, refl)
-birth_kept time (edit.Remove parent child) n = (refl, refl)
-birth_kept time (edit.Delete id) n = (refl, refl)
-birth_kept time (edit.Pick id pick) n = (refl, refl)
-birth_kept time (edit.Mat id mat) n = (refl, refl)
-birth_kept time (edit.Trans id t) n = (refl, refl)
-birth_kept time (edit.Rot id h p r) n = (refl, refl)
-birth_kept time (edit.Scale id s) n = (refl, refl)
-birth_kept time (edit.Range id place value) n = (refl, refl)
-birth_kept time (edit.Centre id at) n = (refl, refl)
-birth_kept time (edit.Times id place frames) n = (refl, refl)
-birth_kept time (edit.Run id) n = (refl, refl)
-birth_kept time (edit.Stop id) n = (refl, refl)
-birth_kept time (edit.Verts id geom) n = (refl, refl)
-
-change_tags : (id : ℕ) (f : Node → Node) (nodes : Nodes) → ((n : Node) → ((f n).serial ≡ n.serial) × ((f n).born ≡ n.born)) → tags (change id f nodes) ≡ tags nodes
+change_tags : (id : ℕ) (f : Node → Node) (nodes : Nodes) → KeepsBirth f → tags (change id f nodes) ≡ tags nodes
 change_tags id f [] same = refl
 change_tags id f (e ∷ es) same = by (e.0 == id) (change_tags id f es same)
   where
@@ -150,17 +132,22 @@ record IsPast (x : ℕ) (g : SceneGraph) : Type 0 where
 abbrev Lacks : ℕ → FrameState → Type 0
 Lacks x s = has_serial x s.graph.nodes ≡ false
 
-past_change : (x : ℕ) (g : SceneGraph) (id : ℕ) (f : Node → Node) → ((n : Node) → ((f n).serial ≡ n.serial) × ((f n).born ≡ n.born)) → IsPast x g → IsPast x (record g { nodes = change id f g.nodes })
+past_change : (x : ℕ) (g : SceneGraph) (id : ℕ) (f : Node → Node) → KeepsBirth f → IsPast x g → IsPast x (record g { nodes = change id f g.nodes })
 past_change x g id f same h = record { none = ap (times x) (change_tags id f g.nodes same) ∙ h.none; given = h.given }
 
-past_effect : (x : ℕ) (g : SceneGraph) (e : Edit) → IsPast x g → IsPast x (effect g e)
-past_effect x g (edit.Make id kind) h =
+past_edited : (x : ℕ) (g : SceneGraph) (e : Edit) (h : SceneGraph) → IsEdited g e h → IsPast x g → IsPast x h
+past_edited x g e _ (Makes kind is) p =
     let n : Node = record { serial = g.next_serial; born = g.time; kind = kind; children = [] } in
-    let p = put_times x id n g.nodes in
-    let z : one (g.next_serial == x) ≡ 0 = ap one (ne_eqb g.next_serial x (let l = h.given in omega (arith, l))) in
-    record { none = omega (arith, p, z, h.none); given = omega (arith, h.given) }
-past_effect x g (edit.Delete id) h = let w = without_times x 0 id g.nodes in record { none = omega (arith, w, h.none); given = h.given }
-past_effect x g e h = past_change x g (named_by e) (node_after g.time e) (birth_kept g.time e) h
+    let more = put_times x (named_by e) n g.nodes in
+    let z : one (g.next_serial == x) ≡ 0 = ap one (ne_eqb g.next_serial x (let l = p.given in omega (arith, l))) in
+    record { none = omega (arith, more, z, p.none); given = omega (arith, p.given) }
+past_edited x g e _ (Deletes is) p =
+    let w = without_times x 0 (named_by e) g.nodes in
+    record { none = omega (arith, w, p.none); given = p.given }
+past_edited x g e _ (Changes keeps) p = past_change x g (named_by e) (node_after g.time e) keeps p
+
+past_effect : (x : ℕ) (g : SceneGraph) (e : Edit) → IsPast x g → IsPast x (effect g e)
+past_effect x g e p = past_edited x g e (effect g e) (effect_edited g e) p
 
 past_effects : (x : ℕ) (es : List Edit) (g : SceneGraph) → IsPast x g → IsPast x (fold effect g es)
 past_effects x [] g h = h
@@ -244,7 +231,7 @@ all_graves frames graves g = graves ++ map (grave_of frames) g.gone
 abbrev GraphKept : List FrameState → ℕ → List GraveState → SceneGraph → Type 0
 GraphKept found frames graves g = AreKept found frames (tags g.nodes) g.time g.next_serial (all_graves frames graves g)
 
-kept_change : (found : List FrameState) (frames : ℕ) (graves : List GraveState) (g : SceneGraph) (id : ℕ) (f : Node → Node) → ((n : Node) → ((f n).serial ≡ n.serial) × ((f n).born ≡ n.born)) → GraphKept found frames graves g → GraphKept found frames graves (record g { nodes = change id f g.nodes })
+kept_change : (found : List FrameState) (frames : ℕ) (graves : List GraveState) (g : SceneGraph) (id : ℕ) (f : Node → Node) → KeepsBirth f → GraphKept found frames graves g → GraphKept found frames graves (record g { nodes = change id f g.nodes })
 kept_change found frames graves g id f same h =
     subst (λ (ts : Tags). AreKept found frames ts g.time g.next_serial (all_graves frames graves g)) (sym (change_tags id f g.nodes same)) h
 
@@ -291,7 +278,7 @@ all_buried : (found : List FrameState) (frames : ℕ) (gs : List Gone) → lengt
 all_buried found frames [] many h = tt
 all_buried found frames (g ∷ gs) many h = (buried_now found frames g many h.0, all_buried found frames gs many h.1)
 
-kept_delete : (found : List FrameState) (frames : ℕ) (graves : List GraveState) (g : SceneGraph) (id : ℕ) → GraphKept found frames graves g → GraphKept found frames graves (effect g (edit.Delete id))
+kept_delete : (found : List FrameState) (frames : ℕ) (graves : List GraveState) (g : SceneGraph) (id : ℕ) → GraphKept found frames graves g → GraphKept found frames graves (deleted id g)
 kept_delete found frames graves g id h =
     let out = map (grave_of frames) (remains id (node_at g.nodes id)) in
     let joined : all_graves frames graves g ++ out ≡ graves ++ map (grave_of frames) (g.gone ++ remains id (node_at g.nodes id)) =
@@ -317,10 +304,14 @@ kept_delete found frames graves g id h =
           omega (arith, w, a, o);
     })
 
+kept_edited : (found : List FrameState) (frames : ℕ) (graves : List GraveState) (g : SceneGraph) (e : Edit) (h : SceneGraph) → IsEdited g e h → GraphKept found frames graves g → GraphKept found frames graves h
+kept_edited found frames graves g e _ (Makes kind is) k =
+    kept_make found frames graves g (named_by e) (record { serial = g.next_serial; born = g.time; kind = kind; children = [] }) refl refl k
+kept_edited found frames graves g e _ (Deletes is) k = kept_delete found frames graves g (named_by e) k
+kept_edited found frames graves g e _ (Changes keeps) k = kept_change found frames graves g (named_by e) (node_after g.time e) keeps k
+
 kept_effect : (found : List FrameState) (frames : ℕ) (graves : List GraveState) (g : SceneGraph) (e : Edit) → GraphKept found frames graves g → GraphKept found frames graves (effect g e)
-kept_effect found frames graves g (edit.Make id kind) h = kept_make found frames graves g id (record { serial = g.next_serial; born = g.time; kind = kind; children = [] }) refl refl h
-kept_effect found frames graves g (edit.Delete id) h = kept_delete found frames graves g id h
-kept_effect found frames graves g e h = kept_change found frames graves g (named_by e) (node_after g.time e) (birth_kept g.time e) h
+kept_effect found frames graves g e k = kept_edited found frames graves g e (effect g e) (effect_edited g e) k
 
 kept_effects : (found : List FrameState) (frames : ℕ) (graves : List GraveState) (es : List Edit) (g : SceneGraph) → GraphKept found frames graves g → GraphKept found frames graves (fold effect g es)
 kept_effects found frames graves [] g h = h
