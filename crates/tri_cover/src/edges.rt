@@ -20,7 +20,7 @@ pub(crate) struct EdgeValues {
 
 impl EdgeValues {
     ghost use Rattle.fx_math.specs.Hit.{edges, sum_of, is_inside};
-    ghost use Rattle.tri_cover.specs.Judged.{edges_of, are_not_below_zero, are_not_above_zero, are_of_one_sign, sum_of_edges};
+    ghost use Rattle.tri_cover.specs.Edges.{edges_of, are_not_below_zero, are_not_above_zero, are_of_one_sign, sum_of_edges};
     ghost use Rattle.tri_cover.specs.Hits.{mean, mean_colour};
 
     /// Those of the direction `d` in the triangle of these vertices.
