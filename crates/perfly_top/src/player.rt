@@ -13,7 +13,8 @@ use crate::steps::{Play, Step};
 use crate::stop::Stop;
 use fx_math::Lens;
 use pf_io::{NoMemory, Sink, write_all};
-use pf_model::{Edit, EditError, Geom, Graph, Kind};
+use pf_model::{Edit, EditError, Geom, Kind};
+use plain_graph::Graph;
 use std::alloc::Global;
 
 /// Draws the pictures of a play, and flushes the sink.

@@ -4,7 +4,8 @@ ghost use Rattle.perfly_top.specs.Stream.{frame_bytes, opening_view};
 
 use fx_math::{Lens, Vec3};
 use pf_io::NoMemory;
-use pf_model::{Graph, View};
+use pf_model::View;
+use plain_graph::Graph;
 use pf_picture::draw_plain;
 use ppm_out::append_ppm;
 use std::alloc::Global;

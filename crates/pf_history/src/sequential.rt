@@ -14,7 +14,8 @@ ghost use Rattle.pf_history.specs.Laws.{command_fits};
 use crate::commands::{Command, Merge, Reply};
 use fx_math::Vec3;
 use pf_io::NoMemory;
-use pf_model::{Edit, EditError, Fault, Gone, Graph, Serials, View};
+use pf_model::{Edit, EditError, Fault, Gone, Serials, View};
+use plain_graph::Graph;
 use std::alloc::Global;
 use std::marker::Model;
 

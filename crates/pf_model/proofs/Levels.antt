@@ -12,7 +12,21 @@ use Rattle.pf_model.specs.Walks.{Occurrence, shown_children, chosen_in, child_of
 use Rattle.pf_model.specs.Boxes.{box_from, box_step, box_in, box_of_tris, hull_of_all}
 use Rattle.fx_math.specs.Plain.{Bounds}
 use Rattle.fx_math.specs.Fixed.{carry_box}
-use Rattle.pf_model.proofs.Tables.{levels_are, height_at_most}
+
+-- Levels
+
+pub greatest_at_most : (f : ℕ → ℕ) (m : ℕ) → ((c : ℕ) → f c ≤ m) → (cs : List ℕ) → greatest (map f cs) ≤ m
+greatest_at_most f m h [] = omega arith
+greatest_at_most f m h (c ∷ cs) = let a : f c ≤ m = h c in let b : greatest (map f cs) ≤ m = greatest_at_most f m h cs in omega arith
+
+pub height_at_most : (n : ℕ) (look : Look) (id : ℕ) → height_in n look id ≤ n
+unfolding height_in
+height_at_most zero look id = omega arith
+height_at_most (suc n) look id = let a : greatest (map (height_in n look) (children_of look id)) ≤ n = greatest_at_most (height_in n look) n (height_at_most n look) (children_of look id) in omega arith
+
+pub levels_are : levels ≡ 4097
+unfolding levels
+levels_are = refl
 
 -- Facts on each element
 
