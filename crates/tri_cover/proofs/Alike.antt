@@ -11,7 +11,7 @@ use Rattle.pf_model.specs.declared.geometry.Tri.{Tri}
 use Rattle.pf_model.specs.Walks.{Instance}
 use Rattle.tri_cover.specs.declared.hit.Hit.{Hit}
 use Rattle.tri_cover.specs.Hits.{hit}
-use Rattle.tri_cover.specs.Glass.{is_opaque, is_glass, alpha_of, distance_of, is_drawn_before, blend}
+use Rattle.tri_cover.specs.Glass.{is_opaque, is_glass, alpha_of, is_drawn_before, blend}
 use Rattle.tri_cover.specs.Picture.{Fragment, is_less, fragment_of, fragments, nearer, nearest_opaque, colour_under, is_hidden, glazed, glazed_by, picture}
 use Rattle.tri_cover.specs.Sorting.{sorted}
 use Rattle.tri_cover.specs.Orders.{HaveOneColour, HaveOnePicture}
@@ -187,7 +187,7 @@ agree_filter p (x ∷ xs) (y ∷ ys) t agree = by (p x) (p y) t.0 (agree_filter 
     by false true e rest = cc
     by false false e rest = rest
 
-drawn_alike : (x y v w : Instance) → distance_of x ≡ distance_of y → distance_of v ≡ distance_of w → InOrder x y v w → is_drawn_before v x ≡ is_drawn_before w y
+drawn_alike : (x y v w : Instance) → x.far ≡ y.far → v.far ≡ w.far → InOrder x y v w → is_drawn_before v x ≡ is_drawn_before w y
 drawn_alike x y v w far later order = rw (far, later, order.above)
 
 go_alike : (lens : Lens) (px py : ℕ) (xs ys : List Instance) → AllZip (IsSeenAlike lens px py) xs ys → PlacesAgree xs ys → GoAlike is_drawn_before xs ys

@@ -11,7 +11,7 @@ use Rattle.pf_model.specs.declared.geometry.Tri.{Tri}
 use Rattle.pf_model.specs.Walks.{Instance}
 use Rattle.tri_cover.specs.declared.hit.Hit.{Hit}
 use Rattle.tri_cover.specs.Hits.{hit}
-use Rattle.tri_cover.specs.Glass.{is_opaque, is_glass, is_drawn_before, distance_of}
+use Rattle.tri_cover.specs.Glass.{is_opaque, is_glass, is_drawn_before}
 use Rattle.tri_cover.specs.Picture.{Fragment, fragment_of, fragment_at, fragments, opaque_fragments, nearest_opaque, colour_under, glazed_by, picture}
 use Rattle.tri_cover.specs.Sorting.{sorted}
 use Rattle.tri_cover.specs.Orders.{PlacesDiffer, KeysDiffer, HaveOnePicture, AreDrawnAlike}
@@ -104,7 +104,7 @@ same_place d p e q h g = grind (arith, nat_tests)
 tied_place : (k x : Instance) → ties is_drawn_before k x ≡ true → x.place ≡ k.place
 tied_place k x t =
     let h : (is_drawn_before k x ≡ false) × (is_drawn_before x k ≡ false) = tie_parts is_drawn_before k x t in
-    same_place (distance_of k) k.place (distance_of x) x.place h.0 h.1
+    same_place k.far k.place x.far x.place h.0 h.1
 
 glass_once : (xs : List Instance) → PlacesDiffer xs → (k : Instance) → count_by (λ x. is_glass x && ties is_drawn_before k x) xs ≤ 1
 glass_once xs differ k = omega (arith, differ k.place, sum_by-le-sum_by (λ (x : Instance). cond (is_glass x && ties is_drawn_before k x) 1 0) (λ (x : Instance). cond (x.place == k.place) 1 0) xs fewer)

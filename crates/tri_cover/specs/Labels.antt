@@ -4,7 +4,6 @@ use Rattle.std.specs.List.{AllZip, enumerate_from}
 use Rattle.fx_math.specs.declared.lenses.Lens.{Lens}
 use Rattle.pf_model.specs.Limits.{IsRising}
 use Rattle.pf_model.specs.Walks.{Instance}
-use Rattle.tri_cover.specs.Glass.{distance_of}
 use Rattle.tri_cover.specs.Hits.{hit}
 
 -- the two instances differ in no more than their places, ids and states
@@ -13,7 +12,7 @@ pub record IsRelabelled (x y : Instance) : Type 0 where
   pub shift : x.shift ≡ y.shift
   pub steps : x.steps ≡ y.steps
   pub tris : x.tris ≡ y.tris
-  pub far : distance_of x ≡ distance_of y
+  pub far : x.far ≡ y.far
 
 -- triangle by triangle, the two instances have the same hits at the pixel
 abbrev pub HaveOneHit : Lens → (px py : ℕ) → Instance → Instance → Type 0
@@ -23,7 +22,7 @@ HaveOneHit lens px py x y = AllZip (λ t u. hit lens px py x.steps t ≡ hit len
 pub record IsSeenAlike (lens : Lens) (px py : ℕ) (x y : Instance) : Type 0 where
   pub tint : x.tint ≡ y.tint
   pub shift : x.shift ≡ y.shift
-  pub far : distance_of x ≡ distance_of y
+  pub far : x.far ≡ y.far
   pub hits : HaveOneHit lens px py x y
 
 -- p stands to r as q to s: below it, at it, or above it
