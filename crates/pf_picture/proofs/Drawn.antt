@@ -7,8 +7,8 @@ use Rattle.pf_model.specs.Walks as walks
 use Rattle.tri_cover.specs.Glass.{is_opaque, is_glass, is_drawn_before}
 use Rattle.tri_cover.specs.Sorting.{sorted}
 use Rattle.tri_cover.specs.Picture as pictures
-use Rattle.tri_cover.specs.Picture.{picture, ground}
-use Rattle.pf_picture.specs.Drawings.{AreSurfaces, IsDrawingOf, ground_of, ground_colour, colour_of}
+use Rattle.tri_cover.specs.Picture.{nearest_opaque, colour_under, picture}
+use Rattle.pf_picture.specs.Drawings.{AreSurfaces, IsDrawingOf, nearest_in, colour_of}
 use Rattle.pf_picture.specs.Rows.{colour_in}
 use Rattle.pf_picture.specs.Surfaces.{IsSurfaceOf, nearest_of, glazed_by}
 use Rattle.pf_picture.specs.declared.drawings.Drawing.{Drawing}
@@ -41,12 +41,12 @@ fold-glazed_by lens px py behind under (x ∷ xs) (s ∷ ss) are =
     fold-glazed_by lens px py behind (glazed_by lens px py behind under s) xs ss are.1
     ∙ ap (λ (u : List ℕ). fold (pictures.glazed_by lens px py behind) u xs) (glazed_by-surface lens px py behind under x s are.0)
 
-ground-surfaces : (lens : Lens) (px py : ℕ) (xs : List walks.Instance) (ss : List Surface) → AreSurfaces (filter is_opaque xs) ss → ground_of lens px py ss ≡ ground lens px py xs
-unfolding ground_of ground
-ground-surfaces lens px py xs ss are = fold-nearest_of lens px py None (filter is_opaque xs) ss are
+nearest-surfaces : (lens : Lens) (px py : ℕ) (xs : List walks.Instance) (ss : List Surface) → AreSurfaces (filter is_opaque xs) ss → nearest_in lens px py ss ≡ nearest_opaque lens px py xs
+unfolding nearest_in nearest_opaque
+nearest-surfaces lens px py xs ss are = fold-nearest_of lens px py None (filter is_opaque xs) ss are
 
 pub colour_in-drawing : (lens : Lens) (back : List ℕ) (xs : List walks.Instance) (d : Drawing) → IsDrawingOf xs d → (px py : ℕ) → colour_in lens back d px py ≡ picture lens back xs px py
 unfolding colour_of picture
 colour_in-drawing lens back xs d is px py =
-    fold-glazed_by lens px py (ground_of lens px py d.opaque.items) (ground_colour back (ground_of lens px py d.opaque.items)) (sorted is_drawn_before (filter is_glass xs)) d.glass.items is.glass
-    ∙ ap (λ (g : Option pictures.Fragment). fold (pictures.glazed_by lens px py g) (ground_colour back g) (sorted is_drawn_before (filter is_glass xs))) (ground-surfaces lens px py xs d.opaque.items is.opaque)
+    fold-glazed_by lens px py (nearest_in lens px py d.opaque.items) (colour_under back (nearest_in lens px py d.opaque.items)) (sorted is_drawn_before (filter is_glass xs)) d.glass.items is.glass
+    ∙ ap (λ (g : Option pictures.Fragment). fold (pictures.glazed_by lens px py g) (colour_under back g) (sorted is_drawn_before (filter is_glass xs))) (nearest-surfaces lens px py xs d.opaque.items is.opaque)

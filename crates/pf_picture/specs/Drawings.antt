@@ -1,7 +1,6 @@
 -- The colours of surfaces at a pixel.
 use Rattle.std.specs.Prelude.{ℕ, List, filter, fold, Option, None}
 use Rattle.std.specs.List.{AllZip}
-use Rattle.std.specs.Option.{option_map_or}
 use Rattle.fx_math.specs.declared.lenses.Lens.{Lens}
 use Rattle.pf_model.specs.Walks as walks
 use Rattle.tri_cover.specs.Glass.{is_opaque, is_glass, is_drawn_before}
@@ -18,13 +17,12 @@ pub record IsDrawingOf (xs : List walks.Instance) (d : Drawing) : Type 0 where
   pub opaque : AreSurfaces (filter is_opaque xs) d.opaque.items
   pub glass : AreSurfaces (sorted is_drawn_before (filter is_glass xs)) d.glass.items
 
-unfoldable pub ground_of : Lens → (px py : ℕ) → List Surface → Option pictures.Fragment
-ground_of lens px py ss = fold (nearest_of lens px py) None ss
+-- the nearest fragment of opaque surfaces at a pixel
+unfoldable pub nearest_in : Lens → (px py : ℕ) → List Surface → Option pictures.Fragment
+nearest_in lens px py ss = fold (nearest_of lens px py) None ss
 
-abbrev pub ground_colour : List ℕ → Option pictures.Fragment → List ℕ
-ground_colour back behind = option_map_or (λ f. f.colour) behind back
-
+-- the colour of opaque surfaces and of glass, in the order in which it is drawn, at a pixel
 unfoldable pub colour_of : Lens → List ℕ → (px py : ℕ) → (opaque glass : List Surface) → List ℕ
 colour_of lens back px py opaque glass =
-    let behind = ground_of lens px py opaque in
-    fold (glazed_by lens px py behind) (ground_colour back behind) glass
+    let behind = nearest_in lens px py opaque in
+    fold (glazed_by lens px py behind) (pictures.colour_under back behind) glass

@@ -1,13 +1,13 @@
 -- What a walk draws, node by node.
 use Rattle.std.specs.Prelude.{ℕ, zero, suc, ◌+◌, ◌*◌, List, [], ◌++◌, map}
-use Rattle.std.specs.List.{flat_map, enumerate_from}
+use Rattle.std.specs.List.{flat_map}
 use Rattle.std.specs.Option.{option_map, option_map_or, option_to_list}
 use Rattle.fx_math.specs.Plain.{Matrix}
 use Rattle.fx_math.specs.Views.{matrix_of}
 use Rattle.pf_model.specs.declared.nodes.Node.{Node}
 use Rattle.pf_model.specs.Graphs.{Look}
 use Rattle.pf_model.specs.Kinds.{surface_of, own_steps, decal}
-use Rattle.pf_model.specs.Walks.{Instance, shown_children, chosen_in}
+use Rattle.pf_model.specs.Walks.{Instance, instance_of, shown_children, chosen_in}
 use Rattle.pf_picture.specs.declared.leaves.Leaf.{Leaf}
 
 -- a leaf as an instance without its place
@@ -21,12 +21,13 @@ instance_of_leaf x =
       shift = x.shift;
       steps = map matrix_of x.steps.items;
       tris = x.tris.now;
+      far = x.far;
     }
 
 -- what a node itself draws, without its place
 abbrev pub own_drawn : ℕ → List Matrix → ℕ → Node → List Instance
 own_drawn id steps shift n =
-    option_to_list (option_map (λ s. record { place = 0; id = id; state = s.state; tint = s.tint; shift = shift; steps = steps; tris = s.tris }) (surface_of n.kind))
+    option_to_list (option_map (λ s. instance_of (record { id = id; steps = steps; shift = shift; above = [] }) s 0) (surface_of n.kind))
 
 -- what a node itself and its shown children draw
 abbrev pub drawn_at : ℕ → ℕ → List Matrix → ℕ → (ℕ → List Matrix → ℕ → List Instance) → Node → List Instance
@@ -38,11 +39,3 @@ drawn_at id time steps shift below n =
 unfoldable pub drawn_in : ℕ → Look → ℕ → ℕ → List Matrix → ℕ → List Instance
 drawn_in zero look time id steps shift = []
 drawn_in (suc n) look time id steps shift = option_map_or (drawn_at id time steps shift (drawn_in n look time)) (look id) []
-
--- an instance at a place
-abbrev pub placed : ℕ × Instance → Instance
-placed (place, x) = record x { place = place }
-
--- each instance with its number as its place
-abbrev pub numbered : List Instance → List Instance
-numbered xs = map placed (enumerate_from 0 xs)

@@ -1,6 +1,7 @@
 //! All that is drawn, in eye coordinates, and its colour at a pixel.
 ghost use Rattle.std.specs.Prelude.{◌≡◌, ◌<◌, map, IfOk, option_map};
-ghost use Rattle.pf_picture.specs.Drawings.{IsDrawingOf, AreSurfaces, ground_of, ground_colour, colour_of};
+ghost use Rattle.tri_cover.specs.Picture.{colour_under};
+ghost use Rattle.pf_picture.specs.Drawings.{IsDrawingOf, AreSurfaces, nearest_in, colour_of};
 ghost use Rattle.pf_picture.specs.Fragments.{fragment_of};
 ghost use Rattle.pf_picture.specs.Instances.{instance_of};
 
@@ -31,10 +32,10 @@ impl Drawing {
     }
 
     /// The nearest fragment of an opaque surface.
-    fn ground(&self, lens: &Lens, px: u16, py: u16) -> Option<Fragment>
+    fn nearest(&self, lens: &Lens, px: u16, py: u16) -> Option<Fragment>
         requires x { px < lens.now.w }
         requires y { py < lens.now.h }
-        ensures { option_map fragment_of result ≡ ground_of lens.now px py self.now.opaque.items }
+        ensures { option_map fragment_of result ≡ nearest_in lens.now px py self.now.opaque.items }
     {
         let mut nearest = None;
         for surface in &self.opaque {
@@ -43,14 +44,15 @@ impl Drawing {
         nearest
     }
 
-    /// The colour at a pixel: the ground's, or the background's where there is none, under the glass.
+    /// The colour at a pixel: that of the nearest opaque fragment, or of the background where there is none, under the
+    /// glass.
     pub(crate) fn colour(&self, lens: &Lens, back: [u8; 3], px: u16, py: u16) -> [u8; 3]
         requires x { px < lens.now.w }
         requires y { py < lens.now.h }
         ensures { result ≡ colour_of lens.now back px py self.now.opaque.items self.now.glass.items }
     {
-        let behind = self.ground(lens, px, py);
-        let mut colour = ground_colour(&behind, back);
+        let behind = self.nearest(lens, px, py);
+        let mut colour = colour_under(&behind, back);
         for surface in &self.glass {
             let glazed = surface.glazed(&behind, colour, lens, px, py);
             colour = glazed;
@@ -59,8 +61,8 @@ impl Drawing {
     }
 }
 
-fn ground_colour(behind: &Option<Fragment>, back: [u8; 3]) -> [u8; 3]
-    ensures { result ≡ ground_colour back (option_map fragment_of behind.now) }
+fn colour_under(behind: &Option<Fragment>, back: [u8; 3]) -> [u8; 3]
+    ensures { result ≡ colour_under back (option_map fragment_of behind.now) }
 {
     match behind {
         Some(fragment) => fragment.colour,

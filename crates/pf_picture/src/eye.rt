@@ -1,22 +1,10 @@
-//! Points and triangles in eye coordinates.
-ghost use Rattle.std.specs.Prelude.{◌≡◌, map};
-ghost use Rattle.fx_math.specs.Views.{point_of, matrix_of};
-ghost use Rattle.fx_math.specs.Fixed.{carry};
+//! Triangles in eye coordinates.
+ghost use Rattle.std.specs.Prelude.{map};
+ghost use Rattle.fx_math.specs.Views.{matrix_of};
 ghost use Rattle.pf_picture.specs.Eye.{HitsAs};
 
-use fx_math::{Affine, Vec3, apply};
-use pf_model::Tri;
-
-/// A point after a list of steps.
-pub(crate) fn carried_point(v: Vec3, steps: &[Affine]) -> Vec3
-    ensures { point_of result ≡ carry (map matrix_of steps.now) (point_of v) }
-{
-    let mut carried = v;
-    for step in steps {
-        carried = apply(step, carried);
-    }
-    carried
-}
+use fx_math::Affine;
+use pf_model::{Tri, carried_point};
 
 /// A triangle after a list of steps.
 pub(crate) fn carried(tri: &Tri, steps: &[Affine]) -> Tri

@@ -45,7 +45,7 @@ impl Fragment {
         }
     }
 
-    /// Whether the fragment lies behind the ground.
+    /// Whether the fragment lies behind the opaque one that is drawn.
     fn is_hidden(&self, behind: &Option<Fragment>) -> bool
         ensures { result ≡ pictures.is_hidden (option_map fragment_of behind.now) (fragment_of self.now) }
     {

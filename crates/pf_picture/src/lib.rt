@@ -8,10 +8,8 @@ mod fragments;
 pub mod instances;
 mod leaves;
 mod numbers;
-mod pane;
 mod panes;
 pub mod renderer;
-mod step_lists;
 mod surfaces;
 mod walk;
 
