@@ -19,7 +19,7 @@ use Rattle.pf_model.specs.Limits.{KeepsLimits}
 use Rattle.pf_model.specs.Walks.{Instance, Occurrence, instance_of, instances, surface_in, shown_children, chosen_in, walk, scene_at, steps_of_view}
 use Rattle.pf_model.proofs.Levels.{size_step, size_at_limit}
 use Rattle.tri_cover.specs.Labels.{placed, renumbered}
-use Rattle.pf_picture.specs.Walking.{instance_of_leaf, own_drawn, drawn_at, drawn_in}
+use Rattle.pf_picture.specs.Walking.{instance_of_leaf, alone, own_drawn, drawn_at, drawn_in}
 use Rattle.pf_picture.proofs.DrawnWalk.{drawn-walk, unplaced}
 
 sum-cons : (n : ℕ) (ns : List ℕ) → sum (n ∷ ns) ≡ n + sum ns
@@ -44,7 +44,7 @@ length-own : (id : ℕ) (steps : List Matrix) (shift : ℕ) (n : Node) → lengt
 length-own id steps shift n = by (surface_of n.kind)
   where
     unplaced_surface : Surface → Instance
-    unplaced_surface s = instance_of (record { id = id; steps = steps; shift = shift; above = [] }) s 0
+    unplaced_surface s = instance_of (alone id steps shift) s 0
 
     by : (s : Option Surface) → length (option_to_list (option_map (λ (t : Surface). unplaced_surface t) s)) ≤ 1
     by None = omega arith

@@ -4,7 +4,6 @@ use Rattle.std.specs.Prelude.{map, filter, is_some}
 use Rattle.std.specs.Ordering.{is_lt, ordering_then, nat_cmp}
 use Rattle.std.proofs.lemmas.Bool.Decides.{nat_tests}
 use Rattle.std.specs.Cmp.{IsStrictWeakOrder}
-use Rattle.pf_model.specs.Walks as walks
 use Rattle.tri_cover.specs.Glass.{is_glass, is_drawn_before}
 use Rattle.tri_cover.specs.Sorting.{sorted}
 use Rattle.tri_cover.proofs.GlassOrder.{drawn_in_order, goes_first}

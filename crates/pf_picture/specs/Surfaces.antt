@@ -6,6 +6,7 @@ use Rattle.fx_math.specs.Plain.{Matrix}
 use Rattle.fx_math.specs.declared.lenses.Lens.{Lens}
 use Rattle.pf_model.specs.declared.geometry.Tri.{Tri}
 use Rattle.pf_model.specs.Walks as walks
+use Rattle.tri_cover.specs.declared.hit.Hit.{Hit}
 use Rattle.tri_cover.specs.Hits.{hit}
 use Rattle.tri_cover.specs.Glass.{alpha_of}
 use Rattle.tri_cover.specs.Picture as pictures
@@ -16,8 +17,13 @@ use Rattle.pf_picture.specs.declared.surfaces.Surface.{Surface}
 abbrev pub AreCarried : List Matrix → List Tri → List Tri → Type 0
 AreCarried steps tris carried = AllZip (λ t c. HitsAs t steps c) tris carried
 
+-- what a hit of the triangle of a number gives
+abbrev pub fragment_in : Surface → ℕ → Hit → pictures.Fragment
+fragment_in s number h =
+    record { key = record { depth = h.depth - s.shift; place = s.place; number = number }; colour = h.colour }
+
 abbrev pub fragment_at : Lens → (px py : ℕ) → Surface → ℕ × Tri → Option pictures.Fragment
-fragment_at lens px py s (number, tri) = option_map (λ h. record { key = record { depth = h.depth - s.shift; place = s.place; number = number }; colour = h.colour }) (hit lens px py [] tri)
+fragment_at lens px py s (number, tri) = option_map (fragment_in s number) (hit lens px py [] tri)
 
 abbrev pub fragments : Lens → (px py : ℕ) → Surface → List pictures.Fragment
 fragments lens px py s = filter_map (fragment_at lens px py s) (enumerate_from 0 s.tris.items)

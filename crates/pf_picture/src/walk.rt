@@ -39,7 +39,8 @@ pub(crate) fn walk<'a, V: NodeView>(
     let chosen = chosen_children(node, centre, time);
     let children = node.children.as_slice();
     let shown = chosen.shown_places(children.len());
-    for place in shown.start..shown.end {
+    let (from, to) = (shown.start, shown.end);
+    for place in from..to {
         let nearer = shift + node.kind.decal() * place as u32;
         walk(
             alloc,

@@ -10,8 +10,8 @@ use Rattle.pf_model.specs.Walks.{Instance}
 use Rattle.tri_cover.specs.Glass.{is_opaque, is_glass, alpha_of, is_drawn_before, blend}
 use Rattle.tri_cover.specs.Sorting.{sorted}
 
--- What decides between hits at one pixel: the depth less the decal shift, at least 0; the place of the instance; the number
--- of the triangle in it.
+-- What decides between hits at one pixel: the depth less the decal shift, at least 0; the place of the instance; the
+-- number of the triangle in it.
 pub record Key : Type 0 where
   pub depth : ℕ
   pub place : ℕ

@@ -40,7 +40,8 @@ impl EdgeValues {
 
     /// The values after a step, where these are determinants too.
     pub(crate) fn plus(&self, step: &EdgeValues) -> EdgeValues
-        requires { AreDeterminants (self.now.e0 +ℤ step.now.e0) (self.now.e1 +ℤ step.now.e1) (self.now.e2 +ℤ step.now.e2) }
+        requires { AreDeterminants (self.now.e0 +ℤ step.now.e0) (self.now.e1 +ℤ step.now.e1)
+            (self.now.e2 +ℤ step.now.e2) }
         ensures { edges_of result ≡ sum_of_edges (edges_of self.now) (edges_of step.now) }
     {
         EdgeValues {

@@ -10,8 +10,8 @@ ghost use Rattle.tri_cover.specs.Leasts.{IsLeast, IsNearest};
 ghost use Rattle.tri_cover.specs.Labels.{IsRelabelled, IsSeenAlike, PlacesAgree, PlacesRise, renumbered};
 ghost use Rattle.tri_cover.specs.LeftOut.{IsMissed, HasNoHit, LeavesOutNoHit};
 
-/// Where no place stands twice in a list of instances, no two hits at a pixel have the same key, and the list has the same
-/// opaque fragments, the same order of glass and so the same picture in whatever order it stands.
+/// Where no place stands twice in a list of instances, no two hits at a pixel have the same key, and the list has the
+/// same opaque fragments, the same order of glass and so the same picture in whatever order it stands.
 pub fn order_of_instances()
     ensures keys { (xs : List Instance) → PlacesDiffer xs → KeysDiffer xs }
     ensures order { (xs ys : List Instance) → PlacesDiffer xs → IsPermutation xs ys → AreDrawnAlike xs ys }
@@ -30,8 +30,8 @@ pub fn opaque_fragment_drawn()
         → IsLeast (opaque_fragments lens px py xs) f → nearest_opaque lens px py xs ≡ Some f }
 {}
 
-/// A picture depends on the order of the places of its instances, and neither on their numbers nor on ids and states; of
-/// triangles and steps it sees no more than the hits. So lists whose instances look alike one by one at a pixel, and
+/// A picture depends on the order of the places of its instances, and neither on their numbers nor on ids and states;
+/// of triangles and steps it sees no more than the hits. So lists whose instances look alike one by one at a pixel, and
 /// whose places are in the same order, have one colour there.
 pub fn labels_of_instances()
     ensures seen { (lens : Lens) (px py : ℕ) (xs ys : List Instance)
@@ -49,8 +49,8 @@ pub fn instances_left_out()
     ensures missed { (lens : Lens) (px py : ℕ) (x : Instance) → IsMissed lens px py x → HasNoHit lens px py x }
 {}
 
-/// A list whose places rise may be cut of instances that hit nothing at a pixel, numbered anew, and put in any order: the
-/// pixel has the same colour.
+/// A list whose places rise may be cut of instances that hit nothing at a pixel, numbered anew, and put in any order:
+/// the pixel has the same colour.
 pub fn culled_in_any_order()
     ensures { (lens : Lens) (px py : ℕ) (keep : Instance → Bool) (xs ys : List Instance)
         → PlacesRise xs → LeavesOutNoHit lens px py keep xs → IsPermutation (renumbered (filter keep xs)) ys

@@ -13,4 +13,4 @@ decreases-walk g l = l.levels
 abbrev pub invariant-loop-place : goal.invariant-loop-place
 invariant-loop-place g l =
     map instance_of_leaf l.leaves.items ≡ map instance_of_leaf l.initial.leaves.items
-    ++ flat_map (λ c. drawn_in (l.levels - 1) (g.V.NodeView.look l.scene) l.time c.1 (map matrix_of l.below.items) (l.shift + decal l.node.kind * c.0)) (places l.children l.shown.start (l.place - l.shown.start))
+    ++ flat_map (λ c. drawn_in (l.levels - 1) (g.V.NodeView.look l.scene) l.time c.1 (map matrix_of l.below.items) (l.shift + decal l.node.kind * c.0)) (places l.children l.from (l.place - l.from))
