@@ -9,6 +9,10 @@ use Rattle.pf_model.proofs.Levels.{levels_are, below_zero, below_step, below_set
 use Rattle.pf_model.specs.Laws.{HasChildAbove, HasParentBelow}
 use Rattle.pf_model.proofs.Apart.{any_wider, below_up}
 
+behind : (s t : Bool) → t ≡ true → (s || t) ≡ true
+behind true t h = refl
+behind false t h = h
+
 -- what is below with any number of levels is below
 below_from : (n : ℕ) (look : Look) → AreLow look → (a b : ℕ) → below_in n look a b ≡ true → is_below look a b ≡ true
 below_from n look low a b h =
@@ -34,10 +38,6 @@ found p (c ∷ cs) h = by (found p cs) (p c) refl h
     by rest false e h =
         let m = rest h in
         record { who = m.who; is = behind (c == m.who) (list_any (λ d. d == m.who) cs) m.is; passes = m.passes }
-      where
-        behind : (s t : Bool) → t ≡ true → (s || t) ≡ true
-        behind true t h = refl
-        behind false t h = h
 
 -- a child that passes a test
 passed : (p : ℕ → Bool) (cs : List ℕ) (c : ℕ) → list_any (λ d. d == c) cs ≡ true → p c ≡ true → list_any p cs ≡ true
@@ -57,7 +57,7 @@ above_of n look low c b h = by (c == b) (below_in n look c b) refl h
 pub by_child : (look : Look) → AreLow look → (a b : ℕ) → is_below look a b ≡ true → HasChildAbove look a b
 by_child look low a b h =
     let m = found (λ c. c == b || below_in 4096 look c b) (children_of look a)
-        (sym (below_step 4096 look a b) ∙ ap (λ (n : ℕ). below_in n look a b) (sym levels_are) ∙ h) in
+    (sym (below_step 4096 look a b) ∙ ap (λ (n : ℕ). below_in n look a b) (sym levels_are) ∙ h) in
     record { child = m.who; is_child = m.is; above = above_of 4096 look low m.who b m.passes }
 
 pub child_above : (look : Look) → AreLow look → (a b : ℕ) → HasChildAbove look a b → is_below look a b ≡ true
@@ -89,10 +89,6 @@ to_parent (suc n) look a b h =
         let r = rest et in
         record { parent = r.parent; is_parent = r.is_parent; below = step r.parent (r.parent == c) (below_in n look c r.parent) refl refl r.below }
       where
-        behind : (s t : Bool) → t ≡ true → (s || t) ≡ true
-        behind true t h = refl
-        behind false t h = h
-
         step : (p : ℕ) (s t : Bool) → (p == c) ≡ s → below_in n look c p ≡ t → (s || t) ≡ true → (p == a || below_in (suc n) look a p) ≡ true
         step p true t es et h = behind (p == a) (below_in (suc n) look a p) (below_by n look a c p is (ap (λ t. t || below_in n look c p) (same p c es)))
         step p false true es et h = behind (p == a) (below_in (suc n) look a p) (below_by n look a c p is (behind (c == p) (below_in n look c p) et))
@@ -110,15 +106,11 @@ joined_below zero m look a b c h k = absurd (let z : below_in 0 look a b ≡ fal
 joined_below (suc n) m look a b c h k =
     ap (λ (i : ℕ). below_in i look a c) (suc-add n m)
     ∙ below_step (n + m) look a c
-    ∙ any_wider (λ d. d == b || below_in n look d b) (λ d. d == c || below_in (n + m) look d c) 
+    ∙ any_wider (λ d. d == b || below_in n look d b) (λ d. d == c || below_in (n + m) look d c)
     (λ d e. by d (joined_below n m look d b c) (d == b) (below_in n look d b) refl refl e) (children_of look a) (sym (below_step n look a b) ∙ h)
   where
     turned : (n m : ℕ) → m + n ≡ n + m
     turned n m = omega arith
-
-    behind : (s t : Bool) → t ≡ true → (s || t) ≡ true
-    behind true t h = refl
-    behind false t h = h
 
     by : (d : ℕ) → (below_in n look d b ≡ true → below_in m look b c ≡ true → below_in (n + m) look d c ≡ true) → (s t : Bool) → (d == b) ≡ s → below_in n look d b ≡ t → (s || t) ≡ true → (d == c || below_in (n + m) look d c) ≡ true
     by d rest true t es et e =

@@ -14,19 +14,7 @@ use Rattle.pf_model.specs.NodeEdits.{node_after}
 use Rattle.pf_model.specs.Copies.{named_by, updated, updated_by, UpdateList}
 use Rattle.pf_model.proofs.Places.{node_at_step, put_rising}
 use Rattle.pf_model.proofs.Changes.{without_rising}
-use Rattle.pf_model.proofs.Finds.{node_at_change, node_at_without, none_above, ids_change}
-
-apart_both : (a b c : ℕ) → (a == c) ≡ true → (a == b) ≡ true → (b == c) ≡ false → ⊥
-apart_both a b c h k l = absurd (grind (arith, nat_tests))
-
-apart_one : (a b c : ℕ) → (a == c) ≡ true → (a == b) ≡ false → (b == c) ≡ true → ⊥
-apart_one a b c h k l = absurd (grind (arith, nat_tests))
-
-apart_two : (a b c : ℕ) → (a == c) ≡ false → (a == b) ≡ true → (b == c) ≡ true → ⊥
-apart_two a b c h k l = absurd (grind (arith, nat_tests))
-
-turned_eq : (a b : ℕ) → (a == b) ≡ (b == a)
-turned_eq a b = grind (arith, nat_tests)
+use Rattle.pf_model.proofs.Finds.{apart_true, apart_other, turned_eq, node_at_change, node_at_without, none_above, ids_change}
 
 -- what a look-up finds after a node was put, in place of another or not
 pub node_at_put_any : (n : Node) (id : ℕ) (xs : Nodes) (b : ℕ) → node_at (put id n xs) b ≡ cond (b == id) (Some n) (node_at xs b)
@@ -37,11 +25,11 @@ node_at_put_any n id (x ∷ xs) b = by (node_at_put_any n id xs b) (nat_lt id x.
         → node_at (cond l ((id, n) ∷ x ∷ xs) (cond t ((id, n) ∷ xs) (x ∷ put id n xs))) b ≡ cond r (Some n) (node_at (x ∷ xs) b)
     by rest true t s r et es er = node_at_step b (id, n) (x ∷ xs) ∙ ap (λ u. cond u (Some n) (node_at (x ∷ xs) b)) (turned_eq id b ∙ er)
     by rest false true s true et es er = node_at_step b (id, n) xs ∙ ap (λ u. cond u (Some n) (node_at xs b)) (turned_eq id b ∙ er)
-    by rest false true true false et es er = absurd (apart_both x.0 b id et es er)
+    by rest false true true false et es er = absurd (apart_true x.0 b id et es er)
     by rest false true false false et es er =
         node_at_step b (id, n) xs ∙ ap (λ u. cond u (Some n) (node_at xs b)) (turned_eq id b ∙ er)
         ∙ sym (node_at_step b x xs ∙ ap (λ u. cond u (Some x.1) (node_at xs b)) es)
-    by rest false false true true et es er = absurd (apart_two x.0 b id et es er)
+    by rest false false true true et es er = absurd (apart_other x.0 b id et es er)
     by rest false false true false et es er = rw (node_at_step b x (put id n xs), node_at_step b x xs, es) refl
     by rest false false false true et es er = rw (node_at_step b x (put id n xs), es) (rest ∙ ap (λ t. cond t (Some n) (node_at xs b)) er)
     by rest false false false false et es er = rw (node_at_step b x (put id n xs), node_at_step b x xs, es) (rest ∙ ap (λ t. cond t (Some n) (node_at xs b)) er)

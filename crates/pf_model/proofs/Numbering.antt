@@ -58,7 +58,6 @@ geode_box look boxes id s e = by (look id) e
     by None e = absurd (cc)
     by (Some n) e = ap (λ (g : Option (List Tri)). option_map_or box_of_tris g (option_map (carry_box (own_steps n.kind)) (hull_of_all (map boxes n.children)))) (drawn_geom n.kind s e)
 
-
 instances_boxed : (look : Look) (boxes : ℕ → Option Bounds) → ((id : ℕ) (s : Surface) → option_and_then (λ n. surface_of n.kind) (look id) ≡ Some s → boxes id ≡ box_of_tris s.tris)
     → (n : ℕ) (os : List Occurrence) → AllByRecursion (HasNodeBox boxes) (map (λ e. instance_of e.1.0 e.1.1 e.0) (enumerate_from n (filter_map (surface_in look) os)))
 instances_boxed look boxes drawn n [] = tt

@@ -1,6 +1,7 @@
 pub mod Three
 pub mod Angles
 pub mod Room
+pub mod Recording
 pub mod Kinds
 pub mod Children
 pub mod Graphs

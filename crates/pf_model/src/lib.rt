@@ -23,7 +23,7 @@ pub use attributes::{attribute_fault, kind_after};
 pub use boxes::{box_of_tris, squared_distance};
 pub use carries::{carried_box, carried_point};
 pub use choices::chosen_children;
-pub use edits::{Edit, EditError, EditList, Fault};
+pub use edits::{Edit, EditError, EditList, EditListBuilder, Fault};
 pub use geometry::{Geom, Tri};
 pub use lines::{AppLine, AppStep, BaseLine, BaseStep};
 pub use lists::{Ids, Ranges, Serials, SerialsBuilder, ShortList, Times};

@@ -114,7 +114,7 @@ fn place_in(children: &Ids, child: u16) -> Option<usize>
 impl Ids {
     /// The same children with `by` at the first place that holds the child.
     #[tactic(auto, using(crate::proofs::Entries::replace_found, crate::proofs::Entries::replace_none))]
-    pub fn with_replaced(&self, child: u16, by: u16) -> Result<Ids, NoMemory>
+    pub fn with_first_replaced(&self, child: u16, by: u16) -> Result<Ids, NoMemory>
         ensures { IfOk result (λ cs. cs ≡ replace_first child by self.now) }
     {
         let mut copy = self.copy()?;
@@ -126,7 +126,7 @@ impl Ids {
 
     /// The same children without the first that is this child.
     #[tactic(auto, using(crate::proofs::Entries::drop_found, crate::proofs::Entries::drop_none))]
-    pub fn without(&self, child: u16) -> Result<Ids, NoMemory>
+    pub fn without_first(&self, child: u16) -> Result<Ids, NoMemory>
         ensures { IfOk result (λ cs. cs ≡ drop_first child self.now) }
     {
         let mut copy = self.copy()?;

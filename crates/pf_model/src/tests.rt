@@ -1,6 +1,6 @@
 use super::*;
 use fx_math::Vec3;
-use std::alloc::Global;
+use std::alloc::{AllocError, Global};
 use std::process::Abort;
 use std::test::Fail;
 
@@ -62,6 +62,9 @@ fn short_lists(rt: HostRuntime) -> Result<(), Fail> {
     assert_eq!(rt; ids.copy()?.as_slice(), [4, 7].as_slice());
     assert_eq!(rt; ids.at(1), Some(7));
     assert_eq!(rt; ids.at(2), None);
+    ids.insert(2, 7)?;
+    assert_eq!(rt; ids.with_first_replaced(7, 9)?.as_slice(), [4, 9, 7].as_slice());
+    assert_eq!(rt; ids.without_first(7)?.as_slice(), [4, 7].as_slice());
     let mut serials = Serials::with_room(rt.alloc(), 2)?;
     serials.push(9);
     assert_eq!(rt; serials.spare(), 1);
@@ -86,5 +89,80 @@ fn edit_lists(rt: HostRuntime) -> Result<(), Fail> {
         }
         .fits()
     );
+    Ok(())
+}
+
+#[test]
+fn edit_lists_with_room(rt: HostRuntime) -> Result<(), Fail> {
+    let mut edits = EditListBuilder::new(rt.alloc());
+    edits.reserve(2)?;
+    edits.push_reserved(group(6));
+    edits.push_reserved(Edit::Delete { id: 7 });
+    assert_eq!(rt; edits.len(), 2);
+    assert_eq!(rt; edits.as_slice().len(), 2);
+    let edits = edits.finish();
+    assert_eq!(rt; edits.at(1).ok_or("no edit")?.named(), 7);
+    Ok(())
+}
+
+fn triangle(red: u8) -> Tri {
+    Tri {
+        v: [Vec3::ORIGIN, Vec3::ORIGIN, Vec3::ORIGIN],
+        c: [[red, 0, 0], [red, 0, 0], [red, 0, 0]],
+    }
+}
+
+#[test]
+fn triangles_written(rt: HostRuntime) -> Result<(), Fail> {
+    let mut tris = Vec::new(rt.alloc());
+    tris.push(triangle(1)).map_err(AllocError::from)?;
+    tris.push(triangle(2)).map_err(AllocError::from)?;
+    let mut geom = Geom::new(tris)?;
+    geom.write(&[triangle(3), triangle(4)]);
+    assert_eq!(rt; geom.len(), 2);
+    assert_eq!(rt; geom.at(1), Some(triangle(4)));
+    let tris = geom.into_vec();
+    assert_eq!(rt; tris.as_slice(), [triangle(3), triangle(4)].as_slice());
+    Ok(())
+}
+
+#[test]
+fn fault_of_an_attribute(rt: HostRuntime) -> Result<(), Fail> {
+    let switch = node(rt.alloc(), Kind::Switch(Pick::Off))?;
+    let pick = Edit::Pick {
+        id: 1,
+        pick: Pick::On,
+    };
+    let run = Edit::Run { id: 1 };
+    assert_eq!(rt; attribute_fault(Some(&switch), &pick), None);
+    assert_eq!(rt; attribute_fault(Some(&switch), &run), Some(Fault::Kind(1)));
+    assert_eq!(rt; attribute_fault(None, &run), Some(Fault::Absent(1)));
+    Ok(())
+}
+
+#[test]
+fn remains_of_a_geode(rt: HostRuntime) -> Result<(), Fail> {
+    let geom = Geom::new(Vec::new(rt.alloc()))?;
+    let glass = node(
+        rt.alloc(),
+        Kind::Glass {
+            state: 0,
+            alpha: 128,
+            geom,
+        },
+    )?;
+    assert!(rt; glass.kind.is_geode());
+    assert!(rt; !Kind::Layer.is_geode());
+    let gone = glass.remains(5);
+    assert_eq!(rt; gone.id, 5);
+    assert_eq!(rt; gone.serial, 1);
+    Ok(())
+}
+
+#[test]
+fn view_from_the_origin(rt: HostRuntime) -> Result<(), Fail> {
+    let view = View::home();
+    assert_eq!(rt; view.eye, Vec3::ORIGIN);
+    assert_eq!(rt; view.h, 0);
     Ok(())
 }

@@ -394,7 +394,7 @@ fn replaced(nodes: &[(u16, Node)], parent: u16, child: u16, by: u16) -> Result<I
     ensures { IfOk result (λ cs. cs ≡ replace_first child by (children_of (node_at nodes.now) parent)) }
 {
     match find_node(nodes, parent) {
-        Some(node) => node.children.with_replaced(child, by),
+        Some(node) => node.children.with_first_replaced(child, by),
         None => unreachable!(),
     }
 }
@@ -405,7 +405,7 @@ fn shortened(nodes: &[(u16, Node)], parent: u16, child: u16) -> Result<Ids, NoMe
     ensures { IfOk result (λ cs. cs ≡ drop_first child (children_of (node_at nodes.now) parent)) }
 {
     match find_node(nodes, parent) {
-        Some(node) => node.children.without(child),
+        Some(node) => node.children.without_first(child),
         None => unreachable!(),
     }
 }
