@@ -1,5 +1,4 @@
 pub mod Drawings
-pub mod Eye
 pub mod Fragments
 pub mod Instances
 pub mod Rows

@@ -7,10 +7,9 @@ use Rattle.fx_math.specs.declared.lenses.Lens.{Lens}
 use Rattle.pf_model.specs.declared.geometry.Tri.{Tri}
 use Rattle.pf_model.specs.Walks as walks
 use Rattle.tri_cover.specs.declared.hit.Hit.{Hit}
-use Rattle.tri_cover.specs.Hits.{hit}
+use Rattle.tri_cover.specs.Hits.{hit, HitsAs}
 use Rattle.tri_cover.specs.Glass.{alpha_of}
 use Rattle.tri_cover.specs.Picture as pictures
-use Rattle.pf_picture.specs.Eye.{HitsAs}
 use Rattle.pf_picture.specs.declared.surfaces.Surface.{Surface}
 
 -- each triangle of the second list is hit as that of the first is after the steps

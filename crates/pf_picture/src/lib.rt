@@ -3,13 +3,12 @@
 
 mod distances;
 mod drawings;
-mod eye;
 mod fragments;
-pub mod instances;
+mod instances;
 mod leaves;
 mod numbers;
 mod panes;
-pub mod renderer;
+mod renderer;
 mod surfaces;
 mod walk;
 

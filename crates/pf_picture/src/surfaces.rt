@@ -7,14 +7,13 @@ ghost use Rattle.pf_picture.specs.Fragments.{fragment_of};
 ghost use Rattle.pf_picture.specs.Instances.{instance_of};
 ghost use Rattle.pf_picture.specs.Surfaces.{AreCarried, IsSurfaceOf, fragment_at, nearest_of, glazed_by};
 
-use crate::eye::carried;
 use crate::fragments::{Fragment, Key};
 use crate::instances::Instance;
 use fx_math::Lens;
 use pf_io::NoMemory;
 use pf_model::Tri;
 use std::alloc::Global;
-use tri_cover::cover;
+use tri_cover::{carried, cover};
 
 /// An instance with its triangles in eye coordinates. The alpha is 0 where it is opaque.
 #[derive(Drop)]

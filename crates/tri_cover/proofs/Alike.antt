@@ -232,7 +232,7 @@ one_colour lens px py xs ys z agree back =
 same_hits : (lens : Lens) (px py : ℕ) (steps : List Matrix) (ts : List Tri) → AllZip (λ t u. hit lens px py steps t ≡ hit lens px py steps u) ts ts
 same_hits lens px py steps ts = zip_same (λ t u. hit lens px py steps t ≡ hit lens px py steps u) (λ t. refl) ts
 
-seen_relabelled : (lens : Lens) (px py : ℕ) (x y : Instance) → IsRelabelled x y → IsSeenAlike lens px py x y
+pub seen_relabelled : (lens : Lens) (px py : ℕ) (x y : Instance) → IsRelabelled x y → IsSeenAlike lens px py x y
 seen_relabelled lens px py x y r = record {
   tint = r.tint;
   shift = r.shift;

@@ -9,9 +9,10 @@ use Rattle.fx_math.specs.declared.lenses.Lens.{Lens}
 use Rattle.pf_model.specs.Walks.{Instance}
 use Rattle.tri_cover.specs.Orders.{PlacesDiffer, HaveOneColour, HaveOnePicture}
 use Rattle.tri_cover.specs.LeftOut.{LeavesOutNoHit}
-use Rattle.tri_cover.specs.Labels.{IsRelabelled, AreInOneOrder, PlacesAgree, PlacesRise, placed, renumbered}
+use Rattle.tri_cover.specs.Labels.{IsRelabelled, IsSeenAlike, AreInOneOrder, PlacesAgree, PlacesRise, placed, renumbered}
 use Rattle.tri_cover.proofs.AnyOrder.{drawn_alike}
-use Rattle.tri_cover.proofs.Alike.{one_picture}
+use Rattle.tri_cover.proofs.Alike.{one_colour, one_picture, seen_relabelled}
+use Rattle.tri_cover.proofs.Zips.{zip_weaker}
 use Rattle.tri_cover.proofs.Unseen.{same_pixel}
 
 abbrev place : Instance → ℕ
@@ -24,19 +25,19 @@ AreAbove p xs = AllByRecursion (λ q. p < q) (map place xs)
 both_above : (p q r s : ℕ) → p < r → q < s → AreInOneOrder p q r s
 both_above p q r s h g = record { below = grind (arith, nat_tests); above = grind (arith, nat_tests) }
 
-orders_above : (p q : ℕ) (xs ys : List Instance) → AllZip IsRelabelled xs ys → AreAbove p xs → AreAbove q ys → AllZip (λ v w. AreInOneOrder p q v.place w.place) xs ys
-orders_above p q [] [] z a b = tt
-orders_above p q [] (y ∷ ys) z a b = absurd z
-orders_above p q (x ∷ xs) [] z a b = absurd z
-orders_above p q (x ∷ xs) (y ∷ ys) z a b = (both_above p q x.place y.place a.0 b.0, orders_above p q xs ys z.1 a.1 b.1)
+orders_above : (R : Instance → Instance → Type 0) (p q : ℕ) (xs ys : List Instance) → AllZip R xs ys → AreAbove p xs → AreAbove q ys → AllZip (λ v w. AreInOneOrder p q v.place w.place) xs ys
+orders_above R p q [] [] z a b = tt
+orders_above R p q [] (y ∷ ys) z a b = absurd z
+orders_above R p q (x ∷ xs) [] z a b = absurd z
+orders_above R p q (x ∷ xs) (y ∷ ys) z a b = (both_above p q x.place y.place a.0 b.0, orders_above R p q xs ys z.1 a.1 b.1)
 
-rise_agree : (xs ys : List Instance) → AllZip IsRelabelled xs ys → PlacesRise xs → PlacesRise ys → PlacesAgree xs ys
-rise_agree [] ys z a b = tt
-rise_agree (x ∷ xs) [] z a b = tt
-rise_agree (x ∷ xs) (y ∷ ys) z a b = (orders_above x.place y.place xs ys z.1 a.0 b.0, rise_agree xs ys z.1 a.1 b.1)
+rise_agree : (R : Instance → Instance → Type 0) (xs ys : List Instance) → AllZip R xs ys → PlacesRise xs → PlacesRise ys → PlacesAgree xs ys
+rise_agree R [] ys z a b = tt
+rise_agree R (x ∷ xs) [] z a b = tt
+rise_agree R (x ∷ xs) (y ∷ ys) z a b = (orders_above R x.place y.place xs ys z.1 a.0 b.0, rise_agree R xs ys z.1 a.1 b.1)
 
 pub risen_picture : (xs ys : List Instance) → AllZip IsRelabelled xs ys → PlacesRise xs → PlacesRise ys → HaveOnePicture xs ys
-risen_picture xs ys z a b = one_picture xs ys z (rise_agree xs ys z a b)
+risen_picture xs ys z a b = one_picture xs ys z (rise_agree IsRelabelled xs ys z a b)
 
 -- ---- places that rise differ
 none_at : (p q : ℕ) (xs : List Instance) → q ≤ p → AreAbove p xs → count_by (λ x. x.place == q) xs ≡ 0
@@ -96,9 +97,15 @@ relabelled_from : (n : ℕ) (xs : List Instance) → AllZip IsRelabelled xs (map
 relabelled_from n [] = tt
 relabelled_from n (x ∷ xs) = (record { tint = refl; shift = refl; steps = refl; tris = refl; far = refl }, relabelled_from (n + 1) xs)
 
-pub culled : (lens : Lens) (px py : ℕ) (keep : Instance → Bool) (xs ys : List Instance) → PlacesRise xs → LeavesOutNoHit lens px py keep xs → IsPermutation (renumbered (filter keep xs)) ys → HaveOneColour lens px py xs ys
-culled lens px py keep xs ys rise missed perm back =
-    let kept : List Instance = filter keep xs in
-    (drawn_alike (renumbered kept) ys (rise_differ (renumbered kept) (numbers_rise 0 kept)) perm).pixels lens px py back
-    ∙ risen_picture kept (renumbered kept) (relabelled_from 0 kept) (rise_filter keep xs rise) (numbers_rise 0 kept) lens px py back
+pub culled_alike : (lens : Lens) (px py : ℕ) (keep : Instance → Bool) (xs zs ys : List Instance) → PlacesRise xs → LeavesOutNoHit lens px py keep xs → AllZip (IsSeenAlike lens px py) (filter keep xs) zs → PlacesRise zs → IsPermutation zs ys → HaveOneColour lens px py xs ys
+culled_alike lens px py keep xs zs ys rise missed alike rises perm back =
+    (drawn_alike zs ys (rise_differ zs rises) perm).pixels lens px py back
+    ∙ one_colour lens px py (filter keep xs) zs alike (rise_agree (IsSeenAlike lens px py) (filter keep xs) zs alike (rise_filter keep xs rise) rises) back
     ∙ same_pixel lens px py keep xs missed back
+
+pub culled : (lens : Lens) (px py : ℕ) (keep : Instance → Bool) (xs ys : List Instance) → PlacesRise xs → LeavesOutNoHit lens px py keep xs → IsPermutation (renumbered (filter keep xs)) ys → HaveOneColour lens px py xs ys
+culled lens px py keep xs ys rise missed perm =
+    let kept : List Instance = filter keep xs in
+    culled_alike lens px py keep xs (renumbered kept) ys rise missed
+    (zip_weaker IsRelabelled (IsSeenAlike lens px py) (λ x y r. seen_relabelled lens px py x y r) kept (renumbered kept) (relabelled_from 0 kept))
+    (numbers_rise 0 kept) perm

@@ -1,5 +1,5 @@
 -- The hit of a triangle at a pixel: its depth and its colour there.
-use Rattle.std.specs.Prelude.{ℕ, List, [], ◌∷◌, if◌then◌else◌, Option, Some, None, ℤ, pos, ◌+ℤ◌, ◌*ℤ◌, ◌&&◌, unsigned_abs, slice_index, slice_index_or}
+use Rattle.std.specs.Prelude.{◌≡◌, ℕ, List, [], ◌∷◌, if◌then◌else◌, Option, Some, None, ℤ, pos, ◌+ℤ◌, ◌*ℤ◌, ◌&&◌, unsigned_abs, slice_index, slice_index_or}
 use Rattle.fx_math.specs.Plain.{Point, Matrix}
 use Rattle.fx_math.specs.Fixed.{floor_div, carry}
 use Rattle.fx_math.specs.Steps.{origin}
@@ -43,3 +43,7 @@ vertex tri k = slice_index_or (corners tri) k origin
 abbrev pub hit : Lens → (px py : ℕ) → List Matrix → Tri → Option Hit
 hit lens px py steps tri =
     hit_of lens px py (carry steps (vertex tri 0)) (carry steps (vertex tri 1)) (carry steps (vertex tri 2)) tri.c
+
+-- the second triangle is hit as the first is after the steps, through each lens and at each pixel
+abbrev pub HitsAs : Tri → List Matrix → Tri → Type 0
+HitsAs tri steps carried = (lens : Lens) (px py : ℕ) → hit lens px py [] carried ≡ hit lens px py steps tri

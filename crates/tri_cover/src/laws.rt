@@ -50,9 +50,14 @@ pub fn instances_left_out()
 {}
 
 /// A list whose places rise may be cut of instances that hit nothing at a pixel, numbered anew, and put in any order:
-/// the pixel has the same colour.
+/// the pixel has the same colour. What is drawn in place of the instances that stay may be any instances that look like
+/// them there, with places that rise, as the same triangles carried to the eye.
 pub fn culled_in_any_order()
-    ensures { (lens : Lens) (px py : ℕ) (keep : Instance → Bool) (xs ys : List Instance)
+    ensures numbered { (lens : Lens) (px py : ℕ) (keep : Instance → Bool) (xs ys : List Instance)
         → PlacesRise xs → LeavesOutNoHit lens px py keep xs → IsPermutation (renumbered (filter keep xs)) ys
+        → HaveOneColour lens px py xs ys }
+    ensures alike { (lens : Lens) (px py : ℕ) (keep : Instance → Bool) (xs zs ys : List Instance)
+        → PlacesRise xs → LeavesOutNoHit lens px py keep xs
+        → AllZip (IsSeenAlike lens px py) (filter keep xs) zs → PlacesRise zs → IsPermutation zs ys
         → HaveOneColour lens px py xs ys }
 {}
