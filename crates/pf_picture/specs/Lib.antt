@@ -2,5 +2,5 @@ pub mod Drawings
 pub mod Fragments
 pub mod Instances
 pub mod Rows
-pub mod Surfaces
+pub mod Shapes
 pub mod Walking

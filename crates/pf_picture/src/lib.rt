@@ -9,7 +9,7 @@ mod leaves;
 mod numbers;
 mod panes;
 mod renderer;
-mod surfaces;
+mod shapes;
 mod walk;
 
 pub use instances::Instance;

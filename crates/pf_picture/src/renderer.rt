@@ -55,16 +55,7 @@ pub fn draw_plain<V: NodeView>(
         Shows image (picture lens.now back (instances (V.look scene.now) time view.now))) }
 {
     let mut leaves = Vec::new(alloc);
-    walk(
-        alloc,
-        scene,
-        time,
-        LEVELS,
-        0,
-        &view.steps(),
-        0,
-        &mut leaves,
-    )?;
+    walk(alloc, scene, time, LEVELS, 0, &view.steps(), 0, &mut leaves)?;
     let instances = numbered(alloc, &leaves)?;
     let image = draw_instances(alloc, &instances, lens, back)?;
     Ok(image)

@@ -4,7 +4,7 @@ use Rattle.fx_math.specs.Views.{matrix_of}
 use Rattle.tri_cover.specs.Picture as pictures
 use Rattle.pf_picture.specs.Instances.{instance_of}
 use Rattle.pf_picture.proofs.Seen.{carried_fragments}
-use Rattle.pf_picture.proofs.surfaces.Surface.new.Goals as goal
+use Rattle.pf_picture.proofs.shapes.Shape.new.Goals as goal
 
 pub returns : goal.returns
 returns c =

@@ -5,9 +5,9 @@ use Rattle.std.specs.Option.{option_map_or}
 use Rattle.pf_model.specs.declared.geometry.Tri.{Tri}
 use Rattle.tri_cover.specs.Picture as pictures
 use Rattle.pf_picture.specs.Fragments.{fragment_of}
-use Rattle.pf_picture.specs.Surfaces.{fragment_at, nearest_of}
+use Rattle.pf_picture.specs.Shapes.{fragment_at, nearest_of}
 use Rattle.pf_picture.proofs.Folding.{fold_numbered_more, fold_numbered_all}
-use Rattle.pf_picture.proofs.surfaces.Surface.nearest.Goals as goal
+use Rattle.pf_picture.proofs.shapes.Shape.nearest.Goals as goal
 
 pub loop-number-preserved : goal.loop-number-preserved
 loop-number-preserved c =

@@ -5,7 +5,7 @@ use Rattle.std.proofs.lemmas.List.Elements.{all_zip_more}
 use Rattle.fx_math.specs.Views.{matrix_of}
 use Rattle.pf_model.specs.declared.geometry.Tri.{Tri}
 use Rattle.tri_cover.specs.Hits.{HitsAs}
-use Rattle.pf_picture.proofs.surfaces.carried_all.Goals as goal
+use Rattle.pf_picture.proofs.shapes.carried_all.Goals as goal
 
 pub loop-tri-preserved : goal.loop-tri-preserved
 loop-tri-preserved c =

@@ -5,7 +5,7 @@ ghost use Rattle.fx_math.specs.Views.{matrix_of};
 ghost use Rattle.tri_cover.specs.Picture as pictures;
 ghost use Rattle.pf_picture.specs.Fragments.{fragment_of};
 ghost use Rattle.pf_picture.specs.Instances.{instance_of};
-ghost use Rattle.pf_picture.specs.Surfaces.{AreCarried, IsSurfaceOf, fragment_at, nearest_of, glazed_by};
+ghost use Rattle.pf_picture.specs.Shapes.{AreCarried, IsShapeOf, fragment_at, nearest_of, glazed_by};
 
 use crate::fragments::{Fragment, Key};
 use crate::instances::Instance;
@@ -17,20 +17,20 @@ use tri_cover::{carried, cover};
 
 /// An instance with its triangles in eye coordinates. The alpha is 0 where it is opaque.
 #[derive(Drop)]
-pub(crate) struct Surface {
+pub(crate) struct Shape {
     pub(crate) place: u32,
     pub(crate) shift: u32,
     pub(crate) alpha: u8,
     pub(crate) tris: Vec<Tri>,
 }
 
-impl Surface {
-    /// The surface of an instance.
-    pub(crate) fn new(alloc: Global, x: &Instance) -> Result<Surface, NoMemory>
-        ensures { IfOk result (IsSurfaceOf (instance_of x.now)) }
+impl Shape {
+    /// The shape of an instance.
+    pub(crate) fn new(alloc: Global, x: &Instance) -> Result<Shape, NoMemory>
+        ensures { IfOk result (IsShapeOf (instance_of x.now)) }
     {
         let tris = carried_all(alloc, x)?;
-        Ok(Surface {
+        Ok(Shape {
             place: x.place,
             shift: x.shift,
             alpha: x.tint.unwrap_or(0),
@@ -85,7 +85,7 @@ impl Surface {
         }
     }
 
-    /// The nearest of the best so far and the triangles of this surface.
+    /// The nearest of the best so far and the triangles of this shape.
     pub(crate) fn nearest(
         &self,
         best: Option<Fragment>,
@@ -126,7 +126,7 @@ impl Surface {
         }
     }
 
-    /// What this surface, of glass, leaves of the colour under it.
+    /// What this shape, of glass, leaves of the colour under it.
     pub(crate) fn glazed(
         &self,
         behind: &Option<Fragment>,
