@@ -10,8 +10,9 @@ pub mod Written
 pub mod Plays
 pub mod Reads
 pub mod Messages
--- States of the reader, of which no public clause speaks.
+-- States of the reader and the writer, of which no public clause speaks.
 pub mod Rests
 pub mod Making
+pub mod Texts
 pub mod Sections
 pub mod Outcomes
