@@ -2,4 +2,3 @@ pub mod Numbers
 pub mod Entries
 pub mod Told
 pub mod Streams
-pub mod Views

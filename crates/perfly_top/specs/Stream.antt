@@ -1,10 +1,9 @@
 -- What a play draws: after each edit the graph goes on, and each frame adds the picture of the graph that it finds.
-use Rattle.std.specs.Prelude.{ℕ, pos, ◌+◌, List, [], ◌∷◌, ◌++◌}
+use Rattle.std.specs.Prelude.{ℕ, ◌+◌, List, [], ◌∷◌, ◌++◌}
 use Rattle.fx_math.specs.declared.lenses.Lens.{Lens}
 use Rattle.pf_model.specs.declared.edits.Edit.TheVariants as edit
 use Rattle.pf_model.specs.declared.nodes.Kind.TheVariants as kind
-use Rattle.fx_math.specs.Constants.{origin_vector}
-use Rattle.pf_model.specs.Angles.{Viewpoint}
+use Rattle.pf_model.specs.Angles.{home_view}
 use Rattle.pf_model.specs.Graphs.{SceneGraph, empty_scene, node_at}
 use Rattle.pf_model.specs.Walks.{instances}
 use Rattle.ppm_out.specs.Ppm.{picture_bytes}
@@ -14,13 +13,10 @@ use Rattle.perfly_top.specs.declared.steps.Step.{Step}
 use Rattle.perfly_top.specs.declared.steps.Step.TheVariants as step
 use Rattle.perfly_top.specs.Entries.{Script}
 
--- the view before any line sets it: the eye at 0, all angles 0
-abbrev pub opening_view : Viewpoint
-opening_view = record { eye = origin_vector; h = pos 0; p = pos 0; r = pos 0 }
-
--- the P6 bytes of the picture of a graph: that of the instances of the whole walk
+-- the P6 bytes of the picture of a graph: that of the instances of the whole walk, seen from the origin along Y
 unfoldable pub frame_bytes : Lens → List ℕ → SceneGraph → List ℕ
-frame_bytes lens back g = picture_bytes lens.w lens.h (picture lens back (instances (node_at g.nodes) g.time opening_view))
+frame_bytes lens back g =
+    picture_bytes lens.w lens.h (picture lens back (instances (node_at g.nodes) g.time home_view))
 
 -- the graph after a step; an edit with a fault leaves it as it is
 abbrev pub graph_after : SceneGraph → Step → SceneGraph

@@ -13,15 +13,18 @@ use crate::steps::{Play, Step};
 use crate::stop::Stop;
 use fx_math::Lens;
 use pf_io::{NoMemory, Sink, write_all};
-use pf_model::{Edit, EditError, Geom, Graph, Kind};
+use pf_model::{Edit, EditError, Geom, Kind};
+use plain_graph::Graph;
 use std::alloc::Global;
 
 /// Draws the pictures of a play, and flushes the sink.
 pub(crate) fn play<O: Sink>(alloc: Global, play: Play, frames: &mut O) -> Result<(), Stop>
     ensures whole { OnOk result (O.written frames.new
         ≡ append_known (O.written frames.old) (pictures (script_of play))) }
-    ensures front { OnErr result (AppendsUpTo (O.written frames.old) (O.written frames.new) (pictures (script_of play))) }
+    ensures front { OnErr result
+        (AppendsUpTo (O.written frames.old) (O.written frames.new) (pictures (script_of play))) }
     ensures fault { result ≡ Err Stop.FrameFault → Rose (O.faults frames.old) (O.faults frames.new) }
+    ensures last { result ≡ Err Stop.FrameFault → O.at_fault frames.new ≡ O.written frames.new }
     ensures calm { result ≢ Err Stop.FrameFault → Calm (O.faults frames.old) (O.faults frames.new) }
     ensures causes { IfErr result (λ s. (s ≡ Stop.FrameFault) ⊎ (s ≡ Stop.NoMemory)) }
 {
@@ -38,8 +41,10 @@ fn draw_frames<O: Sink>(alloc: Global, play: Play, frames: &mut O) -> Result<(),
         ≡ append_known (O.written frames.old) (pictures (script_of play))) }
     ensures front { result ≡ Err Stop.FrameFault
         → AppendsFront (O.written frames.old) (O.written frames.new) (pictures (script_of play)) }
-    ensures part { OnErr result (AppendsUpTo (O.written frames.old) (O.written frames.new) (pictures (script_of play))) }
+    ensures part { OnErr result
+        (AppendsUpTo (O.written frames.old) (O.written frames.new) (pictures (script_of play))) }
     ensures fault { result ≡ Err Stop.FrameFault → Rose (O.faults frames.old) (O.faults frames.new) }
+    ensures last { result ≡ Err Stop.FrameFault → O.at_fault frames.new ≡ O.written frames.new }
     ensures calm { result ≢ Err Stop.FrameFault → Calm (O.faults frames.old) (O.faults frames.new) }
     ensures causes { IfErr result (λ s. (s ≡ Stop.FrameFault) ⊎ (s ≡ Stop.NoMemory)) }
 {
@@ -69,6 +74,7 @@ fn turn<O: Sink>(
         → AppendsFront (O.written frames.old) (O.written frames.new) (bytes_of lens back graph.old step) }
     ensures same { result ≡ Err Stop.NoMemory → O.written frames.new ≡ O.written frames.old }
     ensures fault { result ≡ Err Stop.FrameFault → Rose (O.faults frames.old) (O.faults frames.new) }
+    ensures last { result ≡ Err Stop.FrameFault → O.at_fault frames.new ≡ O.written frames.new }
     ensures calm { result ≢ Err Stop.FrameFault → Calm (O.faults frames.old) (O.faults frames.new) }
     ensures causes { IfErr result (λ s. (s ≡ Stop.FrameFault) ⊎ (s ≡ Stop.NoMemory)) }
     ensures time { graph.new.time ≤ graph.old.time + 1 }
@@ -116,6 +122,7 @@ fn write_picture<O: Sink>(frames: &mut O, bytes: &[u8]) -> Result<(), Stop>
     ensures whole { OnOk result (O.written frames.new ≡ append_known (O.written frames.old) bytes.now) }
     ensures front { OnErr result (AppendsFront (O.written frames.old) (O.written frames.new) bytes.now) }
     ensures fault { OnErr result (Rose (O.faults frames.old) (O.faults frames.new)) }
+    ensures last { OnErr result (O.at_fault frames.new ≡ O.written frames.new) }
     ensures calm { OnOk result (Calm (O.faults frames.old) (O.faults frames.new)) }
     ensures causes { IfErr result (λ s. s ≡ Stop.FrameFault) }
 {

@@ -11,12 +11,9 @@ use crate::lines::{Line, app, back, depths, line_of, size, version};
 use crate::steps::{Play, Step};
 use crate::words::words;
 use fx_math::Lens;
-use pf_io::NoMemory;
+use pf_io::{MAX_PLAY_BYTES, NoMemory};
 use pf_model::{Geom, Tri};
 use std::alloc::{AllocError, AllocFailed, Global};
-
-/// The most bytes of a play.
-const MAX_BYTES: usize = 16_777_216;
 
 /// The most lines of a play.
 const MAX_LINES: usize = 262_144;
@@ -242,7 +239,7 @@ fn read_app(alloc: Global, line: &[u8]) -> Result<(), ReadingError>
 pub(crate) fn parse(alloc: Global, text: &[u8]) -> Result<Play, ReadingError>
     ensures { Gives (λ p. play_text (script_of p)) result (reading text.now) }
 {
-    if text.len() > MAX_BYTES || line_feeds(text) > MAX_LINES {
+    if text.len() > MAX_PLAY_BYTES || line_feeds(text) > MAX_LINES {
         return Err(ReadingError::Refused);
     }
     let Some((b'\n', inner)) = text.split_last() else {

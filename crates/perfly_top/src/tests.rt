@@ -59,6 +59,8 @@ fn faults_and_the_flush(rt: HostRuntime) -> Result<(), Fail> {
     );
     let flushed = run(alloc, text.as_bytes(), &[], &[69])?;
     assert_eq!(rt; (flushed.0, flushed.1.len()), (FRAME_FAULT, 69));
+    let no_frame = run(alloc, HEADER.as_bytes(), &[], &[0])?;
+    assert_eq!(rt; (no_frame.0, no_frame.1.len()), (FRAME_FAULT, 0));
     let unread = run(alloc, text.as_bytes(), &[9], &[])?;
     assert_eq!(rt; (unread.0, unread.1.len()), (READ_FAULT, 0));
     Ok(())

@@ -31,9 +31,9 @@ pub struct Ended {
     pub status: u8,
 }
 
-/// Reads a play from `input` to its end and writes the picture of each of its frames to `frames`, as P6 images (Netpbm), one
-/// after the other. `words` are those after the program's name; none is known yet. Nothing is written to `report`, and no
-/// stage passes `gate`.
+/// Reads a play from `input` to its end and writes the picture of each of its frames to `frames`, as P6 images (Netpbm),
+/// one after the other; after a fault nothing more. `words` are those after the program's name; none is known yet.
+/// Nothing is written to `report`, and no stage passes `gate`.
 pub fn perfly<I: Source, O: Sink, R: Sink, G: Gate>(
     alloc: Global,
     words: &[String],
@@ -67,6 +67,7 @@ pub fn perfly<I: Source, O: Sink, R: Sink, G: Gate>(
         → O.written frames.new ≡ O.written frames.old }
     ensures front { result.status ≡ FRAME_FAULT
         → IfSome (I.left input.old) (λ bytes. ShowsFront (reading bytes) (O.written frames.old) (O.written frames.new)) }
+    ensures frame_last { result.status ≡ FRAME_FAULT → O.at_fault frames.new ≡ O.written frames.new }
     ensures part { result.status ≡ NO_MEMORY → (O.written frames.new ≡ O.written frames.old)
         ⊎ IfSome (I.left input.old) (λ bytes. ShowsFront (reading bytes) (O.written frames.old) (O.written frames.new)) }
     ensures no_report { (R.written report.new ≡ R.written report.old)
@@ -105,13 +106,15 @@ fn run<I: Source, O: Sink>(
     ensures read_fault { result ≡ Err Stop.ReadFault → Rose (I.faults input.old) (I.faults input.new) }
     ensures read_calm { result ≢ Err Stop.ReadFault → Calm (I.faults input.old) (I.faults input.new) }
     ensures frame_fault { result ≡ Err Stop.FrameFault → Rose (O.faults frames.old) (O.faults frames.new) }
+    ensures frame_last { result ≡ Err Stop.FrameFault → O.at_fault frames.new ≡ O.written frames.new }
     ensures frame_calm { result ≢ Err Stop.FrameFault → Calm (O.faults frames.old) (O.faults frames.new) }
     ensures unread { result ≡ Err Stop.Words → I.left input.new ≡ I.left input.old }
     ensures read { IsOk result ⊎ (result ≡ Err Stop.Refused) ⊎ (result ≡ Err Stop.FrameFault)
         → IsRead (I.left input.old) (I.left input.new) }
     ensures part_read { (result ≡ Err Stop.ReadFault) ⊎ (result ≡ Err Stop.NoMemory)
         → TakesFront (I.left input.old) (I.left input.new) }
-    ensures done { OnOk result (IfSome (I.left input.old) (λ bytes. Shows (reading bytes) (O.written frames.old) (O.written frames.new))) }
+    ensures done { OnOk result (IfSome (I.left input.old)
+        (λ bytes. Shows (reading bytes) (O.written frames.old) (O.written frames.new))) }
     ensures no_frames { (result ≡ Err Stop.Words) ⊎ (result ≡ Err Stop.Refused)
         ⊎ (result ≡ Err Stop.ReadFault)
         → O.written frames.new ≡ O.written frames.old }
@@ -154,6 +157,7 @@ fn show<O: Sink>(alloc: Global, bytes: &[u8], frames: &mut O) -> Result<(), Stop
     ensures part { result ≡ Err Stop.NoMemory → (O.written frames.new ≡ O.written frames.old)
         ⊎ ShowsFront (reading bytes.now) (O.written frames.old) (O.written frames.new) }
     ensures fault { result ≡ Err Stop.FrameFault → Rose (O.faults frames.old) (O.faults frames.new) }
+    ensures last { result ≡ Err Stop.FrameFault → O.at_fault frames.new ≡ O.written frames.new }
     ensures calm { result ≢ Err Stop.FrameFault → Calm (O.faults frames.old) (O.faults frames.new) }
     ensures causes { IfErr result (λ s. (s ≡ Stop.Refused) ⊎ (s ≡ Stop.FrameFault) ⊎ (s ≡ Stop.NoMemory)) }
     ensures not_shown { reading bytes.now ≡ None → IsErr result × (result ≢ Err Stop.FrameFault) }

@@ -1,20 +1,26 @@
 -- Sources and sinks over memory, which fail where they are told to.
-use Rattle.std.specs.Prelude.{◌==◌, ℕ, ◌-◌, min, nat_lt, List, length, drop, filter, fold, position, remove, Option, Some, Contains}
-use Rattle.std.specs.Option.{option_map_or}
+use Rattle.std.specs.Prelude.{◌==◌, ℕ, ◌-◌, min, nat_lt, List, length, take, drop, filter, fold, position, remove, Option, Some, None, Contains}
+use Rattle.std.specs.Option.{option_map, option_map_or}
 use Rattle.pf_io.specs.Causes.{counted}
 
--- the places at which calls are still to fail, and the number of faults so far
+-- the places at which calls are still to fail, the number of faults so far, and the place of the last one
 pub record FaultPlan : Type 0 where
   pub places : List ℕ
   pub count : ℕ
+  pub last : Option ℕ
+
+-- the plan before any fault
+abbrev pub fresh_plan : List ℕ → FaultPlan
+fresh_plan places = record { places = places; count = 0; last = None }
 
 -- the list without its first x
 abbrev pub without_first : ℕ → List ℕ → List ℕ
 without_first x xs = option_map_or (λ i. remove xs i) (position (λ y. y == x) xs) xs
 
--- the plan after a fault at a place: one entry of the place is used up, and the fault is counted
+-- the plan after a fault at a place: one entry of the place is used up, and the fault is counted and its place noted
 abbrev pub after_fault : ℕ → FaultPlan → FaultPlan
-after_fault place plan = record { places = without_first place plan.places; count = counted plan.count }
+after_fault place plan =
+    record { places = without_first place plan.places; count = counted plan.count; last = Some place }
 
 -- how many of `most` bytes a call that begins at a place moves: it stops at the next place that is to fail
 abbrev pub reach : FaultPlan → ℕ → ℕ → ℕ
@@ -35,6 +41,10 @@ pub record MemoryOutput : Type 0 where
   pub bytes : List ℕ
   pub room : ℕ
   pub plan : FaultPlan
+
+-- the bytes that a sink had at its last fault, or none where there was no fault
+abbrev pub kept_at_fault : MemoryOutput → Option (List ℕ)
+kept_at_fault sink = option_map (λ place. take place sink.bytes) sink.plan.last
 
 -- a call at the place where the sink stands is to fail
 abbrev pub IsDue : MemoryOutput → Type 0

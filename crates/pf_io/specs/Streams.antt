@@ -19,6 +19,10 @@ abbrev pub Writes : {E : Type 0} → Option (List ℕ) → Option (List ℕ) →
 Writes old new result piece =
     MatchResult result (λ n. new ≡ append_known old (take n piece)) (λ _. new ≡ old)
 
+-- `Err` tells that what is written now was written at the last fault, and `Ok` leaves what was told of it
+abbrev pub MarksFault : {A E : Type 0} → Option (List ℕ) → Option (List ℕ) → Option (List ℕ) → Result A E → Type 0
+MarksFault old new written result = MatchResult result (λ _. new ≡ old) (λ _. new ≡ written)
+
 -- a front of the bytes was added, but not all of them
 abbrev pub AppendsFront : Option (List ℕ) → Option (List ℕ) → List ℕ → Type 0
 AppendsFront old new bytes = (k : ℕ) × (k < length bytes) × (new ≡ append_known old (take k bytes))

@@ -1,29 +1,34 @@
 //! Where the ends over memory are to fail.
 ghost use Rattle.std.specs.Prelude.{◌≡◌, ◌==◌, ◌↔◌, ◌<◌, ◌≤◌, length, position, Contains, IsTrue, IfSome};
 ghost use Rattle.pf_io.specs.Causes.{Rose};
-ghost use Rattle.pf_io.specs.Memory.{FaultPlan, after_fault, reach, without_first};
+ghost use Rattle.pf_io.specs.Memory.{FaultPlan, fresh_plan, after_fault, reach, without_first};
 
 use crate::Failed;
 use std::marker::Model;
 
-/// The places at which calls are still to fail, and the number of faults so far.
+/// The places at which calls are still to fail, the number of faults so far, and the place of the last one.
 #[derive(Drop)]
 pub struct Faults {
     places: Vec<u64>,
     count: u64,
+    last: Option<usize>,
 }
 
 impl Model for Faults {
     ghost Value = { FaultPlan };
 
-    ghost view = { λ f. record { places = f.places.items; count = f.count } };
+    ghost view = { λ f. record { places = f.places.items; count = f.count; last = f.last } };
 }
 
 impl Faults {
     pub fn new(places: Vec<u64>) -> Faults
-        ensures { result ≡ record { places = places.items; count = 0 } }
+        ensures { result ≡ fresh_plan places.items }
     {
-        Faults { places, count: 0 }
+        Faults {
+            places,
+            count: 0,
+            last: None,
+        }
     }
 
     /// Whether a call that begins at `place` is to fail.
@@ -41,6 +46,7 @@ impl Faults {
     {
         remove_first(&mut self.places, place as u64);
         self.count = self.count.saturating_add(1);
+        self.last = Some(place);
         Failed
     }
 

@@ -14,7 +14,7 @@ pub use answers::{Failed, NoMemory};
 pub use gate::{FreeGate, Gate, Stage};
 pub use memory::{MemSink, MemSource};
 pub use sink::{Sink, WriteError, write_all};
-pub use source::{READ_LIMIT, ReadError, Source, read_all};
+pub use source::{MAX_PLAY_BYTES, READ_LIMIT, ReadError, Source, read_all};
 pub use standard::{StdSink, StdSource};
 
 #[cfg(test)]

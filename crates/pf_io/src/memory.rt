@@ -1,16 +1,16 @@
 //! A source and a sink over memory, which fail where they are told to and nowhere else.
-ghost use Rattle.std.specs.Prelude.{◌≡◌, ◌↔◌, ℕ, ◌+◌, ◌-◌, ◌<◌, ◌≤◌, ◌⊎◌, min, [], ◌++◌, length, take, vec_len, vec_capacity, Contains, IfOk, IsErr, OnErr, OnOk, Some};
+ghost use Rattle.std.specs.Prelude.{◌≡◌, ◌↔◌, ℕ, ◌+◌, ◌-◌, ◌<◌, ◌≤◌, ◌⊎◌, min, [], ◌++◌, length, take, vec_len, vec_capacity, Contains, IfSome, IfOk, IsErr, OnErr, OnOk, Some};
 ghost use Rattle.pf_io.specs.Causes.{HasCause};
-ghost use Rattle.pf_io.specs.Streams.{Reads, Writes};
-ghost use Rattle.pf_io.specs.Memory.{MemoryInput, MemoryOutput, left_in, after_fault, reach, IsDue};
+ghost use Rattle.pf_io.specs.Streams.{Reads, Writes, MarksFault};
+ghost use Rattle.pf_io.specs.Memory.{MemoryInput, MemoryOutput, fresh_plan, left_in, kept_at_fault, after_fault, reach, IsDue};
 
 use crate::faults::Faults;
 use crate::{Failed, NoMemory, Sink, Source};
 use std::alloc::Global;
 use std::marker::Model;
 
-/// A source over bytes in memory. A read that begins at a listed place fails, once for each entry of it, and a read that would cross
-/// one stops there.
+/// A source over bytes in memory. A read that begins at a listed place fails, once for each entry of it, and a read that
+/// would cross one stops there.
 #[derive(Drop)]
 pub struct MemSource {
     bytes: Vec<u8>,
@@ -29,7 +29,7 @@ impl Model for MemSource {
 impl MemSource {
     /// A source of `bytes` that fails at the places of `fail_at`.
     pub fn new(bytes: Vec<u8>, fail_at: Vec<u64>) -> MemSource
-        ensures { result ≡ record { bytes = bytes.items; place = 0; plan = record { places = fail_at.items; count = 0 } } }
+        ensures { result ≡ record { bytes = bytes.items; place = 0; plan = fresh_plan fail_at.items } }
     {
         MemSource {
             bytes,
@@ -68,9 +68,9 @@ impl Source for MemSource {
     }
 }
 
-/// A sink that keeps the bytes in memory. A write that begins at a listed place fails, once for each entry of it, and a write that
-/// would cross one stops there; a flush counts as a call that begins where the sink stands. A write fails where the
-/// room is full.
+/// A sink that keeps the bytes in memory. A write that begins at a listed place fails, once for each entry of it, and a
+/// write that would cross one stops there; a flush counts as a call that begins where the sink stands. A write fails
+/// where the room is full.
 #[derive(Drop)]
 pub struct MemSink {
     bytes: Vec<u8>,
@@ -83,13 +83,14 @@ impl Model for MemSink {
 
     ghost view = { λ s. record { bytes = s.bytes.items; room = s.room; plan = s.faults } };
 
-    ghost invariant = { λ s. (vec_len s.bytes ≤ s.room) × (s.room ≤ vec_capacity s.bytes) };
+    ghost invariant = { λ s. (vec_len s.bytes ≤ s.room) × (s.room ≤ vec_capacity s.bytes)
+        × IfSome s.faults.last (λ place. place ≤ vec_len s.bytes) };
 }
 
 impl MemSink {
     /// A sink with the memory for `room` bytes, that fails at the places of `fail_at`.
     pub fn new(alloc: Global, room: usize, fail_at: Vec<u64>) -> Result<MemSink, NoMemory>
-        ensures { IfOk result (λ s. s ≡ record { bytes = []; room = room; plan = record { places = fail_at.items; count = 0 } }) }
+        ensures { IfOk result (λ s. s ≡ record { bytes = []; room = room; plan = fresh_plan fail_at.items }) }
     {
         Ok(MemSink {
             bytes: Vec::with_capacity(alloc, room)?,
@@ -111,15 +112,19 @@ impl Sink for MemSink {
 
     ghost faults = { λ s. s.plan.count };
 
+    ghost at_fault = { kept_at_fault };
+
     fn write(&mut self, piece: &[u8]) -> Result<usize, Failed>
         requires { 0 < length piece.now }
         ensures bound { IfOk result (λ n. (0 < n) × (n ≤ length piece.now)) }
         ensures bytes { Writes (Some self.old.bytes) (Some self.new.bytes) result piece.now }
         ensures cause { HasCause self.old.plan.count self.new.plan.count result }
+        ensures last { MarksFault (kept_at_fault self.old) (kept_at_fault self.new) (Some self.new.bytes) result }
 
         // It fails at the places of the plan and where the room is full, and nowhere else.
         ensures due { IsErr result ↔ (IsDue self.old ⊎ (self.old.room ≤ length self.old.bytes)) }
-        ensures fault { OnErr result (self.new ≡ record self.old { plan = after_fault (length self.old.bytes) self.old.plan }) }
+        ensures fault { OnErr result
+            (self.new ≡ record self.old { plan = after_fault (length self.old.bytes) self.old.plan }) }
         ensures moved { IfOk result (λ n. self.new ≡ record self.old { bytes = self.old.bytes ++ take n piece.now }) }
         ensures count { IfOk result (λ n. n ≡ reach self.old.plan (length self.old.bytes)
             (min (length piece.now) (self.old.room - length self.old.bytes))) }
@@ -136,10 +141,12 @@ impl Sink for MemSink {
     fn flush(&mut self) -> Result<(), Failed>
         ensures bytes { Some self.new.bytes ≡ Some self.old.bytes }
         ensures cause { HasCause self.old.plan.count self.new.plan.count result }
+        ensures last { MarksFault (kept_at_fault self.old) (kept_at_fault self.new) (Some self.new.bytes) result }
 
         // It fails at the places of the plan and nowhere else.
         ensures due { IsErr result ↔ IsDue self.old }
-        ensures fault { OnErr result (self.new ≡ record self.old { plan = after_fault (length self.old.bytes) self.old.plan }) }
+        ensures fault { OnErr result
+            (self.new ≡ record self.old { plan = after_fault (length self.old.bytes) self.old.plan }) }
         ensures quiet { OnOk result (self.new ≡ self.old) }
     {
         if self.faults.is_due(self.bytes.len()) {

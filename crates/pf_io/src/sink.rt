@@ -2,7 +2,7 @@
 ghost use Rattle.std.specs.Prelude.{◌≡◌, ℕ, ◌<◌, ◌≤◌, List, Option, length, take, IfOk, IfErr, OnOk, OnErr};
 ghost use Rattle.std.specs.Io.KnownBytes.{append_known};
 ghost use Rattle.pf_io.specs.Causes.{HasCause};
-ghost use Rattle.pf_io.specs.Streams.{Writes, AppendsFront};
+ghost use Rattle.pf_io.specs.Streams.{Writes, MarksFault, AppendsFront};
 
 use crate::Failed;
 use std::error::Error;
@@ -16,18 +16,23 @@ pub trait Sink {
     // How many faults it has reported, up to the last value of the count.
     ghost faults: { Self → ℕ };
 
+    // The bytes that were written at its last fault, where it tells them.
+    ghost at_fault: { Self → Option (List ℕ) };
+
     /// Writes the first bytes of `piece`, which isn't empty, and answers their number, 1 at least. A device that takes
     /// nothing of a piece is a fault.
     fn write(&mut self, piece: &[u8]) -> Result<usize, Failed>
         requires { 0 < length piece.now }
         ensures bound { IfOk result (λ n. (0 < n) × (n ≤ length piece.now)) }
         ensures bytes { Writes (written self.old) (written self.new) result piece.now }
-        ensures cause { HasCause (faults self.old) (faults self.new) result };
+        ensures cause { HasCause (faults self.old) (faults self.new) result }
+        ensures last { MarksFault (at_fault self.old) (at_fault self.new) (written self.new) result };
 
     /// Sees to it that no byte waits in a buffer.
     fn flush(&mut self) -> Result<(), Failed>
         ensures bytes { written self.new ≡ written self.old }
-        ensures cause { HasCause (faults self.old) (faults self.new) result };
+        ensures cause { HasCause (faults self.old) (faults self.new) result }
+        ensures last { MarksFault (at_fault self.old) (at_fault self.new) (written self.new) result };
 }
 
 /// A fault cut a write short.
@@ -40,7 +45,8 @@ pub struct WriteError {
 impl fmt::Display for WriteError {
     ghost use Rattle.std.specs.Prelude.{Some, ◌++◌, codes, decimal};
 
-    ghost output = { λ error. Some (codes "the stream reported a fault after " ++ decimal error.written ++ codes " bytes") };
+    ghost output = { λ error.
+        Some (codes "the stream reported a fault after " ++ decimal error.written ++ codes " bytes") };
 
     fn fmt<W: fmt::Write>(&self, f: &mut fmt::Formatter<W>) -> fmt::Result {
         let written = self.written;
@@ -50,13 +56,16 @@ impl fmt::Display for WriteError {
 
 impl Error for WriteError {}
 
-/// Writes all of `bytes`, or up to a fault.
+/// Writes all of `bytes`, or up to a fault, after which the sink gets no more.
 pub fn write_all<S: Sink>(sink: &mut S, bytes: &[u8]) -> Result<(), WriteError>
     ensures whole { OnOk result (S.written sink.new ≡ append_known (S.written sink.old) bytes.now) }
     ensures cut { IfErr result (λ error. (error.written < length bytes.now) ×
         (S.written sink.new ≡ append_known (S.written sink.old) (take error.written bytes.now))) }
     ensures front { OnErr result (AppendsFront (S.written sink.old) (S.written sink.new) bytes.now) }
     ensures cause { HasCause (S.faults sink.old) (S.faults sink.new) result }
+
+    // Nothing is written after a fault.
+    ensures last { MarksFault (S.at_fault sink.old) (S.at_fault sink.new) (S.written sink.new) result }
 {
     let mut written = 0;
     while written < bytes.len() {

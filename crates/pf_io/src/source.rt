@@ -26,8 +26,11 @@ pub trait Source {
         ensures cause { HasCause (faults self.old) (faults self.new) result };
 }
 
-/// The most bytes that [`read_all`] takes.
-pub const READ_LIMIT: usize = 16_777_217;
+/// The most bytes that a play has.
+pub const MAX_PLAY_BYTES: usize = 16_777_216;
+
+/// The most bytes that [`read_all`] takes: one more than the greatest play, so that a longer one is told from it.
+pub const READ_LIMIT: usize = MAX_PLAY_BYTES + 1;
 
 const PIECE: usize = 8192;
 
@@ -80,7 +83,8 @@ impl From<AllocError> for ReadError {
 /// one byte.
 pub fn read_all<S: Source>(alloc: Global, source: &mut S) -> Result<Vec<u8>, ReadError>
     ensures taken { IfOk result (λ v. S.left source.old ≡ prepend_known v.items (S.left source.new)) }
-    ensures whole { IfOk result (λ v. (vec_len v ≡ READ_LIMIT) ⊎ ((vec_len v < READ_LIMIT) × IsAtEnd (S.left source.new))) }
+    ensures whole { IfOk result (λ v. (vec_len v ≡ READ_LIMIT)
+        ⊎ ((vec_len v < READ_LIMIT) × IsAtEnd (S.left source.new))) }
     ensures later { S.faults source.old ≤ S.faults source.new }
     ensures calm { OnOk result (Calm (S.faults source.old) (S.faults source.new)) }
     ensures failed { IsErrOf result ReadError.Failed → Rose (S.faults source.old) (S.faults source.new) }

@@ -3,7 +3,7 @@
 ghost use Rattle.std.specs.Prelude.{◌≡◌, ℕ, ◌<◌, ◌≤◌, length, IfOk, None};
 ghost use Rattle.std.specs.Io.KnownBytes.{Keeps, ReadConsumes, WriteAppends};
 ghost use Rattle.pf_io.specs.Causes.{Rose, HasCause};
-ghost use Rattle.pf_io.specs.Streams.{Reads, Writes};
+ghost use Rattle.pf_io.specs.Streams.{Reads, Writes, MarksFault};
 ghost use Rattle.pf_io.specs.Standard.{Reading, Writing};
 
 use crate::{Failed, Sink, Source};
@@ -94,6 +94,8 @@ impl<W: Write> Sink for StdSink<W> {
     ghost written = { λ _. None };
 
     ghost faults = { λ s. s.faults };
+
+    ghost at_fault = { λ _. None };
 
     fn write(&mut self, piece: &[u8]) -> Result<usize, Failed>
         requires { 0 < length piece.now }

@@ -4,7 +4,7 @@ use Rattle.std.specs.List.{insert, remove, position, position_or_len}
 use Rattle.std.proofs.lemmas.List.Quantifiers.{position-Some}
 use Rattle.std.proofs.lemmas.List.Sums.{fails_before_first}
 use Rattle.pf_model.specs.Kinds.{put_at}
-use Rattle.pf_model.specs.Edits.{replace_first, drop_first}
+use Rattle.pf_model.specs.Children.{replace_first, drop_first}
 use Rattle.pf_model.proofs.Places.{place_end}
 
 pub put_within : (xs : List ℕ) (i x : ℕ) → i < length xs → put_at xs i x ≡ slice_set xs i x

@@ -9,13 +9,13 @@ use Rattle.pf_model.specs.Graphs.{Nodes, node_at, has_id, change, put, without}
 use Rattle.pf_model.specs.Limits.{IsRising, is_there}
 use Rattle.pf_model.proofs.Places.{node_at_step, absent_head}
 
-apart_true : (a b c : ℕ) → (a == c) ≡ true → (a == b) ≡ true → (b == c) ≡ false → ⊥
+pub apart_true : (a b c : ℕ) → (a == c) ≡ true → (a == b) ≡ true → (b == c) ≡ false → ⊥
 apart_true a b c h k l = absurd (grind (arith, nat_tests))
 
 apart_false : (a b c : ℕ) → (a == c) ≡ true → (a == b) ≡ false → (b == c) ≡ true → ⊥
 apart_false a b c h k l = absurd (grind (arith, nat_tests))
 
-apart_other : (a b c : ℕ) → (a == c) ≡ false → (a == b) ≡ true → (b == c) ≡ true → ⊥
+pub apart_other : (a b c : ℕ) → (a == c) ≡ false → (a == b) ≡ true → (b == c) ≡ true → ⊥
 apart_other a b c h k l = absurd (grind (arith, nat_tests))
 
 pub node_at_change : (f : Node → Node) (id : ℕ) (xs : Nodes) (b : ℕ) → node_at (change id f xs) b ≡ cond (b == id) (option_map f (node_at xs b)) (node_at xs b)
@@ -37,17 +37,17 @@ node_at_change f id (x ∷ xs) b = by (node_at_change f id xs b) (x.0 == id) (x.
     by rest false false true et es er = rw (node_at_step b x (change id f xs), node_at_step b x xs, es) (rest ∙ ap (λ t. cond t (option_map f (node_at xs b)) (node_at xs b)) er)
     by rest false false false et es er = rw (node_at_step b x (change id f xs), node_at_step b x xs, es) (rest ∙ ap (λ t. cond t (option_map f (node_at xs b)) (node_at xs b)) er)
 
-self_eq : (a b : ℕ) → (a == b) ≡ (b == a)
-self_eq a b = grind (arith, nat_tests)
+pub turned_eq : (a b : ℕ) → (a == b) ≡ (b == a)
+turned_eq a b = grind (arith, nat_tests)
 
 pub node_at_put : (n : Node) (id : ℕ) (xs : Nodes) (b : ℕ) → node_at xs id ≡ None → node_at (put id n xs) b ≡ cond (b == id) (Some n) (node_at xs b)
-node_at_put n id [] b none = node_at_step b (id, n) [] ∙ ap (λ t. cond t (Some n) None) (self_eq id b)
+node_at_put n id [] b none = node_at_step b (id, n) [] ∙ ap (λ t. cond t (Some n) None) (turned_eq id b)
 node_at_put n id (x ∷ xs) b none =
     by (node_at_put n id xs b (absent_head id x xs none).1) (absent_head id x xs none).0 (nat_lt id x.0) (x.0 == id) (x.0 == b) (b == id) refl refl refl
   where
     by : node_at (put id n xs) b ≡ cond (b == id) (Some n) (node_at xs b) → (x.0 == id) ≡ false → (l t s r : Bool) → (x.0 == id) ≡ t → (x.0 == b) ≡ s → (b == id) ≡ r
         → node_at (cond l ((id, n) ∷ x ∷ xs) (cond t ((id, n) ∷ xs) (x ∷ put id n xs))) b ≡ cond r (Some n) (node_at (x ∷ xs) b)
-    by rest other true t s r et es er = node_at_step b (id, n) (x ∷ xs) ∙ ap (λ u. cond u (Some n) (node_at (x ∷ xs) b)) (self_eq id b ∙ er)
+    by rest other true t s r et es er = node_at_step b (id, n) (x ∷ xs) ∙ ap (λ u. cond u (Some n) (node_at (x ∷ xs) b)) (turned_eq id b ∙ er)
     by rest other false true s r et es er = absurd (let h : true ≡ false = sym et ∙ other in cc)
     by rest other false false true true et es er = absurd (apart_other x.0 b id et es er)
     by rest other false false true false et es er = rw (node_at_step b x (put id n xs), node_at_step b x xs, es) refl

@@ -15,9 +15,8 @@ use Rattle.pf_model.specs.Graphs.{Look, Nodes, SceneGraph, node_at, children_of,
 use Rattle.pf_model.specs.Limits.{HasBegun, HasBegunRun, IsGraphWithinLimits}
 use Rattle.pf_model.specs.Edits.{fault_of, effect}
 use Rattle.pf_model.specs.Merges.{fault_from, merge_fault, after_all}
-use Rattle.pf_model.proofs.Tables.{levels_are}
 use Rattle.pf_model.proofs.Places.{node_at_step}
-use Rattle.pf_model.proofs.Levels.{height_step, size_step}
+use Rattle.pf_model.proofs.Levels.{levels_are, height_step, size_step}
 use Rattle.pf_model.proofs.Keeping.{IsFine, keeps_of, few_of}
 use Rattle.pf_model.proofs.EditLimits.{limits_effect}
 

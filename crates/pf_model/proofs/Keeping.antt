@@ -15,8 +15,7 @@ use Rattle.pf_model.specs.Edits.{greatest_height, with_nodes}
 use Rattle.pf_model.specs.Limits.{IsRising, is_there, KeepsLimits, HasBegun, IsGraphWithinLimits}
 use Rattle.pf_model.proofs.Places.{node_at_step, funext, AreFound, all_found}
 use Rattle.std.proofs.lemmas.List.{length-map}
-use Rattle.pf_model.proofs.Tables.{levels_are}
-use Rattle.pf_model.proofs.Levels.{height_step, size_step, none_below_itself}
+use Rattle.pf_model.proofs.Levels.{levels_are, height_step, size_step, none_below_itself}
 use Rattle.pf_model.proofs.Finds.{node_at_change, few_found, ids_change, length_change}
 
 -- What the limits ask of one node.

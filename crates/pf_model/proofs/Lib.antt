@@ -1,5 +1,4 @@
 pub mod Places
-pub mod Tables
 pub mod Rules
 pub mod Levels
 pub mod Named
@@ -12,8 +11,15 @@ pub mod Members
 pub mod Keeping
 pub mod Finds
 pub mod Nesting
-pub mod Effects
+pub mod Hulls
+pub mod Homes
 pub mod Entries
 pub mod Turns
-pub mod Relinks
 pub mod Changes
+pub mod Solutions
+pub mod Apart
+pub mod Between
+pub mod Editing
+pub mod Numbering
+pub mod Totals
+pub mod ShownPlaces

@@ -1,49 +1,38 @@
 -- Edits of links keep a graph within the limits.
 use Rattle.std.proofs.Common.{◌≡◌, ℕ, ◌<◌, ◌≤◌, Bool, true, false, ◌==◌, nat_lt, nat_le, List, [], ◌∷◌, ◌++◌, length, Option, Some, None, is_some, is_none, ◌⊎◌, inl, inr, refl, sym, ◌∙◌, ap, subst, arith, cond}
-use Rattle.std.specs.List.{AllByRecursion, list_any, insert}
+use Rattle.std.specs.List.{list_any, insert}
 use Rattle.std.specs.Option.{option_map_or, option_map}
 use Rattle.std.proofs.lemmas.Bool.{eq-eqb}
 use Rattle.std.proofs.lemmas.Bool.Decides.{nat_tests}
 use Rattle.pf_model.specs.declared.nodes.Node.{Node}
 use Rattle.pf_model.specs.declared.edits.Edit.TheVariants as edit
-use Rattle.pf_model.specs.declared.edits.Fault.{Fault}
 use Rattle.pf_model.specs.declared.edits.Fault.TheVariants as fault
 use Rattle.pf_model.specs.Kinds.{is_geode}
 use Rattle.pf_model.specs.Graphs.{Nodes, SceneGraph, node_at, children_of, change, height_of, size_of, levels}
 use Rattle.pf_model.specs.Limits.{is_there, IsGraphWithinLimits}
-use Rattle.pf_model.specs.Edits.{with_children, with_nodes, when, first, absent, has_kind, deep, large, child_count, rules, effect, child_added, child_inserted, child_replaced, child_removed, greatest_height, replace_first, drop_first}
+use Rattle.pf_model.specs.Children.{replace_first, drop_first}
+use Rattle.pf_model.specs.NodeEdits.{with_children, node_after}
+use Rattle.pf_model.specs.Edits.{with_nodes, has_kind, deep, large, child_count, rules, fault_of, effect, greatest_height}
+use Rattle.pf_model.proofs.Rules.{all_passed, when_not, there_from}
 use Rattle.pf_model.proofs.Keeping.{IsFine, fine_of, limits_change, low_of_rule, small_of_rule, heights_less, sizes_less, FewerChildren}
 use Rattle.pf_model.proofs.Finds.{node_at_change}
 use Rattle.pf_model.proofs.Members.{holds, holds_appended, holds_inserted, holds_replaced, holds_dropped, length_appended, length_inserted, length_replaced, length_dropped, same_fewer, dropped_fewer}
 
--- rules that are passed are each not met
-pub all_passed : (fs : List (Option Fault)) → None ≡ first fs → AllByRecursion (λ f. None ≡ f) fs
-all_passed [] none = tt
-all_passed (None ∷ fs) none = (refl, all_passed fs none)
-all_passed (Some f ∷ fs) none = absurd (cc)
-
-pub when_not : (t : Bool) (f : Fault) → None ≡ when t f → t ≡ false
-when_not true f none = absurd (cc)
-when_not false f none = refl
-
-pub there_from : (g : Nodes) (id : ℕ) → None ≡ absent g id → is_there (node_at g) id ≡ true
-there_from g id none = by (node_at g id) (when_not (is_none (node_at g id)) (fault.Absent id) none)
-  where
-    by : (o : Option Node) → is_none o ≡ false → is_some o ≡ true
-    by None h = absurd (cc)
-    by (Some n) h = refl
-
 not_zero : (c : ℕ) → (c == 0) ≡ false → (x : ℕ) → c ≡ x → x ≡ 0 → ⊥
 not_zero c h x e z = let k : (c == 0) ≡ true = eq-eqb c 0 (e ∙ z) in let l : true ≡ false = sym k ∙ h in cc
 
+-- a node whose children are made of its own
+abbrev with_made : (List ℕ → List ℕ) → Node → Node
+with_made h n = with_children (h n.children) n
+
 -- new members are there and are not the scene
-pub limits_link : (g : SceneGraph) (p : ℕ) (h : List ℕ → List ℕ) → IsGraphWithinLimits g → has_kind is_geode g.nodes p ≡ false
+pub limits_link : (g : SceneGraph) (p : ℕ) (h : List ℕ → List ℕ) → IsGraphWithinLimits g → has_kind is_geode (node_at g.nodes p) ≡ false
     → ((cs : List ℕ) (x : ℕ) → holds x (h cs) ≡ true → (holds x cs ≡ true) ⊎ ((is_there (node_at g.nodes) x ≡ true) × (x ≡ 0 → ⊥)))
     → ((n : Node) → node_at g.nodes p ≡ Some n → length (h n.children) ≤ 256)
-    → ((b : ℕ) → height_of (node_at (change p (with_children h) g.nodes)) b ≤ 32) → ((b : ℕ) → size_of (node_at (change p (with_children h) g.nodes)) b ≤ 131072)
-    → IsGraphWithinLimits (with_nodes (change p (with_children h)) g)
+    → ((b : ℕ) → height_of (node_at (change p (with_made h) g.nodes)) b ≤ 32) → ((b : ℕ) → size_of (node_at (change p (with_made h) g.nodes)) b ≤ 131072)
+    → IsGraphWithinLimits (with_nodes (change p (with_made h)) g)
 limits_link g p h w no_geode members short low small =
-    limits_change g p (with_children h) w (record { serial = λ n. refl; born = λ n. refl })
+    limits_change g p (with_made h) w (record { serial = λ n. refl; born = λ n. refl })
     (λ n found. let fine = fine_of (node_at g.nodes) w.within.limits p n found in record {
       linked = λ c k. linked n fine c (members n.children c k);
       short = short n found;
@@ -84,45 +73,48 @@ low_of xs none = low_of_rule xs (when_not (nat_lt 32 (greatest_height xs)) (faul
 small_of : (xs : Nodes) → None ≡ large xs → (b : ℕ) → size_of (node_at xs) b ≤ 131072
 small_of xs none = small_of_rule xs (when_not (list_any (λ e. nat_lt 131072 (size_of (node_at xs) e.0)) xs) fault.Large none)
 
-pub limits_add : (g : SceneGraph) (p c : ℕ) → IsGraphWithinLimits g → None ≡ first (rules g.nodes (edit.Add p c)) → IsGraphWithinLimits (effect g (edit.Add p c))
+pub limits_add : (g : SceneGraph) (p c : ℕ) → IsGraphWithinLimits g → None ≡ fault_of g (edit.Add p c) → IsGraphWithinLimits (effect g (edit.Add p c))
 limits_add g p c w none =
-    let r = all_passed (rules g.nodes (edit.Add p c)) none in
-    limits_link g p (λ cs. cs ++ c ∷ []) w (when_not (has_kind is_geode g.nodes p) (fault.Kind p) r.1.1.0)
+    let r = all_passed (rules g (edit.Add p c)) none in
+    limits_link g p (λ cs. cs ++ c ∷ []) w (when_not (has_kind is_geode (node_at g.nodes p)) (fault.Kind p) r.1.1.0)
     (λ cs x h. new_member g.nodes c x cs (there_from g.nodes c r.1.0) (when_not (c == 0) (fault.Kind 0) r.1.1.1.0) (holds_appended x c cs h))
     (λ n found. let l : length n.children < 256 = child_room g.nodes p n found (when_not (nat_le 256 (child_count g.nodes p)) (fault.Many 257) r.1.1.1.1.1.0) in omega (arith, length_appended c n.children))
-    (low_of (child_added p c g.nodes) r.1.1.1.1.1.1.0) (small_of (child_added p c g.nodes) r.1.1.1.1.1.1.1.0)
+    (low_of (effect g (edit.Add p c)).nodes r.1.1.1.1.1.1.0) (small_of (effect g (edit.Add p c)).nodes r.1.1.1.1.1.1.1.0)
 
-pub limits_insert : (g : SceneGraph) (p i c : ℕ) → IsGraphWithinLimits g → None ≡ first (rules g.nodes (edit.Insert p i c)) → IsGraphWithinLimits (effect g (edit.Insert p i c))
+pub limits_insert : (g : SceneGraph) (p i c : ℕ) → IsGraphWithinLimits g → None ≡ fault_of g (edit.Insert p i c) → IsGraphWithinLimits (effect g (edit.Insert p i c))
 limits_insert g p i c w none =
-    let r = all_passed (rules g.nodes (edit.Insert p i c)) none in
-    limits_link g p (λ cs. insert cs i c) w (when_not (has_kind is_geode g.nodes p) (fault.Kind p) r.1.1.0)
+    let r = all_passed (rules g (edit.Insert p i c)) none in
+    limits_link g p (λ cs. insert cs i c) w (when_not (has_kind is_geode (node_at g.nodes p)) (fault.Kind p) r.1.1.0)
     (λ cs x h. new_member g.nodes c x cs (there_from g.nodes c r.1.0) (when_not (c == 0) (fault.Kind 0) r.1.1.1.0) (holds_inserted x c i cs h))
     (λ n found. let l : length n.children < 256 = child_room g.nodes p n found (when_not (nat_le 256 (child_count g.nodes p)) (fault.Many 257) r.1.1.1.1.1.1.0) in omega (arith, length_inserted c i n.children))
-    (low_of (child_inserted p i c g.nodes) r.1.1.1.1.1.1.1.0) (small_of (child_inserted p i c g.nodes) r.1.1.1.1.1.1.1.1.0)
+    (low_of (effect g (edit.Insert p i c)).nodes r.1.1.1.1.1.1.1.0) (small_of (effect g (edit.Insert p i c)).nodes r.1.1.1.1.1.1.1.1.0)
 
-pub limits_replace : (g : SceneGraph) (p c b : ℕ) → IsGraphWithinLimits g → None ≡ first (rules g.nodes (edit.Replace p c b)) → IsGraphWithinLimits (effect g (edit.Replace p c b))
+pub limits_replace : (g : SceneGraph) (p c b : ℕ) → IsGraphWithinLimits g → None ≡ fault_of g (edit.Replace p c b) → IsGraphWithinLimits (effect g (edit.Replace p c b))
 limits_replace g p c b w none =
-    let r = all_passed (rules g.nodes (edit.Replace p c b)) none in
-    limits_link g p (replace_first c b) w (when_not (has_kind is_geode g.nodes p) (fault.Kind p) r.1.1.1.0)
+    let r = all_passed (rules g (edit.Replace p c b)) none in
+    limits_link g p (replace_first c b) w (when_not (has_kind is_geode (node_at g.nodes p)) (fault.Kind p) r.1.1.1.0)
     (λ cs x h. new_member g.nodes b x cs (there_from g.nodes b r.1.1.0) (when_not (b == 0) (fault.Kind 0) r.1.1.1.1.0) (holds_replaced x c b cs h))
     (λ n found. let l : length n.children ≤ 256 = (fine_of (node_at g.nodes) w.within.limits p n found).short in omega (arith, length_replaced c b n.children))
-    (low_of (child_replaced p c b g.nodes) r.1.1.1.1.1.1.1.0) (small_of (child_replaced p c b g.nodes) r.1.1.1.1.1.1.1.1.0)
+    (low_of (effect g (edit.Replace p c b)).nodes r.1.1.1.1.1.1.1.0) (small_of (effect g (edit.Replace p c b)).nodes r.1.1.1.1.1.1.1.1.0)
 
-fewer_removed : (c p : ℕ) (xs : Nodes) (b : ℕ) → FewerChildren (children_of (node_at (child_removed p c xs)) b) (children_of (node_at xs) b)
+fewer_removed : (c p : ℕ) (xs : Nodes) (b : ℕ) → FewerChildren (children_of (node_at (change p (with_made (drop_first c)) xs)) b) (children_of (node_at xs) b)
 fewer_removed c p xs b =
-    subst (λ (cs : List ℕ). FewerChildren cs (children_of (node_at xs) b)) (sym (ap (λ o. option_map_or (λ (m : Node). m.children) o []) (node_at_change (with_children (drop_first c)) p xs b)))
+    subst (λ (cs : List ℕ). FewerChildren cs (children_of (node_at xs) b)) (sym (ap (λ o. option_map_or (λ (m : Node). m.children) o []) (node_at_change (with_made (drop_first c)) p xs b)))
     (by (b == p) (node_at xs b))
   where
-    by : (t : Bool) (o : Option Node) → FewerChildren (option_map_or (λ (m : Node). m.children) (cond t (option_map (with_children (drop_first c)) o) o) []) (option_map_or (λ (m : Node). m.children) o [])
+    by : (t : Bool) (o : Option Node) → FewerChildren (option_map_or (λ (m : Node). m.children) (cond t (option_map (with_made (drop_first c)) o) o) []) (option_map_or (λ (m : Node). m.children) o [])
     by true None = same_fewer []
     by true (Some n) = dropped_fewer c n.children
     by false o = same_fewer (option_map_or (λ (m : Node). m.children) o [])
 
-pub limits_remove : (g : SceneGraph) (p c : ℕ) → IsGraphWithinLimits g → None ≡ first (rules g.nodes (edit.Remove p c)) → IsGraphWithinLimits (effect g (edit.Remove p c))
+pub limits_remove : (g : SceneGraph) (p c : ℕ) → IsGraphWithinLimits g → None ≡ fault_of g (edit.Remove p c) → IsGraphWithinLimits (effect g (edit.Remove p c))
 limits_remove g p c w none =
-    let r = all_passed (rules g.nodes (edit.Remove p c)) none in
-    limits_link g p (drop_first c) w (when_not (has_kind is_geode g.nodes p) (fault.Kind p) r.1.1.0)
+    let r = all_passed (rules g (edit.Remove p c)) none in
+    limits_link g p (drop_first c) w (when_not (has_kind is_geode (node_at g.nodes p)) (fault.Kind p) r.1.1.0)
     (λ cs x h. inl (holds_dropped x c cs h))
     (λ n found. let l : length n.children ≤ 256 = (fine_of (node_at g.nodes) w.within.limits p n found).short in let k : length (drop_first c n.children) ≤ length n.children = length_dropped c n.children in omega arith)
-    (λ b. let l : height_of (node_at (child_removed p c g.nodes)) b ≤ height_of (node_at g.nodes) b = heights_less (node_at (child_removed p c g.nodes)) (node_at g.nodes) (fewer_removed c p g.nodes) levels b in let k : height_of (node_at g.nodes) b ≤ 32 = w.within.limits.low b in omega arith)
-    (λ b. let l : size_of (node_at (child_removed p c g.nodes)) b ≤ size_of (node_at g.nodes) b = sizes_less (node_at (child_removed p c g.nodes)) (node_at g.nodes) (fewer_removed c p g.nodes) levels b in let k : size_of (node_at g.nodes) b ≤ 131072 = w.within.limits.small b in omega arith)
+    (λ b. let l : height_of (node_at after) b ≤ height_of (node_at g.nodes) b = heights_less (node_at after) (node_at g.nodes) (fewer_removed c p g.nodes) levels b in let k : height_of (node_at g.nodes) b ≤ 32 = w.within.limits.low b in omega arith)
+    (λ b. let l : size_of (node_at after) b ≤ size_of (node_at g.nodes) b = sizes_less (node_at after) (node_at g.nodes) (fewer_removed c p g.nodes) levels b in let k : size_of (node_at g.nodes) b ≤ 131072 = w.within.limits.small b in omega arith)
+  where
+    after : Nodes
+    after = change p (with_made (drop_first c)) g.nodes

@@ -12,14 +12,14 @@ use Rattle.pf_model.specs.declared.edits.Fault.TheVariants as fault
 use Rattle.pf_model.specs.Fits.{kind_fits}
 use Rattle.pf_model.specs.Graphs.{Nodes, SceneGraph, node_at, children_of, put, without, height_of, size_of, levels}
 use Rattle.pf_model.specs.Limits.{IsRising, is_there, HasBegun, IsGraphWithinLimits}
-use Rattle.pf_model.specs.Edits.{first, rules, effect}
+use Rattle.pf_model.specs.Edits.{rules, fault_of, effect}
 use Rattle.pf_model.proofs.Places.{put_rising}
 use Rattle.pf_model.proofs.Changes.{without_rising}
 use Rattle.pf_model.proofs.Finds.{node_at_put, node_at_without, length_put, length_without}
 use Rattle.pf_model.proofs.Keeping.{IsFine, fine_more, fine_of, keeps_of, few_of, length_within, heights_same, sizes_same, heights_less, sizes_less, FewerChildren, all_found_have}
 use Rattle.pf_model.proofs.Members.{holds, same_fewer, none_fewer}
 use Rattle.pf_model.proofs.Goods.{kind_light, kind_begun}
-use Rattle.pf_model.proofs.LinkLimits.{all_passed, when_not}
+use Rattle.pf_model.proofs.Rules.{all_passed, when_not}
 
 -- Lists with a node put
 
@@ -89,7 +89,7 @@ found_put P n id xs none this others b m found = by (b == id) (sym (node_at_put 
     by true h = let is : n ≡ m = cc in subst P is this
     by false h = others b m h
 
-pub limits_make : (g : SceneGraph) (id : ℕ) (kind : Kind) → IsGraphWithinLimits g → nat_lt id 65536 ≡ true → kind_fits kind ≡ true → None ≡ first (rules g.nodes (edit.Make id kind)) → IsGraphWithinLimits (effect g (edit.Make id kind))
+pub limits_make : (g : SceneGraph) (id : ℕ) (kind : Kind) → IsGraphWithinLimits g → nat_lt id 65536 ≡ true → kind_fits kind ≡ true → None ≡ fault_of g (edit.Make id kind) → IsGraphWithinLimits (effect g (edit.Make id kind))
 limits_make g id kind w small_id fits none = record {
   within = record {
     limits = keeps_of (node_at (put id (new_node g kind) g.nodes)) narrow
@@ -108,8 +108,8 @@ limits_make g id kind w small_id fits none = record {
   born_before = all_put (λ e. e.1.born ≤ g.time) id (new_node g kind) g.nodes (omega arith) w.born_before;
 }
   where
-    passed : AllByRecursion (λ f. None ≡ f) (rules g.nodes (edit.Make id kind))
-    passed = all_passed (rules g.nodes (edit.Make id kind)) none
+    passed : AllByRecursion (λ f. None ≡ f) (rules g (edit.Make id kind))
+    passed = all_passed (rules g (edit.Make id kind)) none
 
     absent_id : node_at g.nodes id ≡ None
     absent_id = is_none_of (node_at g.nodes id) (when_not (is_some (node_at g.nodes id)) (fault.Taken id) passed.0)
@@ -190,7 +190,7 @@ fewer_without id xs rising b =
     by true = none_fewer (children_of (node_at xs) b)
     by false = same_fewer (children_of (node_at xs) b)
 
-pub limits_delete : (g : SceneGraph) (id : ℕ) → IsGraphWithinLimits g → None ≡ first (rules g.nodes (edit.Delete id)) → IsGraphWithinLimits (effect g (edit.Delete id))
+pub limits_delete : (g : SceneGraph) (id : ℕ) → IsGraphWithinLimits g → None ≡ fault_of g (edit.Delete id) → IsGraphWithinLimits (effect g (edit.Delete id))
 limits_delete g id w none = record {
   within = record {
     limits = keeps_of (node_at (without id g.nodes)) narrow
@@ -207,8 +207,8 @@ limits_delete g id w none = record {
   born_before = all_without (λ e. e.1.born ≤ g.time) id g.nodes w.born_before;
 }
   where
-    passed : AllByRecursion (λ f. None ≡ f) (rules g.nodes (edit.Delete id))
-    passed = all_passed (rules g.nodes (edit.Delete id)) none
+    passed : AllByRecursion (λ f. None ≡ f) (rules g (edit.Delete id))
+    passed = all_passed (rules g (edit.Delete id)) none
 
     turned : (i : ℕ) → (i == 0) ≡ false → (0 == i) ≡ false
     turned i h = grind (arith, nat_tests)

@@ -4,7 +4,7 @@ use Rattle.std.specs.List.{list_any, insert}
 use Rattle.std.proofs.lemmas.Bool.{eqb-true}
 use Rattle.std.proofs.lemmas.List.Sums.{sum_by-cons}
 use Rattle.pf_model.specs.Graphs.{greatest}
-use Rattle.pf_model.specs.Edits.{replace_first, drop_first}
+use Rattle.pf_model.specs.Children.{replace_first, drop_first}
 use Rattle.pf_model.proofs.Keeping.{FewerChildren}
 
 -- x is a member

@@ -1,33 +1,20 @@
 -- An edit changes the node that it names and no other, and lists with the same nodes are equal.
 use Rattle.std.proofs.Common.{◌≡◌, ℕ, ◌<◌, Bool, true, false, cond, ◌==◌, nat_lt, List, [], ◌∷◌, ◌++◌, map, Option, Some, None, refl, sym, ◌∙◌, ap, subst, arith}
-use Rattle.std.specs.List.{AllByRecursion, insert}
+use Rattle.std.specs.List.{AllByRecursion}
 use Rattle.std.specs.Option.{option_map}
 use Rattle.std.proofs.lemmas.Bool.{eqb-true, eq-eqb}
 use Rattle.std.proofs.lemmas.Bool.Decides.{nat_tests}
 use Rattle.pf_model.specs.declared.nodes.Node.{Node}
 use Rattle.pf_model.specs.declared.edits.Edit.{Edit}
 use Rattle.pf_model.specs.declared.edits.Edit.TheVariants as edit
-use Rattle.pf_model.specs.declared.poses.Pose.TheVariants as pose
-use Rattle.pf_model.specs.Kinds.{with_pick, with_pose, moved_to, turned_to, scaled_to, with_range, with_centre, with_time, run_from, with_geom}
 use Rattle.pf_model.specs.Graphs.{Nodes, SceneGraph, node_at, change, put}
 use Rattle.pf_model.specs.Limits.{IsRising}
-use Rattle.pf_model.specs.Edits.{effect, with_children, replace_first, drop_first, node_stopped}
+use Rattle.pf_model.specs.Edits.{effect}
+use Rattle.pf_model.specs.NodeEdits.{node_after}
 use Rattle.pf_model.specs.Copies.{named_by, updated, updated_by, UpdateList}
 use Rattle.pf_model.proofs.Places.{node_at_step, put_rising}
 use Rattle.pf_model.proofs.Changes.{without_rising}
-use Rattle.pf_model.proofs.Finds.{node_at_change, node_at_without, none_above, ids_change}
-
-apart_both : (a b c : ℕ) → (a == c) ≡ true → (a == b) ≡ true → (b == c) ≡ false → ⊥
-apart_both a b c h k l = absurd (grind (arith, nat_tests))
-
-apart_one : (a b c : ℕ) → (a == c) ≡ true → (a == b) ≡ false → (b == c) ≡ true → ⊥
-apart_one a b c h k l = absurd (grind (arith, nat_tests))
-
-apart_two : (a b c : ℕ) → (a == c) ≡ false → (a == b) ≡ true → (b == c) ≡ true → ⊥
-apart_two a b c h k l = absurd (grind (arith, nat_tests))
-
-turned_eq : (a b : ℕ) → (a == b) ≡ (b == a)
-turned_eq a b = grind (arith, nat_tests)
+use Rattle.pf_model.proofs.Finds.{apart_true, apart_other, turned_eq, node_at_change, node_at_without, none_above, ids_change}
 
 -- what a look-up finds after a node was put, in place of another or not
 pub node_at_put_any : (n : Node) (id : ℕ) (xs : Nodes) (b : ℕ) → node_at (put id n xs) b ≡ cond (b == id) (Some n) (node_at xs b)
@@ -38,11 +25,11 @@ node_at_put_any n id (x ∷ xs) b = by (node_at_put_any n id xs b) (nat_lt id x.
         → node_at (cond l ((id, n) ∷ x ∷ xs) (cond t ((id, n) ∷ xs) (x ∷ put id n xs))) b ≡ cond r (Some n) (node_at (x ∷ xs) b)
     by rest true t s r et es er = node_at_step b (id, n) (x ∷ xs) ∙ ap (λ u. cond u (Some n) (node_at (x ∷ xs) b)) (turned_eq id b ∙ er)
     by rest false true s true et es er = node_at_step b (id, n) xs ∙ ap (λ u. cond u (Some n) (node_at xs b)) (turned_eq id b ∙ er)
-    by rest false true true false et es er = absurd (apart_both x.0 b id et es er)
+    by rest false true true false et es er = absurd (apart_true x.0 b id et es er)
     by rest false true false false et es er =
         node_at_step b (id, n) xs ∙ ap (λ u. cond u (Some n) (node_at xs b)) (turned_eq id b ∙ er)
         ∙ sym (node_at_step b x xs ∙ ap (λ u. cond u (Some x.1) (node_at xs b)) es)
-    by rest false false true true et es er = absurd (apart_two x.0 b id et es er)
+    by rest false false true true et es er = absurd (apart_other x.0 b id et es er)
     by rest false false true false et es er = rw (node_at_step b x (put id n xs), node_at_step b x xs, es) refl
     by rest false false false true et es er = rw (node_at_step b x (put id n xs), es) (rest ∙ ap (λ t. cond t (Some n) (node_at xs b)) er)
     by rest false false false false et es er = rw (node_at_step b x (put id n xs), node_at_step b x xs, es) (rest ∙ ap (λ t. cond t (Some n) (node_at xs b)) er)
@@ -97,22 +84,8 @@ kept g f id rising = subst (λ (is : List ℕ). IsRising is) (sym (ids_change f 
 
 pub effect_rising : (g : SceneGraph) (e : Edit) → IsRising (map (λ x. x.0) g.nodes) → IsRising (map (λ x. x.0) (effect g e).nodes)
 effect_rising g (edit.Make id kind) rising = put_rising id (record { serial = g.next_serial; born = g.time; kind = kind; children = [] }) g.nodes rising
-effect_rising g (edit.Add parent child) rising = kept g (with_children (λ cs. cs ++ child ∷ [])) parent rising
-effect_rising g (edit.Insert parent place child) rising = kept g (with_children (λ cs. insert cs place child)) parent rising
-effect_rising g (edit.Replace parent child by) rising = kept g (with_children (replace_first child by)) parent rising
-effect_rising g (edit.Remove parent child) rising = kept g (with_children (drop_first child)) parent rising
 effect_rising g (edit.Delete id) rising = without_rising id g.nodes rising
-effect_rising g (edit.Pick id pick) rising = kept g (λ n. record n { kind = with_pick pick n.kind }) id rising
-effect_rising g (edit.Mat id mat) rising = kept g (λ n. record n { kind = with_pose (λ _. pose.Matrix mat) n.kind }) id rising
-effect_rising g (edit.Trans id t) rising = kept g (λ n. record n { kind = with_pose (moved_to t) n.kind }) id rising
-effect_rising g (edit.Rot id h p r) rising = kept g (λ n. record n { kind = with_pose (turned_to h p r) n.kind }) id rising
-effect_rising g (edit.Scale id s) rising = kept g (λ n. record n { kind = with_pose (scaled_to s) n.kind }) id rising
-effect_rising g (edit.Range id place value) rising = kept g (λ n. record n { kind = with_range place value n.kind }) id rising
-effect_rising g (edit.Centre id at) rising = kept g (λ n. record n { kind = with_centre at n.kind }) id rising
-effect_rising g (edit.Times id place frames) rising = kept g (λ n. record n { kind = with_time place frames n.kind }) id rising
-effect_rising g (edit.Run id) rising = kept g (λ n. record n { kind = run_from g.time n.kind }) id rising
-effect_rising g (edit.Stop id) rising = kept g (node_stopped g.time) id rising
-effect_rising g (edit.Verts id geom) rising = kept g (λ n. record n { kind = with_geom geom n.kind }) id rising
+effect_rising g e rising = kept g (node_after g.time e) (named_by e) rising
 
 -- Other nodes stay
 
@@ -123,22 +96,8 @@ pub only_named : (g : SceneGraph) (e : Edit) (b : ℕ) → IsRising (map (λ x. 
 only_named g (edit.Make id kind) b rising other =
     node_at_put_any (record { serial = g.next_serial; born = g.time; kind = kind; children = [] }) id g.nodes b
     ∙ ap (λ t. cond t (Some (record { serial = g.next_serial; born = g.time; kind = kind; children = [] })) (node_at g.nodes b)) other
-only_named g (edit.Add parent child) b rising other = stays g (with_children (λ cs. cs ++ child ∷ [])) parent b other
-only_named g (edit.Insert parent place child) b rising other = stays g (with_children (λ cs. insert cs place child)) parent b other
-only_named g (edit.Replace parent child by) b rising other = stays g (with_children (replace_first child by)) parent b other
-only_named g (edit.Remove parent child) b rising other = stays g (with_children (drop_first child)) parent b other
 only_named g (edit.Delete id) b rising other = node_at_without id g.nodes b rising ∙ ap (λ t. cond t None (node_at g.nodes b)) other
-only_named g (edit.Pick id pick) b rising other = stays g (λ n. record n { kind = with_pick pick n.kind }) id b other
-only_named g (edit.Mat id mat) b rising other = stays g (λ n. record n { kind = with_pose (λ _. pose.Matrix mat) n.kind }) id b other
-only_named g (edit.Trans id t) b rising other = stays g (λ n. record n { kind = with_pose (moved_to t) n.kind }) id b other
-only_named g (edit.Rot id h p r) b rising other = stays g (λ n. record n { kind = with_pose (turned_to h p r) n.kind }) id b other
-only_named g (edit.Scale id s) b rising other = stays g (λ n. record n { kind = with_pose (scaled_to s) n.kind }) id b other
-only_named g (edit.Range id place value) b rising other = stays g (λ n. record n { kind = with_range place value n.kind }) id b other
-only_named g (edit.Centre id at) b rising other = stays g (λ n. record n { kind = with_centre at n.kind }) id b other
-only_named g (edit.Times id place frames) b rising other = stays g (λ n. record n { kind = with_time place frames n.kind }) id b other
-only_named g (edit.Run id) b rising other = stays g (λ n. record n { kind = run_from g.time n.kind }) id b other
-only_named g (edit.Stop id) b rising other = stays g (node_stopped g.time) id b other
-only_named g (edit.Verts id geom) b rising other = stays g (λ n. record n { kind = with_geom geom n.kind }) id b other
+only_named g e b rising other = stays g (node_after g.time e) (named_by e) b other
 
 -- Update lists
 

@@ -4,7 +4,7 @@ use Rattle.std.proofs.lemmas.Int.{ints}
 use Rattle.std.specs.List.{AllByRecursion, fold, flat_map}
 use Rattle.std.specs.Option.{option_map_or, option_map}
 use Rattle.fx_math.specs.Plain.{Point, Matrix, Bounds, IsBox}
-use Rattle.fx_math.specs.Fixed.{carry_box, box_at}
+use Rattle.fx_math.specs.Fixed.{carry_box, box_at, hull, hull_of}
 use Rattle.fx_math.proofs.Containment.{hull-IsBox, hull-first, hull-second, carry_box-IsBox, carry_box-inside, inside_same, inside_trans}
 use Rattle.pf_model.specs.declared.geometry.Tri.{Tri}
 use Rattle.pf_model.specs.declared.nodes.Node.{Node}
@@ -74,12 +74,20 @@ all_boxes f h (x ∷ xs) = (h x, all_boxes f h xs)
 point_is_box : (p : Point) → IsBox (box_at p)
 point_is_box p = record { x_ordered = omega (arith, ints); y_ordered = omega (arith, ints); z_ordered = omega (arith, ints) }
 
+points_are_box : (b : Bounds) (ps : List Point) → IsBox b → IsBox (fold hull b (map box_at ps))
+points_are_box b [] h = h
+points_are_box b (p ∷ ps) h = points_are_box (hull b (box_at p)) ps (hull-IsBox b (box_at p) h (point_is_box p))
+
+hull_is_box : (ps : List Point) → IsBoxOrNone (hull_of ps)
+hull_is_box [] = tt
+hull_is_box (p ∷ ps) = points_are_box (box_at p) ps (point_is_box p)
+
 pub step_is_box : (look : Look) (boxes : ℕ → Option Bounds) → ((id : ℕ) → IsBoxOrNone (boxes id)) → (id : ℕ) → IsBoxOrNone (box_step look boxes id)
 step_is_box look boxes h id = by (look id)
   where
     kind : (n : Node) (ts : Option (List Tri)) → IsBoxOrNone (option_map_or box_of_tris ts (option_map (carry_box (own_steps n.kind)) (hull_of_all (map boxes n.children))))
     kind n None = carried_is_box (own_steps n.kind) (hull_of_all (map boxes n.children)) (fold_is_box None (map boxes n.children) tt (all_boxes boxes h n.children))
-    kind n (Some ts) = fold_is_box None (map (λ p. Some (box_at p)) (flat_map corners ts)) tt (all_boxes (λ p. Some (box_at p)) point_is_box (flat_map corners ts))
+    kind n (Some ts) = hull_is_box (flat_map corners ts)
 
     by : (o : Option Node) → IsBoxOrNone (option_map_or (box_from boxes) o None)
     by None = tt

@@ -1,5 +1,6 @@
 -- What clauses see of an Euler pose and of a view, and the ranges that their types keep.
-use Rattle.std.specs.Prelude.{ℤ}
+use Rattle.std.specs.Prelude.{ℤ, pos}
+use Rattle.fx_math.specs.Constants.{origin_vector}
 use Rattle.fx_math.specs.Within.{IsWithin}
 use Rattle.fx_math.specs.declared.vectors.Vec3.{Vec3}
 
@@ -17,6 +18,10 @@ pub record Viewpoint : Type 0 where
   pub h : ℤ
   pub p : ℤ
   pub r : ℤ
+
+-- from the origin along Y, with angles of 0
+abbrev pub home_view : Viewpoint
+home_view = record { eye = origin_vector; h = pos 0; p = pos 0; r = pos 0 }
 
 -- three angles of at most a full turn either way
 pub record AreAngles (h p r : ℤ) : Type 0 where

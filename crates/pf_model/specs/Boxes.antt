@@ -1,10 +1,10 @@
 -- Bounding boxes of nodes and of occurrences, from scratch.
-use Rattle.std.specs.Prelude.{◌≡◌, ℕ, zero, suc, List, map, Option, Some, None}
+use Rattle.std.specs.Prelude.{◌≡◌, ℕ, zero, suc, ◌+◌, ◌*◌, ℤ, ◌+ℤ◌, unsigned_abs, List, map, Option, Some, None}
 use Rattle.std.specs.List.{fold, flat_map}
 use Rattle.std.specs.Option.{option_map, option_map_or}
 use Rattle.fx_math.specs.Plain.{Point, Matrix, Bounds}
 use Rattle.fx_math.specs.Views.{point_of}
-use Rattle.fx_math.specs.Fixed.{carry_box, hull, box_at}
+use Rattle.fx_math.specs.Fixed.{carry_box, hull, hull_of}
 use Rattle.pf_model.specs.declared.geometry.Tri.{Tri}
 use Rattle.pf_model.specs.declared.nodes.Node.{Node}
 use Rattle.pf_model.specs.Kinds.{geom_of, own_steps}
@@ -24,7 +24,18 @@ corners t = map point_of t.v
 
 -- the box of triangles, none where there are none
 abbrev pub box_of_tris : List Tri → Option Bounds
-box_of_tris ts = hull_of_all (map (λ p. Some (box_at p)) (flat_map corners ts))
+box_of_tris ts = hull_of (flat_map corners ts)
+
+-- the box of triangles, carried through the steps to the eye
+abbrev pub carried_tris_box : List Matrix → List Tri → Option Bounds
+carried_tris_box steps ts = option_map (carry_box steps) (box_of_tris ts)
+
+abbrev pub square : ℤ → ℕ
+square z = unsigned_abs z * unsigned_abs z
+
+-- four times the squared distance of the middle of an eye box from the eye
+unfoldable pub squared_distance : Bounds → ℕ
+squared_distance b = square (b.lo.x +ℤ b.hi.x) + square (b.lo.y +ℤ b.hi.y) + square (b.lo.z +ℤ b.hi.z)
 
 -- the box of a node from those of its children: the hull of a geode's vertices, or of all children, carried through
 -- the node's own steps

@@ -45,11 +45,19 @@ kind_fits _ = true
 
 abbrev pub fits : Edit → Bool
 fits (edit.Make id kind) = nat_lt id 65536 && kind_fits kind
+fits (edit.Add parent child) = true
 fits (edit.Insert parent place child) = nat_le place 255
-fits (edit.Pick id pick) = pick_fits pick
+fits (edit.Replace parent child by) = true
+fits (edit.Remove parent child) = true
+fits (edit.Delete id) = true
+fits (edit.Pick id p) = pick_fits p
+fits (edit.Mat id mat) = true
+fits (edit.Trans id t) = true
 fits (edit.Rot id h p r) = is_at_most 3600 h && (is_at_most 3600 p && is_at_most 3600 r)
 fits (edit.Scale id s) = is_at_most 1048576 s
 fits (edit.Range id place value) = nat_le place 256 && range_fits value
+fits (edit.Centre id at) = true
 fits (edit.Times id place frames) = nat_le place 255 && time_fits frames
+fits (edit.Run id) = true
+fits (edit.Stop id) = true
 fits (edit.Verts id geom) = geom_fits geom
-fits _ = true

@@ -53,10 +53,16 @@ abbrev pub ranges_of : Kind → Option (List ℕ)
 ranges_of (Lod c rs) = Some rs
 ranges_of _ = None
 
+abbrev pub is_lod : Kind → Bool
+is_lod k = is_some (ranges_of k)
+
 -- the times of a sequence
 abbrev pub times_of : Kind → Option (List ℕ)
 times_of (Seq ts r) = Some ts
 times_of _ = None
+
+abbrev pub is_sequence : Kind → Bool
+is_sequence k = is_some (times_of k)
 
 -- Steps and shifts
 

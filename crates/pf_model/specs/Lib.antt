@@ -1,8 +1,11 @@
 pub mod Three
 pub mod Angles
 pub mod Room
+pub mod Recording
 pub mod Kinds
+pub mod Children
 pub mod Graphs
+pub mod NodeEdits
 pub mod Edits
 pub mod Merges
 pub mod Fits
@@ -10,7 +13,7 @@ pub mod Walks
 pub mod Boxes
 pub mod Limits
 pub mod Copies
+pub mod Totals
 pub mod Laws
-pub mod Extents
-pub mod Places
-pub mod Attributes
+pub mod ShownPlaces
+pub mod Surfaces

@@ -1,8 +1,8 @@
 -- The walk of a frame through the chosen children, and the instances that a picture is drawn of.
-use Rattle.std.specs.Prelude.{ℕ, zero, suc, ◌+◌, ◌*◌, List, [], ◌∷◌, ◌++◌, map, length, Option}
+use Rattle.std.specs.Prelude.{ℕ, zero, suc, ◌+◌, ◌*◌, List, [], ◌∷◌, ◌++◌, map, length, Option, Some, None}
 use Rattle.std.specs.List.{flat_map, filter_map, enumerate_from, slice_get}
 use Rattle.std.specs.Option.{option_map, option_map_or, option_to_list, option_and_then}
-use Rattle.fx_math.specs.Plain.{Matrix}
+use Rattle.fx_math.specs.Plain.{Matrix, Bounds}
 use Rattle.fx_math.specs.Views.{point_of}
 use Rattle.fx_math.specs.Fixed.{carry}
 use Rattle.fx_math.specs.Steps.{view_steps}
@@ -13,6 +13,7 @@ use Rattle.pf_model.specs.declared.nodes.Chosen.{Chosen}
 use Rattle.pf_model.specs.declared.nodes.Chosen.TheVariants.{All, Nothing, One}
 use Rattle.pf_model.specs.Kinds.{Surface, surface_of, own_steps, decal, centre_of, chosen_of}
 use Rattle.pf_model.specs.Graphs.{Look}
+use Rattle.pf_model.specs.Boxes.{carried_tris_box, squared_distance}
 
 -- A node in the walk: its id, and the steps from the coordinates above it to the eye, nearest first.
 pub record Place : Type 0 where
@@ -71,7 +72,7 @@ abbrev pub walk : Look → ℕ → Viewpoint → List Occurrence
 walk look time v = walk_in 32 look time (scene_at (steps_of_view v))
 
 -- A geode in the walk: its number among them, its id, its state, its alpha where it is glass, its decal shift, its
--- steps to the eye and its triangles.
+-- steps to the eye, its triangles and its squared distance.
 pub record Instance : Type 0 where
   pub place : ℕ
   pub id : ℕ
@@ -80,11 +81,30 @@ pub record Instance : Type 0 where
   pub shift : ℕ
   pub steps : List Matrix
   pub tris : List Tri
+  pub far : ℕ
+
+-- the box of an instance in eye coordinates, none where it has no triangles
+abbrev pub instance_box : Instance → Option Bounds
+instance_box x = carried_tris_box x.steps x.tris
+
+-- the squared distance of glass with these steps and triangles, 0 where it has no box; 0 for what is opaque
+abbrev pub distance_of : Option ℕ → List Matrix → List Tri → ℕ
+distance_of None steps ts = 0
+distance_of (Some alpha) steps ts = option_map_or squared_distance (carried_tris_box steps ts) 0
 
 -- the instance of an occurrence of a geode
 abbrev pub instance_of : Occurrence → Surface → ℕ → Instance
 instance_of o s place =
-    record { place = place; id = o.id; state = s.state; tint = s.tint; shift = o.shift; steps = o.steps; tris = s.tris }
+    record {
+      place = place;
+      id = o.id;
+      state = s.state;
+      tint = s.tint;
+      shift = o.shift;
+      steps = o.steps;
+      tris = s.tris;
+      far = distance_of s.tint o.steps s.tris;
+    }
 
 -- what the node of an occurrence draws
 abbrev pub surface_in : Look → Occurrence → Option (Occurrence × Surface)

@@ -1,28 +1,193 @@
-//! Edits that change the kind of one node alone.
-ghost use Rattle.std.specs.Prelude.{◌≡◌, ◌∷◌, [], ◌<◌, ◌≤◌, length, map, true, Option, Some, None, IfOk, IfErr, OnOk, OnErr, is_some};
+//! Edits that change the kind of one node alone: their faults, and what they make of the kind.
+ghost use Rattle.std.specs.Prelude.{◌≡◌, ◌∷◌, [], ◌++◌, ◌≤◌, ℕ, Option, IfOk, true};
+ghost use Rattle.std.specs.Option.{option_copied};
 ghost use Rattle.fx_math.specs.Within.{IsWithin};
 ghost use Rattle.pf_model.specs.Angles.{AreAngles};
-ghost use Rattle.pf_model.specs.Kinds.{is_geode, is_switch, is_dcs, ranges_of, times_of, with_pick, with_pose, euler_of, moved_to, turned_to, scaled_to, put_at, with_range, with_centre, with_time, run_from, held_at, stopped, with_geom};
-ghost use Rattle.pf_model.specs.Graphs.{node_at, change};
-ghost use Rattle.pf_model.specs.Limits.{is_there};
-ghost use Rattle.pf_model.specs.Edits.{first, absent, not_kind, when, past, entries_at, other_count, rules, Refuses};
-ghost use Rattle.pf_model.specs.Attributes.{is_attribute, kind_after, having_kind, attribute_set};
-ghost use Rattle.pf_model.specs.Places.{change_at};
-ghost use Rattle.pf_model.specs.Fits.{fits};
+ghost use Rattle.pf_model.specs.Kinds.{is_geode, is_switch, is_dcs, is_lod, is_sequence, ranges_of, times_of, with_pick, with_pose, euler_of, moved_to, turned_to, scaled_to, put_at, with_range, with_centre, with_time, run_from, held_at, stopped, with_geom};
+ghost use Rattle.pf_model.specs.Graphs.{SceneGraph, node_at};
 ghost use Rattle.pf_model.specs.Copies.{named_by};
-ghost use Rattle.std.specs.Option.{option_map};
+ghost use Rattle.pf_model.specs.NodeEdits.{is_attribute, kind_after};
+ghost use Rattle.pf_model.specs.Edits.{first, node_rules, past, other_count, attribute_rules, fault_of};
+ghost use Rattle.pf_model.specs.Fits.{fits};
 
-use crate::edits::{Edit, EditError, Fault};
+use crate::edits::{Edit, Fault};
 use crate::geometry::Geom;
-use crate::graph::{find_node, place_of};
-use crate::links::{absent, is_geode};
 use crate::lists::{Ranges, Times};
 use crate::nodes::{Kind, Node, Pick, Run};
 use crate::poses::{Euler, Pose};
 use crate::sequences::sequence_place;
 use fx_math::{Affine, Vec3};
 use pf_io::NoMemory;
-use std::mem;
+
+// The faults
+
+fn is_switch(kind: &Kind) -> bool
+    ensures { result ≡ is_switch kind.now }
+{
+    matches!(kind, Kind::Switch(_))
+}
+
+fn is_dcs(kind: &Kind) -> bool
+    ensures { result ≡ is_dcs kind.now }
+{
+    matches!(kind, Kind::Dcs(_))
+}
+
+fn is_lod(kind: &Kind) -> bool
+    ensures { result ≡ is_lod kind.now }
+{
+    matches!(kind, Kind::Lod { .. })
+}
+
+fn is_sequence(kind: &Kind) -> bool
+    ensures { result ≡ is_sequence kind.now }
+{
+    matches!(kind, Kind::Seq { .. })
+}
+
+/// The fault of an edit of a switch.
+fn switch_fault(node: Option<&Node>, id: u16) -> Option<Fault>
+    ensures { result ≡ first (node_rules is_switch id (option_copied node.entry)) }
+{
+    match node {
+        None => Some(Fault::Absent(id)),
+        Some(node) if is_switch(&node.kind) => None,
+        Some(_) => Some(Fault::Kind(id)),
+    }
+}
+
+/// The fault of an edit of a dynamic coordinate system.
+fn dcs_fault(node: Option<&Node>, id: u16) -> Option<Fault>
+    ensures { result ≡ first (node_rules is_dcs id (option_copied node.entry)) }
+{
+    match node {
+        None => Some(Fault::Absent(id)),
+        Some(node) if is_dcs(&node.kind) => None,
+        Some(_) => Some(Fault::Kind(id)),
+    }
+}
+
+/// The fault of an edit of a level of detail, places aside.
+fn lod_fault(node: Option<&Node>, id: u16) -> Option<Fault>
+    ensures { result ≡ first (node_rules is_lod id (option_copied node.entry)) }
+{
+    match node {
+        None => Some(Fault::Absent(id)),
+        Some(node) if is_lod(&node.kind) => None,
+        Some(_) => Some(Fault::Kind(id)),
+    }
+}
+
+/// The fault of an edit of a sequence, places aside.
+fn sequence_fault(node: Option<&Node>, id: u16) -> Option<Fault>
+    ensures { result ≡ first (node_rules is_sequence id (option_copied node.entry)) }
+{
+    match node {
+        None => Some(Fault::Absent(id)),
+        Some(node) if is_sequence(&node.kind) => None,
+        Some(_) => Some(Fault::Kind(id)),
+    }
+}
+
+/// The fault of setting a range.
+fn range_fault(node: Option<&Node>, id: u16, place: u16) -> Option<Fault>
+    ensures { result ≡ first (node_rules is_lod id (option_copied node.entry)
+        ++ past ranges_of (option_copied node.entry) 256 place ∷ []) }
+{
+    let node = match node {
+        None => return Some(Fault::Absent(id)),
+        Some(node) => node,
+    };
+    match &node.kind {
+        Kind::Lod { ranges, .. } => {
+            if usize::from(place) > ranges.len() || place > 256 {
+                Some(Fault::Place(place))
+            } else {
+                None
+            }
+        }
+        _ => Some(Fault::Kind(id)),
+    }
+}
+
+/// The fault of setting a time.
+fn time_fault(node: Option<&Node>, id: u16, place: u16) -> Option<Fault>
+    ensures { result ≡ first (node_rules is_sequence id (option_copied node.entry)
+        ++ past times_of (option_copied node.entry) 255 place ∷ []) }
+{
+    let node = match node {
+        None => return Some(Fault::Absent(id)),
+        Some(node) => node,
+    };
+    match &node.kind {
+        Kind::Seq { times, .. } => {
+            if usize::from(place) > times.len() || place > 255 {
+                Some(Fault::Place(place))
+            } else {
+                None
+            }
+        }
+        _ => Some(Fault::Kind(id)),
+    }
+}
+
+/// The fault of replacing the triangles of a geode by so many.
+fn geom_fault(node: Option<&Node>, id: u16, count: usize) -> Option<Fault>
+    requires { count ≤ 4096 }
+    ensures { result ≡ first (node_rules is_geode id (option_copied node.entry)
+        ++ other_count (option_copied node.entry) count ∷ []) }
+{
+    let node = match node {
+        None => return Some(Fault::Absent(id)),
+        Some(node) => node,
+    };
+    match &node.kind {
+        Kind::Geode { geom, .. } | Kind::Glass { geom, .. } => {
+            if geom.len() == count {
+                None
+            } else {
+                Some(Fault::Many(count as u32))
+            }
+        }
+        _ => Some(Fault::Kind(id)),
+    }
+}
+
+fn fault_by_rules(node: Option<&Node>, e: &Edit) -> Option<Fault>
+    requires { is_attribute e.now ≡ true }
+    ensures { result ≡ first (attribute_rules e.now (option_copied node.entry)) }
+{
+    match e {
+        Edit::Pick { id, .. } => switch_fault(node, *id),
+        Edit::Mat { id, .. } => dcs_fault(node, *id),
+        Edit::Trans { id, .. } => dcs_fault(node, *id),
+        Edit::Rot { id, .. } => dcs_fault(node, *id),
+        Edit::Scale { id, .. } => dcs_fault(node, *id),
+        Edit::Range { id, place, .. } => range_fault(node, *id, *place),
+        Edit::Centre { id, .. } => lod_fault(node, *id),
+        Edit::Times { id, place, .. } => time_fault(node, *id, *place),
+        Edit::Run { id } => sequence_fault(node, *id),
+        Edit::Stop { id } => sequence_fault(node, *id),
+        Edit::Verts { id, geom } => geom_fault(node, *id, geom.len()),
+        Edit::Make { .. }
+        | Edit::Add { .. }
+        | Edit::Insert { .. }
+        | Edit::Replace { .. }
+        | Edit::Remove { .. }
+        | Edit::Delete { .. } => unreachable!(),
+    }
+}
+
+/// The fault of an edit that changes the kind of one node alone, from the node that it names, where there is one. It
+/// looks at no other node.
+pub fn attribute_fault(node: Option<&Node>, e: &Edit) -> Option<Fault>
+    requires { is_attribute e.now ≡ true }
+    ensures rules { result ≡ first (attribute_rules e.now (option_copied node.entry)) }
+    ensures fault { (g : SceneGraph) → node_at g.nodes (named_by e.now) ≡ option_copied node.entry
+        → result ≡ fault_of g e.now }
+{
+    fault_by_rules(node, e)
+}
 
 // What an edit makes of a kind
 
@@ -237,164 +402,6 @@ fn with_time(kind: &Kind, place: usize, frames: u16) -> Result<Kind, NoMemory>
     }
 }
 
-// The faults
-
-/// Whether the kind of the node of an id passes a test.
-fn is_switch(kind: &Kind) -> bool
-    ensures { result ≡ is_switch kind.now }
-{
-    matches!(kind, Kind::Switch(_))
-}
-
-fn is_dcs(kind: &Kind) -> bool
-    ensures { result ≡ is_dcs kind.now }
-{
-    matches!(kind, Kind::Dcs(_))
-}
-
-fn is_lod(kind: &Kind) -> bool
-    ensures { result ≡ is_some (ranges_of kind.now) }
-{
-    matches!(kind, Kind::Lod { .. })
-}
-
-fn is_sequence(kind: &Kind) -> bool
-    ensures { result ≡ is_some (times_of kind.now) }
-{
-    matches!(kind, Kind::Seq { .. })
-}
-
-/// The fault of an edit of a switch.
-fn switch_fault(nodes: &[(u16, Node)], id: u16) -> Option<Fault>
-    ensures { result ≡ first (absent nodes.now id ∷ not_kind is_switch nodes.now id ∷ []) }
-{
-    match find_node(nodes, id) {
-        None => Some(Fault::Absent(id)),
-        Some(node) if is_switch(&node.kind) => None,
-        Some(_) => Some(Fault::Kind(id)),
-    }
-}
-
-/// The fault of an edit of a dynamic coordinate system.
-fn dcs_fault(nodes: &[(u16, Node)], id: u16) -> Option<Fault>
-    ensures { result ≡ first (absent nodes.now id ∷ not_kind is_dcs nodes.now id ∷ []) }
-{
-    match find_node(nodes, id) {
-        None => Some(Fault::Absent(id)),
-        Some(node) if is_dcs(&node.kind) => None,
-        Some(_) => Some(Fault::Kind(id)),
-    }
-}
-
-/// The fault of an edit of a level of detail, places aside.
-fn lod_fault(nodes: &[(u16, Node)], id: u16) -> Option<Fault>
-    ensures { result ≡ first (absent nodes.now id ∷ not_kind (λ k. is_some (ranges_of k)) nodes.now id ∷ []) }
-{
-    match find_node(nodes, id) {
-        None => Some(Fault::Absent(id)),
-        Some(node) if is_lod(&node.kind) => None,
-        Some(_) => Some(Fault::Kind(id)),
-    }
-}
-
-/// The fault of an edit of a sequence, places aside.
-fn sequence_fault(nodes: &[(u16, Node)], id: u16) -> Option<Fault>
-    ensures { result ≡ first (absent nodes.now id ∷ not_kind (λ k. is_some (times_of k)) nodes.now id ∷ []) }
-{
-    match find_node(nodes, id) {
-        None => Some(Fault::Absent(id)),
-        Some(node) if is_sequence(&node.kind) => None,
-        Some(_) => Some(Fault::Kind(id)),
-    }
-}
-
-/// The fault of setting a range.
-fn range_fault(nodes: &[(u16, Node)], id: u16, place: u16) -> Option<Fault>
-    ensures { result ≡ first (absent nodes.now id ∷ not_kind (λ k. is_some (ranges_of k)) nodes.now id
-        ∷ when (past (entries_at ranges_of nodes.now id) 256 place) (Fault.Place place) ∷ []) }
-{
-    let node = match find_node(nodes, id) {
-        None => return Some(Fault::Absent(id)),
-        Some(node) => node,
-    };
-    match &node.kind {
-        Kind::Lod { ranges, .. } => {
-            if usize::from(place) > ranges.len() || place > 256 {
-                Some(Fault::Place(place))
-            } else {
-                None
-            }
-        }
-        _ => Some(Fault::Kind(id)),
-    }
-}
-
-/// The fault of setting a time.
-fn time_fault(nodes: &[(u16, Node)], id: u16, place: u16) -> Option<Fault>
-    ensures { result ≡ first (absent nodes.now id ∷ not_kind (λ k. is_some (times_of k)) nodes.now id
-        ∷ when (past (entries_at times_of nodes.now id) 255 place) (Fault.Place place) ∷ []) }
-{
-    let node = match find_node(nodes, id) {
-        None => return Some(Fault::Absent(id)),
-        Some(node) => node,
-    };
-    match &node.kind {
-        Kind::Seq { times, .. } => {
-            if usize::from(place) > times.len() || place > 255 {
-                Some(Fault::Place(place))
-            } else {
-                None
-            }
-        }
-        _ => Some(Fault::Kind(id)),
-    }
-}
-
-/// The fault of replacing the triangles of a geode by so many.
-fn geom_fault(nodes: &[(u16, Node)], id: u16, count: usize) -> Option<Fault>
-    requires { count ≤ 4096 }
-    ensures { result ≡ first (absent nodes.now id ∷ not_kind is_geode nodes.now id
-        ∷ when (other_count nodes.now id count) (Fault.Many count) ∷ []) }
-{
-    let node = match find_node(nodes, id) {
-        None => return Some(Fault::Absent(id)),
-        Some(node) => node,
-    };
-    match &node.kind {
-        Kind::Geode { geom, .. } | Kind::Glass { geom, .. } => {
-            if geom.len() == count {
-                None
-            } else {
-                Some(Fault::Many(count as u32))
-            }
-        }
-        _ => Some(Fault::Kind(id)),
-    }
-}
-
-// The edits
-
-/// The fault of such an edit.
-fn attribute_fault(nodes: &[(u16, Node)], e: &Edit) -> Option<Fault>
-    requires { is_attribute e.now ≡ true }
-    ensures { result ≡ first (rules nodes.now e.now) }
-{
-    match e {
-        Edit::Pick { id, .. } => switch_fault(nodes, *id),
-        Edit::Mat { id, .. } => dcs_fault(nodes, *id),
-        Edit::Trans { id, .. } => dcs_fault(nodes, *id),
-        Edit::Rot { id, .. } => dcs_fault(nodes, *id),
-        Edit::Scale { id, .. } => dcs_fault(nodes, *id),
-        Edit::Range { id, place, .. } => range_fault(nodes, *id, *place),
-        Edit::Centre { id, .. } => lod_fault(nodes, *id),
-        Edit::Times { id, place, .. } => time_fault(nodes, *id, *place),
-        Edit::Run { id } => sequence_fault(nodes, *id),
-        Edit::Stop { id } => sequence_fault(nodes, *id),
-        Edit::Verts { id, geom } => geom_fault(nodes, *id, geom.len()),
-        _ => unreachable!(),
-    }
-}
-
 /// What an edit that fits makes of the kind of its node at a time: another kind where it changes the kind alone, else an
 /// equal one.
 pub fn kind_after(node: &Node, time: u32, e: &Edit) -> Result<Kind, NoMemory>
@@ -413,57 +420,11 @@ pub fn kind_after(node: &Node, time: u32, e: &Edit) -> Result<Kind, NoMemory>
         Edit::Run { .. } => run_from(&node.kind, time),
         Edit::Stop { .. } => stopped(&node.kind, node.children.len(), time),
         Edit::Verts { geom, .. } => with_geom(&node.kind, geom),
-        _ => node.kind.copy(),
+        Edit::Make { .. }
+        | Edit::Add { .. }
+        | Edit::Insert { .. }
+        | Edit::Replace { .. }
+        | Edit::Remove { .. }
+        | Edit::Delete { .. } => node.kind.copy(),
     }
-}
-
-/// The kind that such an edit gives its node.
-fn new_kind(nodes: &[(u16, Node)], time: u32, e: &Edit) -> Result<Kind, NoMemory>
-    requires there { is_there (node_at nodes.now) (named_by e.now) ≡ true }
-    requires fits { fits e.now ≡ true }
-    ensures { IfOk result (λ k. option_map (kind_after time e.now) (node_at nodes.now (named_by e.now)) ≡ Some k) }
-{
-    match find_node(nodes, e.named()) {
-        Some(node) => kind_after(node, time, e),
-        None => unreachable!(),
-    }
-}
-
-/// Gives the node at a place another kind.
-fn put_kind(nodes: &mut [(u16, Node)], place: usize, kind: Kind)
-    requires { place < length nodes.old }
-    ensures after { nodes.new ≡ change_at place (having_kind kind) nodes.old }
-    ensures ids { map (λ e. e.0) nodes.new ≡ map (λ e. e.0) nodes.old }
-{
-    nodes[place].1.kind = kind;
-}
-
-/// Gives a node another kind.
-fn rekind(nodes: &mut [(u16, Node)], id: u16, kind: Kind)
-    requires { is_there (node_at nodes.old) id ≡ true }
-    ensures after { nodes.new ≡ change id (having_kind kind) nodes.old }
-    ensures ids { map (λ e. e.0) nodes.new ≡ map (λ e. e.0) nodes.old }
-{
-    match place_of(nodes, id) {
-        Some(place) => put_kind(nodes, place, kind),
-        None => unreachable!(),
-    }
-}
-
-/// Changes the kind of one node.
-pub(crate) fn set_attribute(nodes: &mut [(u16, Node)], time: u32, e: &Edit) -> Result<(), EditError>
-    requires attribute { is_attribute e.now ≡ true }
-    requires fits { fits e.now ≡ true }
-    ensures done { OnOk result (first (rules nodes.old e.now) ≡ None) }
-    ensures after { OnOk result (nodes.new ≡ attribute_set time e.now nodes.old) }
-    ensures fault { IfErr result (λ r. Refuses r (first (rules nodes.old e.now))) }
-    ensures unchanged { OnErr result (nodes.new ≡ nodes.old) }
-    ensures ids { map (λ e. e.0) nodes.new ≡ map (λ e. e.0) nodes.old }
-{
-    if let Some(fault) = attribute_fault(nodes, e) {
-        return Err(EditError::Fault(fault));
-    }
-    let kind = new_kind(nodes, time, e)?;
-    rekind(nodes, e.named(), kind);
-    Ok(())
 }

@@ -207,3 +207,76 @@ impl EditList {
         self.edits.get(i)
     }
 }
+
+/// A list of edits that is being made. Contracts see the edits so far, and how many more have room.
+#[derive(Debug, Drop)]
+pub struct EditListBuilder {
+    edits: Vec<Edit>,
+}
+
+impl Model for EditListBuilder {
+    ghost use Rattle.std.specs.Prelude.{◌-◌};
+    ghost use Rattle.std.specs.Vec.{vec_len, vec_capacity};
+    ghost use Rattle.pf_model.specs.Recording.{EditsSoFar};
+
+    ghost Value = { EditsSoFar };
+
+    ghost view = { λ b. record { items = b.edits.items; spare = vec_capacity b.edits - vec_len b.edits } };
+}
+
+impl EditListBuilder {
+    ghost use Rattle.std.specs.Prelude.{◌≡◌, ◌+◌, ◌<◌, ◌≤◌, [], ◌∷◌, ◌++◌, length, OnOk, OnErr};
+
+    /// No edits yet.
+    pub fn new(alloc: Global) -> EditListBuilder
+        ensures { result.items ≡ [] }
+    {
+        EditListBuilder {
+            edits: Vec::new(alloc),
+        }
+    }
+
+    /// Makes room for `n` more edits; the edits stay, and no room is lost. It fails only where that room was missing.
+    pub fn reserve(&mut self, n: usize) -> Result<(), NoMemory>
+        ensures room { OnOk result (n ≤ self.new.spare) }
+        ensures items { self.new.items ≡ self.old.items }
+        ensures spare { self.old.spare ≤ self.new.spare }
+        ensures full { OnErr result (self.old.spare < n) }
+    {
+        self.edits.reserve(n)?;
+        Ok(())
+    }
+
+    /// Appends an edit where there is room, without memory.
+    pub fn push_reserved(&mut self, e: Edit)
+        requires { 0 < self.old.spare }
+        ensures items { self.new.items ≡ self.old.items ++ e ∷ [] }
+        ensures spare { self.old.spare ≤ self.new.spare + 1 }
+    {
+        match self.edits.push(e) {
+            Ok(()) => {}
+            Err(_) => unreachable!(),
+        }
+    }
+
+    /// The number of edits so far.
+    pub fn len(&self) -> usize
+        ensures { result ≡ length self.now.items }
+    {
+        self.edits.len()
+    }
+
+    /// The edits so far.
+    pub fn as_slice(&self) -> &[Edit]
+        ensures { result.now ≡ self.now.items }
+    {
+        self.edits.as_slice()
+    }
+
+    /// The list of these edits, without memory.
+    pub fn finish(self) -> EditList
+        ensures { result ≡ self.items }
+    {
+        EditList { edits: self.edits }
+    }
+}

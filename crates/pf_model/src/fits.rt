@@ -91,8 +91,8 @@ fn are_angles(h: i32, p: i32, r: i32) -> bool
 impl Edit {
     /// Whether the numbers of the edit are in the ranges of a play: angles of a magnitude of at most 3,600, a scale of at
     /// most 1,048,576, a place of an Insert, a Times or a pick up to 255 and one of a Range up to 256, a range up to
-    /// 2,147,483,647, a time of at least 1 frame, and of a node that is made its kind's numbers likewise, with a
-    /// sequence that runs since 0 or is held.
+    /// 2,147,483,647, a time of at least 1 frame, and at most 4,096 triangles. Of a node that is made, its kind's numbers
+    /// likewise, with at most 257 ranges and 256 times, and with a sequence that runs since 0 or is held.
     pub fn fits(&self) -> bool
         ensures { result ≡ fits self.now }
     {
@@ -105,7 +105,15 @@ impl Edit {
             Edit::Range { place, value, .. } => *place <= 256 && range_fits(*value),
             Edit::Times { place, frames, .. } => *place <= 255 && time_fits(*frames),
             Edit::Verts { geom, .. } => geom_fits(geom),
-            _ => true,
+            Edit::Add { .. }
+            | Edit::Replace { .. }
+            | Edit::Remove { .. }
+            | Edit::Delete { .. }
+            | Edit::Mat { .. }
+            | Edit::Trans { .. }
+            | Edit::Centre { .. }
+            | Edit::Run { .. }
+            | Edit::Stop { .. } => true,
         }
     }
 }

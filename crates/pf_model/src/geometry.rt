@@ -1,5 +1,5 @@
 //! Triangles, and the geometry of a geode.
-ghost use Rattle.std.specs.Prelude.{◌≡◌, ◌≤◌, List, length, slice_get, IfOk};
+ghost use Rattle.std.specs.Prelude.{◌≡◌, ◌≤◌, length, slice_get, IfOk, is_ok, true};
 ghost use Rattle.std.specs.Vec.{vec_len};
 ghost use Rattle.pf_model.specs.Three.{AreThree};
 
@@ -33,12 +33,28 @@ impl Model for Geom {
 }
 
 impl Geom {
-    /// The geometry of these triangles.
+    /// The geometry of these triangles. It takes no memory and is never refused.
     pub fn new(tris: Vec<Tri>) -> Result<Geom, NoMemory>
         requires { vec_len tris ≤ 4096 }
-        ensures { IfOk result (λ g. g ≡ tris.items) }
+        ensures tris { IfOk result (λ g. g ≡ tris.items) }
+        ensures ok { is_ok result ≡ true }
     {
         Ok(Geom { tris })
+    }
+
+    /// The triangles as a vector of their own. It takes no memory.
+    pub fn into_vec(self) -> Vec<Tri>
+        ensures { result.items ≡ self }
+    {
+        self.tris
+    }
+
+    /// Writes as many other triangles in place of these. It takes no memory.
+    pub fn write(&mut self, tris: &[Tri])
+        requires { length tris.now ≡ length self.old }
+        ensures { self.new ≡ tris.now }
+    {
+        self.tris.copy_from_slice(tris);
     }
 
     /// The number of triangles.

@@ -1,8 +1,9 @@
 //! Short lists of numbers: the children of a node, the ranges of a level of detail, the times of a sequence.
 ghost use Rattle.std.specs.Prelude.{◌≡◌, ℕ, ◌≤◌, ◌<◌, List, [], length, slice_get, slice_set, IfOk, OnOk, OnErr, Some};
-ghost use Rattle.std.specs.Prelude.{◌+◌, ◌-◌, ◌∷◌, ◌++◌};
+ghost use Rattle.std.specs.Prelude.{◌+◌, ◌-◌, ◌∷◌, ◌++◌, ◌==◌};
 ghost use Rattle.std.specs.Vec.{vec_len, vec_capacity};
-ghost use Rattle.std.specs.List.{insert, remove};
+ghost use Rattle.std.specs.List.{insert, remove, position};
+ghost use Rattle.pf_model.specs.Children.{replace_first, drop_first};
 ghost use Rattle.pf_model.specs.Room.{SerialsSoFar};
 
 use pf_io::NoMemory;
@@ -100,6 +101,39 @@ impl<T: Copy, const LIMIT: usize> ShortList<T, LIMIT> {
         let mut items = Vec::new(*self.items.allocator());
         items.extend_from_slice(self.items.as_slice())?;
         Ok(ShortList { items })
+    }
+}
+
+/// The place of the first that is this child.
+fn place_in(children: &Ids, child: u16) -> Option<usize>
+    ensures { result ≡ position (λ c. c == child) children.now }
+{
+    children.as_slice().iter().position(|c| *c == child)
+}
+
+impl Ids {
+    /// The same children with `by` at the first place that holds the child.
+    #[tactic(auto, using(crate::proofs::Entries::replace_found, crate::proofs::Entries::replace_none))]
+    pub fn with_first_replaced(&self, child: u16, by: u16) -> Result<Ids, NoMemory>
+        ensures { IfOk result (λ cs. cs ≡ replace_first child by self.now) }
+    {
+        let mut copy = self.copy()?;
+        if let Some(place) = place_in(self, child) {
+            copy.set(place, by);
+        }
+        Ok(copy)
+    }
+
+    /// The same children without the first that is this child.
+    #[tactic(auto, using(crate::proofs::Entries::drop_found, crate::proofs::Entries::drop_none))]
+    pub fn without_first(&self, child: u16) -> Result<Ids, NoMemory>
+        ensures { IfOk result (λ cs. cs ≡ drop_first child self.now) }
+    {
+        let mut copy = self.copy()?;
+        if let Some(place) = place_in(self, child) {
+            copy.remove(place);
+        }
+        Ok(copy)
     }
 }
 

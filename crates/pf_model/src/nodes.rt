@@ -81,6 +81,18 @@ pub enum Chosen {
 }
 
 impl Kind {
+    ghost use Rattle.std.specs.Prelude.{◌≡◌};
+    ghost use Rattle.pf_model.specs.Kinds.{is_geode};
+
+    /// Whether the kind is a geode.
+    pub fn is_geode(&self) -> bool
+        ensures { result ≡ is_geode self.now }
+    {
+        matches!(self, Kind::Geode { .. } | Kind::Glass { .. })
+    }
+}
+
+impl Kind {
     /// An equal kind.
     pub fn copy(&self) -> Result<Kind, NoMemory>
         ensures { IfOk result (λ k. k ≡ self.now) }
@@ -134,6 +146,29 @@ impl Node {
             kind,
             children,
         })
+    }
+}
+
+impl Node {
+    ghost use Rattle.std.specs.Prelude.{◌≡◌, ◌∷◌, [], Some};
+    ghost use Rattle.pf_model.specs.Edits.{remains};
+
+    /// What is left of a node that is deleted under this id.
+    pub fn remains(self, id: u16) -> Gone
+        ensures { remains id (Some self) ≡ result ∷ [] }
+    {
+        let Node {
+            serial,
+            born,
+            kind,
+            children: _,
+        } = self;
+        Gone {
+            id,
+            serial,
+            born,
+            kind,
+        }
     }
 }
 

@@ -1,5 +1,6 @@
 //! Poses of dynamic coordinate systems, and views.
-ghost use Rattle.pf_model.specs.Angles.{EulerPose, Viewpoint, IsEulerPose, AreAngles};
+ghost use Rattle.std.specs.Prelude.{◌≡◌};
+ghost use Rattle.pf_model.specs.Angles.{EulerPose, Viewpoint, IsEulerPose, AreAngles, home_view};
 
 use fx_math::{Affine, Vec3};
 use std::marker::Model;
@@ -52,4 +53,18 @@ impl Model for View {
     ghost invariant = { λ v. AreAngles v.h v.p v.r };
 
     ghost inverse = { λ v. record { eye = v.eye; h = v.h; p = v.p; r = v.r } };
+}
+
+impl View {
+    /// The view from the origin along Y, with angles of 0.
+    pub fn home() -> View
+        ensures { result ≡ home_view }
+    {
+        View {
+            eye: Vec3::ORIGIN,
+            h: 0,
+            p: 0,
+            r: 0,
+        }
+    }
 }

@@ -11,117 +11,6 @@ fn group(id: u16) -> Edit {
     }
 }
 
-fn geode(alloc: Global, id: u16) -> Result<Edit, Fail> {
-    let geom = Geom::new(Vec::new(alloc))?;
-    Ok(Edit::Make {
-        id,
-        kind: Kind::Geode { state: 0, geom },
-    })
-}
-
-fn dcs(id: u16) -> Edit {
-    let euler = Euler {
-        scale: 65_536,
-        h: 0,
-        p: 0,
-        r: 0,
-        t: Vec3::ORIGIN,
-    };
-    Edit::Make {
-        id,
-        kind: Kind::Dcs(Pose::Euler(euler)),
-    }
-}
-
-// Applies an edit that fits to a graph with few serials.
-fn edit(rt: &impl Abort, graph: &mut Graph, e: &Edit) -> Result<(), EditError> {
-    assert!(rt; graph.next_serial() < 1_000);
-    assert!(rt; e.fits());
-    graph.edit(e)
-}
-
-fn add(rt: &impl Abort, graph: &mut Graph, parent: u16, child: u16) -> Result<(), EditError> {
-    edit(rt, graph, &Edit::Add { parent, child })
-}
-
-fn refused(fault: Fault) -> Result<(), EditError> {
-    Err(EditError::Fault(fault))
-}
-
-#[test]
-fn two_parents_and_a_cycle(rt: HostRuntime) -> Result<(), Fail> {
-    let mut graph = Graph::new(rt.alloc())?;
-    assert_eq!(rt; edit(&rt, &mut graph, &dcs(1)), Ok(()));
-    assert_eq!(rt; edit(&rt, &mut graph, &dcs(2)), Ok(()));
-    let shape = geode(rt.alloc(), 3)?;
-    assert_eq!(rt; edit(&rt, &mut graph, &shape), Ok(()));
-    assert_eq!(rt; add(&rt, &mut graph, 0, 1), Ok(()));
-    assert_eq!(rt; add(&rt, &mut graph, 0, 2), Ok(()));
-    assert_eq!(rt; add(&rt, &mut graph, 1, 3), Ok(()));
-    assert_eq!(rt; add(&rt, &mut graph, 2, 3), Ok(()));
-    let move_it = Edit::Trans {
-        id: 2,
-        t: Vec3::ORIGIN,
-    };
-    assert_eq!(rt; edit(&rt, &mut graph, &move_it), Ok(()));
-    assert_eq!(rt; edit(&rt, &mut graph, &group(4)), Ok(()));
-    assert_eq!(rt; add(&rt, &mut graph, 4, 1), Ok(()));
-    assert_eq!(rt; add(&rt, &mut graph, 1, 4), refused(Fault::Cycle(1, 4)));
-    assert_eq!(rt; add(&rt, &mut graph, 1, 1), refused(Fault::Cycle(1, 1)));
-    Ok(())
-}
-
-#[test]
-fn delete_in_use(rt: HostRuntime) -> Result<(), Fail> {
-    let mut graph = Graph::new(rt.alloc())?;
-    let shape = geode(rt.alloc(), 1)?;
-    let delete = Edit::Delete { id: 1 };
-    let remove = Edit::Remove {
-        parent: 0,
-        child: 1,
-    };
-    assert_eq!(rt; edit(&rt, &mut graph, &shape), Ok(()));
-    assert_eq!(rt; add(&rt, &mut graph, 0, 1), Ok(()));
-    assert_eq!(rt; edit(&rt, &mut graph, &delete), refused(Fault::InUse(1)));
-    assert_eq!(rt; edit(&rt, &mut graph, &remove), Ok(()));
-    assert_eq!(rt; edit(&rt, &mut graph, &delete), Ok(()));
-    assert_eq!(rt; edit(&rt, &mut graph, &delete), refused(Fault::Absent(1)));
-    assert_eq!(rt; graph.next_serial(), 2);
-    let mut copy = graph.copy()?;
-    assert_eq!(rt; graph.take_gone().len(), 1);
-    assert_eq!(rt; graph.take_gone().len(), 0);
-    assert_eq!(rt; copy.take_gone().len(), 1);
-    Ok(())
-}
-
-#[test]
-fn chain_too_deep(rt: HostRuntime) -> Result<(), Fail> {
-    let mut graph = Graph::new(rt.alloc())?;
-    for id in 1..33 {
-        assert_eq!(rt; edit(&rt, &mut graph, &group(id)), Ok(()));
-    }
-    for id in 0..31 {
-        assert_eq!(rt; add(&rt, &mut graph, id, id + 1), Ok(()));
-    }
-    assert_eq!(rt; add(&rt, &mut graph, 31, 32), refused(Fault::Deep(33)));
-    Ok(())
-}
-
-#[test]
-fn unfolded_size_too_large(rt: HostRuntime) -> Result<(), Fail> {
-    let mut graph = Graph::new(rt.alloc())?;
-    for id in 1..19 {
-        assert_eq!(rt; edit(&rt, &mut graph, &group(id)), Ok(()));
-    }
-    for id in 1..17 {
-        assert_eq!(rt; add(&rt, &mut graph, id, id + 1), Ok(()));
-        assert_eq!(rt; add(&rt, &mut graph, id, id + 1), Ok(()));
-    }
-    assert_eq!(rt; add(&rt, &mut graph, 0, 1), Ok(()));
-    assert_eq!(rt; add(&rt, &mut graph, 17, 18), refused(Fault::Large));
-    Ok(())
-}
-
 fn node(alloc: Global, kind: Kind) -> Result<Node, Fail> {
     let mut children = Ids::new(alloc);
     children.insert(0, 2)?;
@@ -149,44 +38,6 @@ fn level_of_detail_on_a_range(rt: HostRuntime) -> Result<(), Fail> {
     Ok(())
 }
 
-fn shown(graph: &Graph, id: u16) -> Option<Chosen> {
-    Some(chosen_children(graph.node(id)?, Vec3::ORIGIN, graph.time()))
-}
-
-#[test]
-fn sequence_run_and_stopped(rt: HostRuntime) -> Result<(), Fail> {
-    let mut graph = Graph::new(rt.alloc())?;
-    let times = Times::new(rt.alloc());
-    let run = Run::Held(0);
-    let sequence = Edit::Make {
-        id: 1,
-        kind: Kind::Seq { times, run },
-    };
-    let two_frames = Edit::Times {
-        id: 1,
-        place: 0,
-        frames: 2,
-    };
-    assert_eq!(rt; edit(&rt, &mut graph, &sequence), Ok(()));
-    assert_eq!(rt; edit(&rt, &mut graph, &group(2)), Ok(()));
-    assert_eq!(rt; edit(&rt, &mut graph, &group(3)), Ok(()));
-    assert_eq!(rt; add(&rt, &mut graph, 1, 2), Ok(()));
-    assert_eq!(rt; add(&rt, &mut graph, 1, 3), Ok(()));
-    assert_eq!(rt; edit(&rt, &mut graph, &two_frames), Ok(()));
-    assert_eq!(rt; edit(&rt, &mut graph, &Edit::Run { id: 1 }), Ok(()));
-    for place in [0, 0, 1] {
-        assert_eq!(rt; shown(&graph, 1), Some(Chosen::One(place)));
-        assert!(rt; graph.time() < 100);
-        graph.next_frame();
-    }
-    assert_eq!(rt; edit(&rt, &mut graph, &Edit::Stop { id: 1 }), Ok(()));
-    assert_eq!(rt; shown(&graph, 1), Some(Chosen::One(0)));
-    assert!(rt; graph.time() < 100);
-    graph.next_frame();
-    assert_eq!(rt; shown(&graph, 1), Some(Chosen::One(0)));
-    Ok(())
-}
-
 #[test]
 fn kind_after_an_edit(rt: HostRuntime) -> Result<(), Fail> {
     let switch = node(rt.alloc(), Kind::Switch(Pick::Off))?;
@@ -196,53 +47,6 @@ fn kind_after_an_edit(rt: HostRuntime) -> Result<(), Fail> {
     };
     let kind = kind_after(&switch, 1, &pick)?;
     assert!(rt; matches!(kind, Kind::Switch(Pick::One(1))));
-    Ok(())
-}
-
-#[test]
-fn links_and_attributes(rt: HostRuntime) -> Result<(), Fail> {
-    let mut graph = Graph::new(rt.alloc())?;
-    for id in 1..4 {
-        assert_eq!(rt; edit(&rt, &mut graph, &group(id)), Ok(()));
-    }
-    let insert = Edit::Insert {
-        parent: 0,
-        place: 0,
-        child: 2,
-    };
-    let replace = Edit::Replace {
-        parent: 0,
-        child: 1,
-        by: 3,
-    };
-    let pick = Edit::Pick {
-        id: 1,
-        pick: Pick::On,
-    };
-    assert_eq!(rt; edit(&rt, &mut graph, &group(1)), refused(Fault::Taken(1)));
-    assert_eq!(rt; add(&rt, &mut graph, 0, 1), Ok(()));
-    assert_eq!(rt; edit(&rt, &mut graph, &insert), Ok(()));
-    assert_eq!(rt; edit(&rt, &mut graph, &replace), Ok(()));
-    assert_eq!(rt;
-        edit(&rt, &mut graph, &replace),
-        refused(Fault::NotChild(0, 1))
-    );
-    assert_eq!(rt; edit(&rt, &mut graph, &pick), refused(Fault::Kind(1)));
-    let scene = graph.node(0).ok_or("no scene")?;
-    assert_eq!(rt; scene.children.as_slice(), [2, 3].as_slice());
-    let shape = geode(rt.alloc(), 4)?;
-    let mut triangles = Vec::new(rt.alloc());
-    let red = Tri {
-        v: [Vec3::ORIGIN, Vec3::ORIGIN, Vec3::ORIGIN],
-        c: [[255, 0, 0], [255, 0, 0], [255, 0, 0]],
-    };
-    triangles.push(red).map_err(AllocError::from)?;
-    let verts = Edit::Verts {
-        id: 4,
-        geom: Geom::new(triangles)?,
-    };
-    assert_eq!(rt; edit(&rt, &mut graph, &shape), Ok(()));
-    assert_eq!(rt; edit(&rt, &mut graph, &verts), refused(Fault::Many(1)));
     Ok(())
 }
 
@@ -258,6 +62,12 @@ fn short_lists(rt: HostRuntime) -> Result<(), Fail> {
     assert_eq!(rt; ids.copy()?.as_slice(), [4, 7].as_slice());
     assert_eq!(rt; ids.at(1), Some(7));
     assert_eq!(rt; ids.at(2), None);
+    ids.insert(2, 7)?;
+    assert_eq!(rt;
+        ids.with_first_replaced(7, 9)?.as_slice(),
+        [4, 9, 7].as_slice()
+    );
+    assert_eq!(rt; ids.without_first(7)?.as_slice(), [4, 7].as_slice());
     let mut serials = Serials::with_room(rt.alloc(), 2)?;
     serials.push(9);
     assert_eq!(rt; serials.spare(), 1);
@@ -282,5 +92,80 @@ fn edit_lists(rt: HostRuntime) -> Result<(), Fail> {
         }
         .fits()
     );
+    Ok(())
+}
+
+#[test]
+fn edit_lists_with_room(rt: HostRuntime) -> Result<(), Fail> {
+    let mut edits = EditListBuilder::new(rt.alloc());
+    edits.reserve(2)?;
+    edits.push_reserved(group(6));
+    edits.push_reserved(Edit::Delete { id: 7 });
+    assert_eq!(rt; edits.len(), 2);
+    assert_eq!(rt; edits.as_slice().len(), 2);
+    let edits = edits.finish();
+    assert_eq!(rt; edits.at(1).ok_or("no edit")?.named(), 7);
+    Ok(())
+}
+
+fn triangle(red: u8) -> Tri {
+    Tri {
+        v: [Vec3::ORIGIN, Vec3::ORIGIN, Vec3::ORIGIN],
+        c: [[red, 0, 0], [red, 0, 0], [red, 0, 0]],
+    }
+}
+
+#[test]
+fn triangles_written(rt: HostRuntime) -> Result<(), Fail> {
+    let mut tris = Vec::new(rt.alloc());
+    tris.push(triangle(1)).map_err(AllocError::from)?;
+    tris.push(triangle(2)).map_err(AllocError::from)?;
+    let mut geom = Geom::new(tris)?;
+    geom.write(&[triangle(3), triangle(4)]);
+    assert_eq!(rt; geom.len(), 2);
+    assert_eq!(rt; geom.at(1), Some(triangle(4)));
+    let tris = geom.into_vec();
+    assert_eq!(rt; tris.as_slice(), [triangle(3), triangle(4)].as_slice());
+    Ok(())
+}
+
+#[test]
+fn fault_of_an_attribute(rt: HostRuntime) -> Result<(), Fail> {
+    let switch = node(rt.alloc(), Kind::Switch(Pick::Off))?;
+    let pick = Edit::Pick {
+        id: 1,
+        pick: Pick::On,
+    };
+    let run = Edit::Run { id: 1 };
+    assert_eq!(rt; attribute_fault(Some(&switch), &pick), None);
+    assert_eq!(rt; attribute_fault(Some(&switch), &run), Some(Fault::Kind(1)));
+    assert_eq!(rt; attribute_fault(None, &run), Some(Fault::Absent(1)));
+    Ok(())
+}
+
+#[test]
+fn remains_of_a_geode(rt: HostRuntime) -> Result<(), Fail> {
+    let geom = Geom::new(Vec::new(rt.alloc()))?;
+    let glass = node(
+        rt.alloc(),
+        Kind::Glass {
+            state: 0,
+            alpha: 128,
+            geom,
+        },
+    )?;
+    assert!(rt; glass.kind.is_geode());
+    assert!(rt; !Kind::Layer.is_geode());
+    let gone = glass.remains(5);
+    assert_eq!(rt; gone.id, 5);
+    assert_eq!(rt; gone.serial, 1);
+    Ok(())
+}
+
+#[test]
+fn view_from_the_origin(rt: HostRuntime) -> Result<(), Fail> {
+    let view = View::home();
+    assert_eq!(rt; view.eye, Vec3::ORIGIN);
+    assert_eq!(rt; view.h, 0);
     Ok(())
 }

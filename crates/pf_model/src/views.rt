@@ -5,10 +5,8 @@ ghost use Rattle.std.specs.Option.{option_copied, option_map};
 ghost use Rattle.fx_math.specs.Plain.{Bounds};
 ghost use Rattle.fx_math.specs.Views.{bounds_of};
 ghost use Rattle.pf_model.specs.declared.nodes.Node.{Node};
-ghost use Rattle.pf_model.specs.Graphs.{node_at};
 
 use crate::geometry::Geom;
-use crate::graph::Graph;
 use crate::nodes::Node;
 use fx_math::Box3;
 use pf_io::NoMemory;
@@ -56,12 +54,4 @@ pub trait Arrays {
         ensures less { free self.new serial + 1 ≡ free self.old serial }
         ensures others { (s : ℕ) → s ≢ serial → free self.new s ≡ free self.old s }
         ensures written { (s : ℕ) → written self.new s ≡ written self.old s };
-}
-
-impl NodeView for Graph {
-    ghost look = { λ g. node_at g.nodes };
-
-    fn node(&self, id: u16) -> Option<&Node> {
-        self.find(id)
-    }
 }

@@ -2,7 +2,8 @@
 use crate::draw_plain;
 use crate::tests::{BACK, facing, point};
 use fx_math::{Lens, MAX_COORDINATE, Vec3};
-use pf_model::{Edit, EditError, Euler, Fault, Geom, Graph, Kind, Pose, Ranges, Tri, View};
+use pf_model::{Edit, EditError, Euler, Fault, Geom, Kind, Pose, Ranges, Tri, View};
+use plain_graph::Graph;
 use ppm_out::Image;
 use std::alloc::Global;
 use std::process::Abort;

@@ -1,2 +1,3 @@
 mod Places
+mod Bands
 pub mod Pictures

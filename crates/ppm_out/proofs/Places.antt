@@ -1,18 +1,10 @@
 -- Where pixels lie, and what a write to one leaves.
-use Rattle.std.proofs.Common.{◌≡◌, ℕ, ◌+◌, ◌*◌, ◌/◌, ◌%◌, ◌<◌, ◌≤◌, ◌≢◌, List, [], ◌∷◌, refl, sym, ap, ◌∙◌, arith, length, set, length-set, get_or, get_or-set_same, get_or-set_other}
-use Rattle.std.proofs.lemmas.Nat.{div-mul-add, mod-mul-add, mul-add-lt}
+use Rattle.std.proofs.Common.{◌≡◌, ℕ, ◌+◌, ◌*◌, ◌<◌, ◌≤◌, ◌≢◌, List, [], ◌∷◌, refl, ap, ◌∙◌, arith, length, set, length-set, get_or, get_or-set_same, get_or-set_other}
+use Rattle.std.proofs.lemmas.Nat.{same_from_place, mul-add-lt}
 use Rattle.ppm_out.specs.Pixmap.{place_of, SetsPixel}
 
--- two pixels at one place are one pixel
-one_pixel : (width px py qx qy : ℕ) → px < width → qx < width
-    → qy * width + qx ≡ py * width + px → (qx ≡ px) × (qy ≡ py)
-one_pixel width px py qx qy p q same = (
-  sym (mod-mul-add qy width qx q) ∙ ap (λ n. n % width) same ∙ mod-mul-add py width px p,
-  sym (div-mul-add qy width qx q) ∙ ap (λ n. n / width) same ∙ div-mul-add py width px p,
-)
-
 -- lists of three are equal where their elements are
-three : (x y z a b c : ℕ) → x ≡ a → y ≡ b → z ≡ c → x ∷ y ∷ z ∷ [] ≡ a ∷ b ∷ c ∷ []
+pub three : (x y z a b c : ℕ) → x ≡ a → y ≡ b → z ≡ c → x ∷ y ∷ z ∷ [] ≡ a ∷ b ∷ c ∷ []
 three x y z a b c first second third =
     ap (λ h. h ∷ y ∷ z ∷ []) first ∙ ap (λ h. a ∷ h ∷ z ∷ []) second ∙ ap (λ h. a ∷ b ∷ h ∷ []) third
 
@@ -37,7 +29,8 @@ second_of_three p red green blue bytes within =
 third_of_three : (p red green blue : ℕ) (bytes : List ℕ) → p + 3 ≤ length bytes
     → get_or (set (set (set bytes p red) (p + 1) green) (p + 2) blue) (p + 2) 0 ≡ blue
 third_of_three p red green blue bytes within =
-    let here : p + 2 < length (set (set bytes p red) (p + 1) green) = rw (length-set, length-set) (omega (arith, within)) in
+    let here : p + 2 < length (set (set bytes p red) (p + 1) green) =
+    rw (length-set, length-set) (omega (arith, within)) in
     get_or-set_same (set (set bytes p red) (p + 1) green) (p + 2) blue 0 here
 
 elsewhere : (p j red green blue : ℕ) (bytes : List ℕ) → (j ≢ p) × (j ≢ p + 1) × (j ≢ p + 2)
@@ -50,8 +43,11 @@ elsewhere p j red green blue bytes apart =
 -- a byte of another pixel lies elsewhere
 apart_by_three : (m n k j : ℕ) → n ≢ m → k < 3 → j ≡ 3 * n + k
     → (j ≢ 3 * m) × (j ≢ 3 * m + 1) × (j ≢ 3 * m + 2)
-apart_by_three m n k j apart few is =
-    (λ e. apart (omega (arith, e, few, is)), λ e. apart (omega (arith, e, few, is)), λ e. apart (omega (arith, e, few, is)))
+apart_by_three m n k j apart few is = (
+  λ e. apart (omega (arith, e, few, is)),
+  λ e. apart (omega (arith, e, few, is)),
+  λ e. apart (omega (arith, e, few, is)),
+)
 
 -- three bytes written where a pixel lies are that pixel's, and no other's
 pub sets_pixel : (width height px py red green blue : ℕ) (bytes : List ℕ)
@@ -75,11 +71,11 @@ sets_pixel width height px py red green blue bytes across below whole =
           (second_of_three p red green blue bytes within) (third_of_three p red green blue bytes within);
       others = λ qx qy q r differ.
           let apart : qy * width + qx ≢ py * width + px =
-          λ same. let both = one_pixel width px py qx qy across q same in differ both.0 both.1 in
+          λ same. let both = same_from_place qy qx py px width q across same in differ both.1 both.0 in
           let n = qy * width + qx in
-          let m = py * width + px in
+          let other : (j k : ℕ) → j ≡ place_of width qx qy + k → k < 3
+          → get_or (set (set (set bytes p red) (p + 1) green) (p + 2) blue) j 0 ≡ get_or bytes j 0 =
+          λ j k at few. elsewhere p j red green blue bytes (apart_by_three (py * width + px) n k j apart few at) in
           three _ _ _ _ _ _
-          (elsewhere p (place_of width qx qy) red green blue bytes (apart_by_three m n 0 _ apart (omega arith) (omega arith)))
-          (elsewhere p (place_of width qx qy + 1) red green blue bytes (apart_by_three m n 1 _ apart (omega arith) (omega arith)))
-          (elsewhere p (place_of width qx qy + 2) red green blue bytes (apart_by_three m n 2 _ apart (omega arith) (omega arith)));
+          (other _ 0 (omega arith) (omega arith)) (other _ 1 refl (omega arith)) (other _ 2 refl (omega arith));
     }

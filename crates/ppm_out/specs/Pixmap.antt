@@ -1,5 +1,5 @@
 -- An image as a pixel map: its size, and three bytes a pixel, rows from the top.
-use Rattle.std.specs.Prelude.{◌≡◌, ℕ, ◌+◌, ◌*◌, ◌<◌, ◌≤◌, List, [], ◌∷◌, length, slice_index}
+use Rattle.std.specs.Prelude.{◌≡◌, ℕ, ◌+◌, ◌*◌, ◌<◌, ◌≤◌, List, [], ◌∷◌, length, slice_index, slice_index_or}
 
 pub record Pixmap : Type 0 where
   pub width : ℕ
@@ -26,6 +26,16 @@ pixel image px py =
 abbrev pub Shows : Pixmap → (ℕ → ℕ → List ℕ) → Type 0
 Shows image colour =
     (px py : ℕ) → px < image.width → py < image.height → pixel image px py ≡ colour px py
+
+-- the pixels from the left of a row on have the colours, row after row, and nothing else is changed
+pub record SetsRows (old new : Pixmap) (from : ℕ) (colours : List (List ℕ)) : Type 0 where
+  pub width : new.width ≡ old.width
+  pub height : new.height ≡ old.height
+  pub above : (px py : ℕ) → px < old.width → py < from → pixel new px py ≡ pixel old px py
+  pub coloured : (px row : ℕ) → px < old.width → row * old.width + px < length colours
+      → pixel new px (from + row) ≡ slice_index_or colours (row * old.width + px) []
+  pub behind : (px row : ℕ) → px < old.width → from + row < old.height → length colours ≤ row * old.width + px
+      → pixel new px (from + row) ≡ pixel old px (from + row)
 
 -- one pixel has the colour, and nothing else is changed
 pub record SetsPixel (old new : Pixmap) (px py : ℕ) (colour : List ℕ) : Type 0 where

@@ -34,6 +34,22 @@ fn rows_come_from_the_top(rt: HostRuntime) -> Result<(), Fail> {
 }
 
 #[test]
+fn bands_of_rows(rt: HostRuntime) -> Result<(), Fail> {
+    let mut image = Image::new(rt.alloc(), 2, 4)?;
+    image.set_rows(0, &[BACKGROUND; 8]);
+    image.set_rows(1, &[[1, 2, 3], [4, 5, 6], [7, 8, 9], [0, 0, 1]]);
+    let above = (image.get(0, 0), image.get(1, 0));
+    assert_eq!(rt; above, (BACKGROUND, BACKGROUND));
+    let first = (image.get(0, 1), image.get(1, 1));
+    assert_eq!(rt; first, ([1, 2, 3], [4, 5, 6]));
+    let second = (image.get(0, 2), image.get(1, 2));
+    assert_eq!(rt; second, ([7, 8, 9], [0, 0, 1]));
+    let behind = (image.get(0, 3), image.get(1, 3));
+    assert_eq!(rt; behind, (BACKGROUND, BACKGROUND));
+    Ok(())
+}
+
+#[test]
 fn lengths_of_headers(rt: HostRuntime) {
     assert_eq!(rt; ppm_len(1, 1), 11 + 3);
     assert_eq!(rt; ppm_len(10, 100), 14 + 3 * 10 * 100);

@@ -9,6 +9,7 @@ invariant-loop-written g l =
     (l.written ≤ length l.bytes)
     × (g.S.Sink.written l.sink ≡ append_known (g.S.Sink.written l.fn.sink) (take l.written l.bytes))
     × Calm (g.S.Sink.faults l.fn.sink) (g.S.Sink.faults l.sink)
+    × (g.S.Sink.at_fault l.sink ≡ g.S.Sink.at_fault l.fn.sink)
 
 abbrev pub decreases-loop-written : goal.decreases-loop-written
 decreases-loop-written g l = length l.bytes - l.written

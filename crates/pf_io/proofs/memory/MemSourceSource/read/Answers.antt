@@ -20,10 +20,13 @@ returns-clause-bytes c =
     let bytes = c.self.inside.bytes.items in
     let n = c.reach-count.result in
     let most : c.min.result ≡ min (length c.args.into.now) (length (take (length bytes - place) (drop place bytes))) =
-    c.min.ensures ∙ ap (λ b. min (length c.args.into.now) (length (take (length b - place) (drop place b)))) c.deref.ensures.value in
+    c.min.ensures
+    ∙ ap (λ b. min (length c.args.into.now) (length (take (length b - place) (drop place b)))) c.deref.ensures.value in
     let size : length (take (length bytes - place) (drop place bytes)) ≡ length bytes - place =
     ap length (take_rest bytes place) ∙ length-drop place bytes in
-    let inside : place ≤ length bytes = let held = c.self.inside.bytes.ok.0 in let kept = c.self.invariant in grind (arith, held, kept) in
+    let held = c.self.inside.bytes.ok.0 in
+    let kept = c.self.invariant in
+    let inside : place ≤ length bytes = grind (arith, held, kept) in
     let bound : n ≤ c.min.result = c.reach-count.ensures.bound in
     let within : place + n ≤ length bytes = omega (arith, most, size, inside, bound) in
     let after = c.copy_from_slice.ensures.after

@@ -1,5 +1,0 @@
-use Rattle.std.proofs.Common.{◌≡◌, take}
-use Rattle.pf_model.proofs.graph.copied_gone.Given as goal
-
-abbrev pub invariant-loop-remains : goal.invariant-loop-remains
-invariant-loop-remains l = l.copied.items ≡ take l.remains-index l.gone

@@ -1,6 +1,0 @@
-use Rattle.std.proofs.Common.{◌≡◌, take}
-use Rattle.pf_model.specs.Extents.{above, told}
-use Rattle.pf_model.proofs.survey.above.Given as goal
-
-abbrev pub invariant-loop-child : goal.invariant-loop-child
-invariant-loop-child l = l.extent ≡ above l.target (told l.base l.nodes l.table) (take l.child-index l.children)

@@ -1,0 +1,5 @@
+pub mod Changes
+pub mod Effects
+pub mod Relinks
+pub mod Parents
+pub mod Tables

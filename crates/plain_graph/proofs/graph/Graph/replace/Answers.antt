@@ -1,0 +1,19 @@
+use Rattle.std.proofs.Common.{◌≡◌, OnOk, OnErr, length, rules}
+use Rattle.std.proofs.lemmas.List.{with_items_is}
+use Rattle.pf_model.specs.declared.edits.Edit.TheVariants as edit
+use Rattle.pf_model.specs.Graphs.{SceneGraph}
+use Rattle.pf_model.specs.Edits.{after}
+use Rattle.pf_model.proofs.EditLimits.{limits_kept}
+use Rattle.pf_model.proofs.LinkLimits.{limits_replace}
+use Rattle.plain_graph.proofs.graph.Graph.replace.Goals as goal
+
+pub invariant_of-self : goal.invariant_of-self
+invariant_of-self c =
+    let a = c.args in
+    let g : SceneGraph = record { nodes = c.self.inside.nodes.items; time = c.self.inside.time; next_serial = c.self.inside.next_serial; gone = c.self.inside.gone.items } in
+    let h : SceneGraph = record g { nodes = c.replace.new.nodes } in
+    let e = edit.Replace a.parent a.child a.by in
+    let len : length c.replace.new.nodes ≡ c.self.inside.nodes.len = search rules in
+    let done : OnOk c.replace.result (h ≡ after g e) = search rules in
+    let same : OnErr c.replace.result (h ≡ g) = search rules in
+    rw (with_items_is c.self.inside.nodes c.replace.new.nodes len) (limits_kept c.replace.result g h e c.self.invariant (limits_replace g a.parent a.child a.by c.self.invariant) done same)

@@ -1,0 +1,9 @@
+use Rattle.std.proofs.Common.{sym, [], ◌∷◌}
+use Rattle.pf_model.specs.Edits.{cycle, swap_rules}
+use Rattle.pf_model.proofs.Rules.{first_stops}
+use Rattle.plain_graph.proofs.links.fault_of_replace.Goals as goal
+
+pub returns-in-Some : goal.returns-in-Some
+returns-in-Some c =
+    let a = c.args in
+    sym (first_stops (swap_rules a.nodes.now a.parent a.child a.by) (cycle a.nodes.now a.parent a.by ∷ []) c.in-Some.fault c.in-Some.ensures)

@@ -1,0 +1,15 @@
+use Rattle.std.proofs.Common.{sym, ◌∙◌}
+use Rattle.pf_model.specs.Graphs.{node_at}
+use Rattle.pf_model.specs.NodeEdits.{with_children}
+use Rattle.pf_model.proofs.Places.{node_at_none, none_there}
+use Rattle.plain_graph.proofs.Changes.{change_here}
+use Rattle.plain_graph.proofs.links.give_children.Goals as goal
+
+pub unreachable-requires : goal.unreachable-requires
+unreachable-requires c =
+    none_there (node_at c.args.nodes.now c.args.parent) (node_at_none c.args.nodes.now c.args.parent (sym c.in-None.ensures)) c.requires
+
+pub returns-clause-after : goal.returns-clause-after
+returns-clause-after c =
+    c.swap_children.ensures.after
+    ∙ change_here (with_children c.args.children) c.args.parent c.args.nodes.now c.in-Some.place (sym c.in-Some.ensures)
