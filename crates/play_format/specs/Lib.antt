@@ -1,5 +1,4 @@
 -- To be believed: what a text spells, and what its first wrong line is.
-pub mod Constants
 pub mod Numbers
 pub mod Words
 pub mod Commands

@@ -11,9 +11,6 @@ use crate::reading::read_line;
 use crate::refusal::{ParseError, Refusal, Why};
 use crate::words::cut;
 
-/// The most bytes of a play.
-pub const MAX_PLAY_BYTES: usize = 16_777_216;
-
 /// The most lines of a play.
 const MAX_LINES: u32 = 262_144;
 

@@ -2,7 +2,7 @@ mod flight;
 
 use super::*;
 use fx_math::Vec3;
-use pf_model::{Edit, Kind};
+use pf_model::{AppLine, AppStep, BaseStep, Edit, Kind};
 use std::alloc::{AllocError, Global};
 use std::process::Abort;
 use std::test::Fail;

@@ -1,4 +1,4 @@
-use Rattle.std.proofs.Common.{◌≡◌, ◌++◌, sym, ◌∙◌, ap, List, ℕ, append_assoc, rules}
+use Rattle.std.proofs.Common.{◌≡◌, ◌++◌, ◌∙◌, ap, List, ℕ, append_assoc, rules}
 use Rattle.play_format.specs.Commands.{form_text}
 use Rattle.play_format.specs.Spelling.{edit_form, edit_numbers}
 use Rattle.play_format.specs.Texts.{numbers_text, tail_text}
