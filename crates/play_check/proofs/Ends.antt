@@ -1,6 +1,6 @@
 -- Where both callers stand, no order goes further.
 use Rattle.std.proofs.Common.{◌≡◌, ◌==◌, ℕ, zero, suc, false, ◌+◌, ◌<◌, ◌≤◌, inl, inr, List, [], ◌∷◌, ◌++◌, length, Option, None, refl, sym, ap, subst, arith}
-use Rattle.std.proofs.lemmas.List.{map-append}
+use Rattle.std.proofs.lemmas.List.{map-append, length-map}
 use Rattle.pf_model.specs.declared.lines.AppLine.{AppLine}
 use Rattle.pf_model.specs.declared.lines.BaseLine.{BaseLine}
 use Rattle.pf_history.specs.Asks.{asked_app, asked_dbase}
@@ -91,12 +91,10 @@ halted_stuck app dbase app_left dbase_left frames merges h some = which (length 
         inl (subst (λ (ms : List Mark). IsSomeBarred (CanPassWait app dbase) (pauses_of ms)) (sym h.app_parts) behind)
 
 pub app_length : (lines : List AppLine) → length (app_marks lines) ≡ length lines
-app_length [] = refl
-app_length (l ∷ ls) = ap suc (app_length ls)
+app_length lines = length-map lines _
 
 pub base_length : (lines : List BaseLine) → length (base_marks lines) ≡ length lines
-base_length [] = refl
-base_length (l ∷ ls) = ap suc (base_length ls)
+base_length lines = length-map lines _
 
 -- Where both callers wait, or one waits and the other is over, the play is stuck.
 pub waiting : WaitingLaw

@@ -29,7 +29,7 @@ use Rattle.play_format.specs.Spelling.{point_numbers, matrix_numbers, view_numbe
 use Rattle.play_format.specs.Written.{IsSquare, AreColours, channel, IsNew, IsWritten, IsAppStep, IsBaseStep, new_pose}
 use Rattle.play_format.proofs.SameLemmas.{same_tri, vector_is, affine_is}
 use Rattle.play_format.proofs.BackLemmas.{angle_back}
-use Rattle.play_format.specs.Constants.{origin_vector}
+use Rattle.fx_math.specs.Constants.{origin_vector}
 
 below_again : (bound n : ℕ) → n < bound → below bound (pos n) ≡ n
 below_again bound n h = rw (lt-ltb n bound h) refl

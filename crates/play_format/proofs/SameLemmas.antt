@@ -8,7 +8,7 @@ use Rattle.fx_math.specs.declared.matrices.Affine.{Affine}
 use Rattle.pf_model.specs.Three.{AreThree}
 use Rattle.pf_model.specs.declared.geometry.Tri.{Tri}
 use Rattle.play_format.specs.Making.{vector, vector_if, are_coordinates, coordinates, affine, affine_if, are_entries, is_row}
-use Rattle.play_format.specs.Constants.{origin_vector, identity_step}
+use Rattle.fx_math.specs.Constants.{origin_vector, identity_step}
 
 are_coordinates_once : (x y z : ℤ) → IsProp (AreCoordinates x y z)
 are_coordinates_once x y z = hlevel props

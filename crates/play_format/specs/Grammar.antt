@@ -81,7 +81,8 @@ at_line n (Err why) = Err (record { line = n; why = why })
 -- line number n: it may not be the 262,145th, nor have more than 1,024 bytes
 abbrev pub line_at : {A : Type 0} → ℕ → List ℕ → Result A Why → Result A Refusal
 line_at n line read =
-    at_line n (if nat_lt 262144 n then Err whys.Count else (if nat_lt 1024 (length line) then Err whys.Length else read))
+    at_line n (if nat_lt 262144 n then Err whys.Count
+    else (if nat_lt 1024 (length line) then Err whys.Length else read))
 
 -- what stands behind the last line feed: nothing, where the play may end there
 abbrev pub end_at : Bool → ℕ → List ℕ → Result (List Entry) Refusal

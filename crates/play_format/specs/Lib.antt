@@ -1,5 +1,4 @@
 -- To be believed: what a text spells, and what its first wrong line is.
-pub mod Constants
 pub mod Numbers
 pub mod Words
 pub mod Commands
@@ -10,8 +9,9 @@ pub mod Written
 pub mod Plays
 pub mod Reads
 pub mod Messages
--- States of the reader, of which no public clause speaks.
+-- States of the reader and the writer, of which no public clause speaks.
 pub mod Rests
 pub mod Making
+pub mod Texts
 pub mod Sections
 pub mod Outcomes

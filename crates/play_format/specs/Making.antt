@@ -4,7 +4,7 @@ use Rattle.std.proofs.lemmas.Bool.{leb-true}
 use Rattle.fx_math.specs.Within.{IsWithin, AreCoordinates, AreEntries, IsRow, entry, row_at}
 use Rattle.fx_math.specs.declared.vectors.Vec3.{Vec3}
 use Rattle.fx_math.specs.declared.matrices.Affine.{Affine}
-use Rattle.play_format.specs.Constants.{origin_vector, identity_step}
+use Rattle.fx_math.specs.Constants.{origin_vector, identity_step}
 use Rattle.pf_model.specs.Angles.{Viewpoint}
 use Rattle.pf_model.specs.declared.geometry.Tri.{Tri}
 use Rattle.pf_model.specs.declared.nodes.Kind.TheVariants as kind
@@ -134,7 +134,8 @@ angle_at zs k = let z = number zs k in if is_within 3600 z then z else pos 0
 
 -- where the eye stands, and its heading, pitch and roll
 abbrev pub view_at : List ℤ → ℕ → Viewpoint
-view_at zs k = record { eye = vector_at zs k; h = angle_at zs (k + 3); p = angle_at zs (k + 4); r = angle_at zs (k + 5) }
+view_at zs k =
+    record { eye = vector_at zs k; h = angle_at zs (k + 3); p = angle_at zs (k + 4); r = angle_at zs (k + 5) }
 
 abbrev pub colour_at : List ℤ → ℕ → List ℕ
 colour_at zs k = u8_at zs k ∷ u8_at zs (k + 1) ∷ u8_at zs (k + 2) ∷ []

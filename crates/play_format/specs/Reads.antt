@@ -31,7 +31,8 @@ dbase_entries true ls = (command.Dbase, []) ∷ base_entries ls
 -- all lines of a play behind the first
 abbrev pub entries_of : Layout → Script → List Entry
 entries_of layout p =
-    header_entries layout.says_channels p.lens p.back p.channels ++ (app_entries p.app ++ dbase_entries layout.has_dbase p.dbase)
+    header_entries layout.says_channels p.lens p.back p.channels
+    ++ (app_entries p.app ++ dbase_entries layout.has_dbase p.dbase)
 
 -- the number of the first line behind the header
 abbrev pub first_line : Bool → ℕ

@@ -143,6 +143,10 @@ edit_triangles (edit.Make id k) = kind_triangles k
 edit_triangles (edit.Verts id ts) = ts
 edit_triangles _ = []
 
+-- the text of an edit, without its triangle lines
+abbrev pub edit_text : Edit → List ℕ
+edit_text e = line_of (edit_entry e)
+
 -- Steps
 
 abbrev pub view_entry : ℕ → Viewpoint → Entry
@@ -207,5 +211,7 @@ channels_entries true n = (command.Channels, pos n ∷ []) ∷ []
 -- the lines of the header behind the first
 abbrev pub header_entries : Bool → Lens → List ℕ → ℕ → List Entry
 header_entries says lens back channels =
-    (command.Size, pos lens.w ∷ pos lens.h ∷ []) ∷ (command.Lens, pos lens.f ∷ lens.near ∷ lens.far ∷ []) ∷ (command.Back, map pos back)
+    (command.Size, pos lens.w ∷ pos lens.h ∷ [])
+    ∷ (command.Lens, pos lens.f ∷ lens.near ∷ lens.far ∷ [])
+    ∷ (command.Back, map pos back)
     ∷ (channels_entries says channels ++ (command.App, []) ∷ [])

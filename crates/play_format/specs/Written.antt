@@ -2,7 +2,7 @@
 use Rattle.std.specs.Prelude.{◌≡◌, ℕ, List, [], ◌∷◌, ℤ, slice_index_or, slice_index, pos}
 use Rattle.std.specs.List.{AllByRecursion}
 use Rattle.fx_math.specs.Within.{entry, row_at}
-use Rattle.play_format.specs.Constants.{origin_vector}
+use Rattle.fx_math.specs.Constants.{origin_vector}
 use Rattle.pf_model.specs.Angles.{EulerPose}
 use Rattle.pf_model.specs.declared.geometry.Tri.{Tri}
 use Rattle.pf_model.specs.declared.nodes.Kind.{Kind}

@@ -7,7 +7,7 @@ ghost use Rattle.pf_model.specs.declared.nodes.Kind.TheVariants as kind;
 ghost use Rattle.pf_model.specs.declared.nodes.Run.TheVariants as run;
 ghost use Rattle.pf_model.specs.declared.edits.Edit.TheVariants as edit;
 ghost use Rattle.play_format.specs.Written.{new_pose};
-ghost use Rattle.play_format.specs.Constants.{origin_vector};
+ghost use Rattle.fx_math.specs.Constants.{origin_vector};
 
 use crate::commands::Form;
 use crate::making::{affine_at, u8_at, u16_at, u32_at, vector_at};
@@ -139,7 +139,8 @@ fn set_translation(numbers: &[i32]) -> Edit
 }
 
 fn set_angles(numbers: &[i32]) -> Edit
-    ensures { result ≡ edit.Rot (u16_at numbers.now 0) (number numbers.now 1) (number numbers.now 2) (number numbers.now 3) }
+    ensures { result
+        ≡ edit.Rot (u16_at numbers.now 0) (number numbers.now 1) (number numbers.now 2) (number numbers.now 3) }
 {
     Edit::Rot {
         id: u16_at(numbers, 0),

@@ -12,10 +12,11 @@ ghost use Rattle.play_format.specs.declared.places.Place.TheVariants as place;
 use crate::commands::Command;
 use crate::making::{u8_at, u16_at};
 use crate::places::{Version, number};
-use crate::reader::{MAX_LINE_LEN, MAX_PLAY_BYTES, Reader};
+use crate::reader::{MAX_LINE_LEN, Reader};
 use crate::refusal::{ParseError, Refusal, Why};
 use crate::words::cut;
 use fx_math::Lens;
+use pf_io::MAX_PLAY_BYTES;
 
 /// Reads a line where a play may not end.
 fn line(reader: &mut Reader, numbers: &mut Vec<i32>) -> Result<Command, ParseError>

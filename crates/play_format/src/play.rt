@@ -49,8 +49,20 @@ impl Play {
         app: Vec<AppLine>,
         dbase: Vec<BaseLine>,
     ) -> Play
-        requires { IsPlay (record { lens = lens; back = back; channels = channels; app = app.items; dbase = dbase.items }) }
-        ensures { result ≡ record { lens = lens; back = back; channels = channels; app = app.items; dbase = dbase.items } }
+        requires { IsPlay (record {
+          lens = lens;
+          back = back;
+          channels = channels;
+          app = app.items;
+          dbase = dbase.items;
+        }) }
+        ensures { result ≡ record {
+          lens = lens;
+          back = back;
+          channels = channels;
+          app = app.items;
+          dbase = dbase.items;
+        } }
     {
         Play {
             lens,

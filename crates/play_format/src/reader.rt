@@ -11,9 +11,6 @@ use crate::reading::read_line;
 use crate::refusal::{ParseError, Refusal, Why};
 use crate::words::cut;
 
-/// The most bytes of a play.
-pub const MAX_PLAY_BYTES: usize = 16_777_216;
-
 /// The most lines of a play.
 const MAX_LINES: u32 = 262_144;
 
@@ -45,7 +42,7 @@ impl Reader<'_> {
     pub fn next(&mut self, numbers: &mut Vec<i32>) -> Result<Option<Command>, ParseError>
         ensures read { MatchResult result
             (λ found. MatchOption found
-            (unread self.old.spot self.old.line self.old.rest.now ≡ Ok [])
+            (unread_by self.old ≡ Ok [])
             (λ c. unread_by self.old ≡ with_front ((c, numbers.new.items) ∷ []) (unread_by self.new)))
             (λ e. Refuses e (unread_by self.old)) }
         ensures ends { IfOk result (λ found. IfNone found (IsTrue (may_end self.old.spot))) }

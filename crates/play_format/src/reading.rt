@@ -140,7 +140,9 @@ fn read_fields(
 #[tactic(auto, unfolding(crate::specs::Grammar::entry_at))]
 pub fn read_line(numbers: &mut Vec<i32>, spot: Spot, line: &[u8]) -> Result<Command, LineError>
     requires { IsSound spot }
-    ensures { MatchResult result (λ c. entry_at spot line.now ≡ Ok (c, numbers.new.items)) (λ e. Fails e (entry_at spot line.now)) }
+    ensures { MatchResult result
+        (λ c. entry_at spot line.now ≡ Ok (c, numbers.new.items))
+        (λ e. Fails e (entry_at spot line.now)) }
 {
     let (word, rest) = first_word(line);
     let Some(command) = named(spot, word) else {

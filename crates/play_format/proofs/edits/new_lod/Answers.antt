@@ -1,7 +1,7 @@
 use Rattle.std.proofs.Common.{refl, ◌∙◌, ap, ℕ, List}
 use Rattle.fx_math.specs.declared.vectors.Vec3.{Vec3}
 use Rattle.pf_model.specs.declared.nodes.Kind.TheVariants as kind
-use Rattle.play_format.specs.Constants.{origin_vector}
+use Rattle.fx_math.specs.Constants.{origin_vector}
 use Rattle.play_format.proofs.SameLemmas.{same_point}
 use Rattle.play_format.proofs.edits.new_lod.Goals as goal
 

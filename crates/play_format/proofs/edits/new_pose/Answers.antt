@@ -2,7 +2,7 @@ use Rattle.std.proofs.Common.{refl, ap, pos}
 use Rattle.fx_math.specs.declared.vectors.Vec3.{Vec3}
 use Rattle.pf_model.specs.declared.poses.Pose.TheVariants as pose
 use Rattle.play_format.proofs.SameLemmas.{same_point}
-use Rattle.play_format.specs.Constants.{origin_vector}
+use Rattle.fx_math.specs.Constants.{origin_vector}
 use Rattle.play_format.proofs.edits.new_pose.Goals as goal
 
 pub returns : goal.returns

@@ -1,5 +1,5 @@
 use Rattle.std.proofs.Common.{refl, sym, ◌∙◌}
-use Rattle.play_format.specs.Constants.{origin_vector, identity_step}
+use Rattle.fx_math.specs.Constants.{origin_vector, identity_step}
 use Rattle.play_format.proofs.SameLemmas.{same_point, same_affine, affine_none, affine_is}
 use Rattle.play_format.proofs.making.affine.Goals as goal
 

@@ -3,7 +3,7 @@ use Rattle.std.specs.Int.{w32}
 use Rattle.std.proofs.lemmas.Int.{to_z-of_z}
 use Rattle.fx_math.specs.Plain.{Point}
 use Rattle.play_format.proofs.SameLemmas.{same_point, vector_is, vector_none}
-use Rattle.play_format.specs.Constants.{origin_vector}
+use Rattle.fx_math.specs.Constants.{origin_vector}
 use Rattle.play_format.proofs.making.vector.Goals as goal
 
 pub returns-in_default : goal.returns-in_default

@@ -28,6 +28,6 @@ returns c =
     let read : LineRead a b c.in-Some.command c.next.new.numbers.items = record { told = e.read; fits = e.fits; spot = e.spot; line = e.line; shorter = e.shorter } in
     let same : base_step_of c.in-Some.command c.next.new.numbers.items c.in_ok-tris.tris.items ≡ Some c.in-Some-base_step_of.step =
     ap (λ (zs : List ℤ). base_step_of c.in-Some.command zs c.in_ok-tris.tris.items) (sym c.deref.ensures.value)
-    ∙ ap (λ (ts : List Tri). base_step_of c.in-Some.command c.deref.result.now ts) (sym c.in_ok-geom.ensures)
+    ∙ ap (λ (ts : List Tri). base_step_of c.in-Some.command c.deref.result.now ts) (sym c.in_ok-geom.ensures.tris)
     ∙ sym c.in-Some-base_step_of.ensures in
     base_step_read a b d c.in-Some.command c.next.new.numbers.items c.in_ok-tris.tris.items c.in-Some-base_step_of.step c.requires read c.in_ok-tris.ensures same
