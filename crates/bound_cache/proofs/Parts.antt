@@ -1,5 +1,5 @@
 -- The box of a node looks at its parts alone.
-use Rattle.std.proofs.Common.{◌≡◌, ℕ, zero, suc, ◌-◌, ◌<◌, ◌≤◌, Bool, true, false, cond, List, [], ◌∷◌, map, length, get_or, Option, Some, None, is_some, refl, sym, ◌∙◌, ap, subst, arith}
+use Rattle.std.proofs.Common.{◌≡◌, ℕ, zero, suc, ◌-◌, ◌<◌, Bool, true, false, cond, List, [], ◌∷◌, map, length, get_or, Option, Some, None, is_some, refl, sym, ◌∙◌, ap, subst, arith}
 use Rattle.std.specs.List.{AllByRecursion}
 use Rattle.std.specs.Option.{option_map_or, option_map}
 use Rattle.fx_math.specs.Plain.{Bounds}
@@ -7,11 +7,10 @@ use Rattle.fx_math.specs.Fixed.{carry_box}
 use Rattle.pf_model.specs.declared.geometry.Tri.{Tri}
 use Rattle.pf_model.specs.declared.nodes.Node.{Node}
 use Rattle.pf_model.specs.Kinds.{geom_of, is_geode, own_steps}
-use Rattle.pf_model.specs.Graphs.{Look, children_of, height_in}
+use Rattle.pf_model.specs.Graphs.{Look, children_of}
 use Rattle.pf_model.specs.Boxes.{box_in, box_of, box_step, box_from, box_of_tris, hull_of_all}
 use Rattle.pf_model.specs.Laws.{AreLow}
 use Rattle.pf_model.proofs.Levels.{all_map, map_agree, box_next, box_is_step, children_low, no_height}
-use Rattle.bound_cache.specs.Caches.{is_geode_at}
 use Rattle.bound_cache.specs.Tables.{parts, FitsLevels}
 
 pub parts_all : (P : ℕ → Type 0) (o : Option Node) → AllByRecursion P (option_map_or (λ n. n.children) o []) → AllByRecursion P (parts o)

@@ -1,11 +1,9 @@
 -- A visit goes through the parts of a node and then settles it.
-use Rattle.std.proofs.Common.{◌≡◌, ℕ, zero, ◌+◌, ◌-◌, ◌<◌, ◌≤◌, Bool, true, false, List, length, get_or, refl, sym, ◌∙◌, subst, arith}
+use Rattle.std.proofs.Common.{◌≡◌, ℕ, ◌+◌, ◌-◌, ◌<◌, ◌≤◌, true, List, length, get_or, refl, sym, ◌∙◌, subst, arith}
 use Rattle.std.specs.List.{AllByRecursion}
 use Rattle.pf_model.specs.Graphs.{Look}
 use Rattle.pf_model.specs.Laws.{AreLow}
-use Rattle.bound_cache.specs.declared.marks.Mark.{Mark}
-use Rattle.bound_cache.specs.Caches.{is_geode_at}
-use Rattle.bound_cache.specs.Tables.{TableState, is_seen, is_still, parts, settled, IsHalfway, StaysHalfway, MovesOn, Proceeds, FitsLevels, IsReached}
+use Rattle.bound_cache.specs.Tables.{TableState, is_seen, parts, settled, StaysHalfway, Proceeds, FitsLevels, IsReached}
 use Rattle.bound_cache.proofs.Parts.{parts_fit, some_level, all_at, all_from}
 use Rattle.bound_cache.proofs.Marking.{moves_same, moves_trans, moves_seen, moves_reached}
 use Rattle.bound_cache.proofs.Settling.{settled_right, settled_seen, settled_proceeds}
