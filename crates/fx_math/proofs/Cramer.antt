@@ -1,11 +1,14 @@
 -- Cramer's rule for the edge values, and what it says where a pixel is inside.
-use Rattle.std.proofs.Common.{◌≡◌, ◌≢◌, refl, ap, ◌∙◌, inl, inr, arith}
-use Rattle.std.specs.Prelude.{ℕ, ℤ, pos, ◌+ℤ◌, ◌*ℤ◌, ◌≤ℤ◌, ◌<ℤ◌, neg_ℤ, int_lt, int_le, IsTrue, Bool, true, false, ◌&&◌, ◌||◌, ◌⊎◌}
+use Rattle.std.proofs.Common.{◌≡◌, ◌≢◌, ap, ◌∙◌, inl, inr, arith}
+use Rattle.std.specs.Prelude.{ℕ, ℤ, pos, ◌+ℤ◌, ◌*ℤ◌, ◌≤ℤ◌, ◌<ℤ◌, neg_ℤ, int_lt, int_le, IsTrue, Bool, ◌&&◌, ◌⊎◌}
+use Rattle.std.proofs.lemmas.Bool.{or_cases, and_parts}
 use Rattle.std.proofs.lemmas.Int.{ints, by_lt_z}
 use lib.IntN.{*ℤ-zero, zero-*ℤ}
 use Rattle.fx_math.specs.Plain.{Point}
 use Rattle.fx_math.specs.declared.lenses.Lens.{Lens}
 use Rattle.fx_math.specs.Hit.{ray, det3, Edges, edges, sum_of, is_inside}
+use Rattle.fx_math.specs.Laws.{side, weighed, scaled}
+use Rattle.fx_math.proofs.Same.{point_same}
 use Rattle.fx_math.proofs.Ring.{expand, linear, order, times_lt, neg-mul}
 
 -- the edge values weigh the vertices to the multiple of the direction by the determinant of the vertices
@@ -21,6 +24,15 @@ pub cramer_z : (d u v w : Point) → det3 d v w *ℤ u.z +ℤ det3 u d w *ℤ v.
 unfolding det3
 cramer_z d u v w = simp expand (omega (arith, linear))
 
+pub cramer : (d u v w : Point) → weighed (edges d u v w) u v w ≡ scaled (det3 u v w) d
+unfolding edges
+cramer d u v w = point_same (scaled (det3 u v w) d) _ _ _ (cramer_x d u v w) (cramer_y d u v w) (cramer_z d u v w)
+
+-- the sum of the edge values is the determinant of the direction and two sides
+pub sum_parallel : (d u v w : Point) → sum_of (edges d u v w) ≡ det3 d (side u v) (side u w)
+unfolding det3 edges
+sum_parallel d u v w = simp expand (omega (arith, linear))
+
 -- the two ways to be inside: the determinant is above 0 and no edge value below it, or the other way round
 pub record IsFront (volume : ℤ) (e : Edges) : Type 0 where
   pub volume_above : pos 0 <ℤ volume
@@ -34,15 +46,12 @@ pub record IsBack (volume : ℤ) (e : Edges) : Type 0 where
   pub e1_below : e.e1 ≤ℤ pos 0
   pub e2_below : e.e2 ≤ℤ pos 0
 
-either : (a b : Bool) → IsTrue (a || b) → IsTrue a ⊎ IsTrue b
-either true b h = inl refl
-either false b h = inr h
-
 all_four : (a b c d : Bool) → IsTrue (a && (b && c && d)) → IsTrue a × IsTrue b × IsTrue c × IsTrue d
-all_four true true true d h = (refl, refl, refl, h)
-all_four true true false d h = cc
-all_four true false c d h = cc
-all_four false b c d h = cc
+all_four a b c d h =
+    let first = and_parts a (b && c && d) h in
+    let rest = and_parts (b && c) d first.1 in
+    let middle = and_parts b c rest.0 in
+    (first.0, middle.0, middle.1, rest.1)
 
 front : (volume : ℤ) (e : Edges) → IsTrue (int_lt (pos 0) volume && (int_le (pos 0) e.e0 && int_le (pos 0) e.e1 && int_le (pos 0) e.e2)) → IsFront volume e
 front volume e h =
@@ -56,7 +65,7 @@ back volume e h =
 
 pub inside_cases : (volume : ℤ) (e : Edges) → IsTrue (is_inside volume e) → IsFront volume e ⊎ IsBack volume e
 unfolding is_inside
-inside_cases volume e h = elim (either _ _ h) [ inl f ↦ inl (front volume e f) | inr b ↦ inr (back volume e b) ]
+inside_cases volume e h = elim (or_cases _ _ h) [ inl f ↦ inl (front volume e f) | inr b ↦ inr (back volume e b) ]
 
 -- where edge values that are not negative weigh some heights to a multiple above 0, one of them is above 0
 pub front_sum : (volume e0 e1 e2 a b c k : ℤ) → pos 0 <ℤ volume → pos 0 ≤ℤ e0 → pos 0 ≤ℤ e1 → pos 0 ≤ℤ e2 →

@@ -1,12 +1,13 @@
 -- Division rounded down: what the quotient is, and how it compares.
-use Rattle.std.proofs.Common.{ℕ, ◌≡◌, ◌≢◌, zero, suc, ◌<◌, refl, ap, sym, ◌∙◌, arith}
+use Rattle.std.proofs.Common.{ℕ, ◌≡◌, ◌≢◌, zero, suc, ◌<◌, refl, ap, sym, subst, ◌∙◌, arith}
 use Rattle.std.specs.Prelude.{ℤ, pos, negsuc, neg_ℤ, ◌+ℤ◌, ◌*ℤ◌, ◌≤ℤ◌, ◌<ℤ◌}
 use Rattle.std.proofs.lemmas.Int.{ints, by_lt_z}
 use Rattle.std.proofs.Math.Nat.{mul-div-le, lt-mul-div-succ, div-le_self, zero-div}
 use Rattle.fx_math.specs.Within.{IsWithin}
 use Rattle.fx_math.specs.Fixed.{floor_div}
+use Rattle.fx_math.specs.Laws.{IsFloor}
 use lib.Signed.{shr_z}
-use Rattle.fx_math.proofs.Ring.{order, times_le, mul-add, times_one}
+use Rattle.fx_math.proofs.Ring.{order, times_le, mul-add, neg-mul, times_one}
 
 -- the quotient times the divisor is at most the dividend
 pub floor_low : (n d : ℤ) → pos 0 <ℤ d → (d *ℤ floor_div n d) ≤ℤ n
@@ -76,6 +77,25 @@ floor_neg (negsuc n) (pos (suc d)) h = refl
 floor_neg (pos zero) (negsuc d) h = ap pos (zero-div (suc d))
 floor_neg (pos (suc n)) (negsuc d) h = refl
 floor_neg (negsuc n) (negsuc d) h = refl
+
+-- the quotient is the greatest whole number that is at most n / d
+pub floor_is_greatest : (n d : ℤ) → d ≢ pos 0 → IsFloor n d (floor_div n d)
+floor_is_greatest n (pos zero) h = absurd (h refl)
+floor_is_greatest n (pos (suc d)) h =
+    let some : pos 0 <ℤ pos (suc d) = omega (arith, ints) in
+    record {
+      at_most = floor_low n (pos (suc d)) some;
+      greatest = λ z e. floor_at_least n (pos (suc d)) z some e;
+    }
+floor_is_greatest n (negsuc d) h =
+    let some : pos 0 <ℤ pos (suc d) = omega (arith, ints) in
+    let turned : floor_div (neg_ℤ n) (pos (suc d)) ≡ floor_div n (negsuc d) = floor_neg n (negsuc d) h in
+    let P : ℤ → Type 0 = λ q. IsFloor n (negsuc d) q in
+    let q = floor_div (neg_ℤ n) (pos (suc d)) in
+    subst P turned (record {
+      at_most = omega (arith, order, floor_low (neg_ℤ n) (pos (suc d)) some, neg-mul (pos (suc d)) q);
+      greatest = λ z e. floor_at_least (neg_ℤ n) (pos (suc d)) z some (omega (arith, order, e, neg-mul (pos (suc d)) z));
+    })
 
 -- a shift by 16 places is the division by 65536
 pub floor_by_shift : (z : ℤ) → shr_z z 65536 ≡ floor_div z (pos 65536)

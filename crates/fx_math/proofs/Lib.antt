@@ -6,3 +6,4 @@ pub mod Size
 pub mod Surrounding
 pub mod Cramer
 pub mod Still
+pub mod Same

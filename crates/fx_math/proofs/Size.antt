@@ -1,6 +1,7 @@
 -- Bounds on magnitudes, which compose as terms: each sum, difference and product has the bound of its parts.
 use Rattle.std.proofs.Common.{◌≡◌, ℕ, ◌+◌, ◌*◌, ◌≤◌, ◌<◌, ◌^◌, subst, sym, arith}
-use Rattle.std.specs.Prelude.{ℤ, neg_ℤ, ◌+ℤ◌, ◌-ℤ◌, ◌*ℤ◌, unsigned_abs}
+use Rattle.std.specs.Prelude.{ℤ, neg_ℤ, ◌+ℤ◌, ◌-ℤ◌, ◌*ℤ◌}
+use Rattle.std.proofs.Math.Nat.{mul-le-mul}
 use Rattle.std.proofs.lemmas.Int.{ints, to_z-of_z, unsigned_abs-mul, fits_signed_from_abs}
 use Rattle.fx_math.specs.Within.{IsWithin}
 use mir.Syntax.{Width}
@@ -15,11 +16,10 @@ within_sub p q = record { size = omega (arith, ints, p.size, q.size) }
 pub within_neg : {m : ℕ} {a : ℤ} → IsWithin m a → IsWithin m (neg_ℤ a)
 within_neg p = record { size = omega (arith, ints, p.size) }
 
-mul-le : (a b m n : ℕ) → a ≤ m → b ≤ n → a * b ≤ m * n
-mul-le a b m n p q = grind (arith, p, q)
-
 pub within_mul : {m n : ℕ} {a b : ℤ} → IsWithin m a → IsWithin n b → IsWithin (m * n) (a *ℤ b)
-within_mul {m} {n} {a} {b} p q = record { size = subst (λ (k : ℕ). k ≤ m * n) (sym (unsigned_abs-mul a b)) (mul-le (unsigned_abs a) (unsigned_abs b) m n p.size q.size) }
+within_mul {m} {n} {a} {b} p q = record {
+  size = subst (λ (k : ℕ). k ≤ m * n) (sym (unsigned_abs-mul a b)) (mul-le-mul p.size q.size);
+}
 
 -- a greater bound holds too
 pub within_more : {m : ℕ} {a : ℤ} (n : ℕ) → IsWithin m a → m ≤ n → IsWithin n a

@@ -4,11 +4,10 @@ use Rattle.std.specs.Prelude.{ℤ, pos, ◌+ℤ◌, ◌*ℤ◌}
 use Rattle.std.proofs.lemmas.Int.{ints}
 use lib.IntN.{*ℤ_comm, *ℤ-zero, +ℤ_idr, +ℤ_idl}
 use Rattle.fx_math.specs.Within.{IsCoordinate, AreCoordinates}
-use Rattle.fx_math.specs.Plain.{Point, Matrix, point}
-use Rattle.fx_math.specs.Constants.{origin_vector, identity_step}
-use Rattle.fx_math.specs.Views.{point_of, matrix_of}
+use Rattle.fx_math.specs.Plain.{Point, Matrix}
 use Rattle.fx_math.specs.Fixed.{floor_div, clamp, moved, dot, apply, carry}
 use Rattle.fx_math.specs.Steps.{half_wave, sine, cosine, identity, origin, roll, pitch, heading, shift, view_steps}
+use Rattle.fx_math.proofs.Same.{point_same}
 use Rattle.fx_math.proofs.Floor.{floor_times}
 use Rattle.fx_math.proofs.Containment.{clamp_same}
 
@@ -28,9 +27,6 @@ second_alone a b c = simp (*ℤ-zero, +ℤ_idr, +ℤ_idl) (*ℤ_comm b (pos 6553
 
 third_alone : (a b c : ℤ) → a *ℤ pos 0 +ℤ b *ℤ pos 0 +ℤ c *ℤ pos 65536 ≡ pos 65536 *ℤ c
 third_alone a b c = simp (*ℤ-zero, +ℤ_idr, +ℤ_idl) (*ℤ_comm c (pos 65536))
-
-point_same : (p : Point) (x y z : ℤ) → x ≡ p.x → y ≡ p.y → z ≡ p.z → point x y z ≡ p
-point_same p x y z f g h = ap (λ (a : ℤ). point a y z) f ∙ ap (λ (a : ℤ). point p.x a z) g ∙ ap (λ (a : ℤ). point p.x p.y a) h
 
 pub apply-identity : (p : Point) → AreCoordinates p.x p.y p.z → apply identity p ≡ p
 unfolding apply dot
@@ -66,10 +62,3 @@ carry-view_of_zeros p h =
     ∙ ap (λ (q : Point). apply (roll (pos 0)) (apply (pitch (pos 0)) q)) (still (heading (pos 0)) p heading_zero h)
     ∙ ap (λ (q : Point). apply (roll (pos 0)) q) (still (pitch (pos 0)) p pitch_zero h)
     ∙ still (roll (pos 0)) p roll_zero h
-
--- the constants of the code
-pub point_of-origin_vector : point_of origin_vector ≡ origin
-point_of-origin_vector = refl
-
-pub matrix_of-identity_step : matrix_of identity_step ≡ identity
-matrix_of-identity_step = refl

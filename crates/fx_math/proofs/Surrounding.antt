@@ -1,15 +1,15 @@
--- The hull of a list of points contains each of them.
+-- The hull of a list of points contains each of them, and lies in each box that does.
 use Rattle.std.proofs.Common.{◌≡◌, map, List, [], ◌∷◌, sym, subst, arith}
 use Rattle.std.specs.Prelude.{Option, Some, None, fold, All, IfSome}
 use Rattle.std.specs.Option.{option_map}
 use Rattle.std.proofs.lemmas.Int.{ints}
-use Rattle.std.proofs.lemmas.List.Elements.{All-nil, All-cons}
+use Rattle.std.proofs.lemmas.List.Elements.{All-nil, All-cons, All-head, All-tail}
 use Rattle.fx_math.specs.declared.vectors.Vec3.{Vec3}
 use Rattle.fx_math.specs.declared.boxes.Box3.{Box3}
 use Rattle.fx_math.specs.Plain.{Point, Bounds, IsInside, Holds}
 use Rattle.fx_math.specs.Views.{point_of, bounds_of}
 use Rattle.fx_math.specs.Fixed.{hull, hull_of, box_at}
-use Rattle.fx_math.proofs.Containment.{hull-first, hull-second, inside_same, inside_trans, inside_holds}
+use Rattle.fx_math.proofs.Containment.{hull-first, hull-second, hull-least, inside_same, inside_trans, inside_holds}
 
 pub box_at-holds : (p : Point) → Holds (box_at p) p
 box_at-holds p = record {
@@ -56,3 +56,28 @@ points_in b (v ∷ vs) e =
 pub hull_of-holds : (vs : List Vec3) (r : Option Box3) → option_map bounds_of r ≡ hull_of (map point_of vs) → IfSome r (λ b. All (λ v. Holds (bounds_of b) (point_of v)) vs)
 hull_of-holds vs None e = tt
 hull_of-holds vs (Some b) e = points_in (bounds_of b) vs e
+
+-- ---- the least box
+box_at-inside : (c : Bounds) (p : Point) → Holds c p → IsInside (box_at p) c
+box_at-inside c p h = record { x_low = h.x_low; x_high = h.x_high; y_low = h.y_low; y_high = h.y_high; z_low = h.z_low; z_high = h.z_high }
+
+fold-least : (c a : Bounds) (vs : List Vec3) → IsInside a c → All (λ v. Holds c (point_of v)) vs →
+    IsInside (fold hull a (map box_at (map point_of vs))) c
+fold-least c a [] h all = h
+fold-least c a (v ∷ vs) h all =
+    let P : Vec3 → Type 0 = λ w. Holds c (point_of w) in
+    let here = box_at-inside c (point_of v) (All-head P v vs all) in
+    fold-least c (hull a (box_at (point_of v))) vs (hull-least a (box_at (point_of v)) c h here) (All-tail P v vs all)
+
+least_of : (b c : Bounds) (vs : List Vec3) → Some b ≡ hull_of (map point_of vs) → All (λ v. Holds c (point_of v)) vs → IsInside b c
+least_of b c [] e all = cc
+least_of b c (v ∷ vs) e all =
+    let P : Vec3 → Type 0 = λ w. Holds c (point_of w) in
+    let is : b ≡ fold hull (box_at (point_of v)) (map box_at (map point_of vs)) = cc in
+    subst (λ (a : Bounds). IsInside a c) (sym is)
+    (fold-least c (box_at (point_of v)) vs (box_at-inside c (point_of v) (All-head P v vs all)) (All-tail P v vs all))
+
+pub hull_of-least : (vs : List Vec3) (r : Option Box3) → option_map bounds_of r ≡ hull_of (map point_of vs) →
+    IfSome r (λ b. (c : Bounds) → All (λ v. Holds c (point_of v)) vs → IsInside (bounds_of b) c)
+hull_of-least vs None e = tt
+hull_of-least vs (Some b) e = λ c all. least_of (bounds_of b) c vs e all

@@ -1,15 +1,20 @@
 -- The values of the code's constants, for specifications that have to name them.
 use Rattle.std.specs.Prelude.{[], ◌∷◌, pos}
 use Rattle.std.proofs.Common.{lit≤}
-use Rattle.fx_math.specs.Within.{IsWithin}
+use Rattle.fx_math.specs.Within.{IsCoordinate, IsEntry}
 use Rattle.fx_math.specs.declared.vectors.Vec3.{Vec3}
 use Rattle.fx_math.specs.declared.matrices.Affine.{Affine}
 
 -- `Vec3::ORIGIN`
 abbrev pub origin_vector : Vec3
-origin_vector = record { x = pos 0; y = pos 0; z = pos 0; in_range = record { x_within = none; y_within = none; z_within = none } }
+origin_vector = record {
+  x = pos 0;
+  y = pos 0;
+  z = pos 0;
+  in_range = record { x_within = none; y_within = none; z_within = none };
+}
   where
-    none : IsWithin 1073741823 (pos 0)
+    none : IsCoordinate (pos 0)
     none = record { size = lit≤ tt }
 
 -- `Affine::IDENTITY`
@@ -24,8 +29,8 @@ identity_step = record {
   };
 }
   where
-    none : IsWithin 1048576 (pos 0)
+    none : IsEntry (pos 0)
     none = record { size = lit≤ tt }
 
-    one : IsWithin 1048576 (pos 65536)
+    one : IsEntry (pos 65536)
     one = record { size = lit≤ tt }

@@ -1,6 +1,7 @@
 -- Points and boxes under affine steps, in fixed point: each step rounds down and clamps.
-use Rattle.std.specs.Prelude.{zero, suc, ◌/◌, List, [], ◌∷◌, map, fold, Option, ℤ, pos, negsuc, ◌+ℤ◌, ◌*ℤ◌, Some, None}
+use Rattle.std.specs.Prelude.{zero, suc, ◌/◌, List, [], ◌∷◌, map, fold, Option, ℤ, pos, negsuc, neg_ℤ, ◌+ℤ◌, ◌*ℤ◌, Some, None}
 use Rattle.std.specs.Int.{int_min, int_max}
+use Rattle.fx_math.specs.Limits.{coordinate_limit}
 use Rattle.fx_math.specs.Plain.{Point, Matrix, Bounds, point}
 
 -- the greatest whole number that is not above n / d, for a divisor that is not 0
@@ -13,7 +14,7 @@ floor_div (negsuc n) (negsuc d) = pos (suc n / suc d)
 
 -- the coordinate nearest to z
 unfoldable pub clamp : ℤ → ℤ
-clamp z = int_max (negsuc 1073741822) (int_min z (pos 1073741823))
+clamp z = int_max (neg_ℤ (pos coordinate_limit)) (int_min z (pos coordinate_limit))
 
 -- A coordinate after a step: the sum of the products, in 1/65536, rounded down, and then the translation, clamped.
 unfoldable pub moved : ℤ → ℤ → ℤ
@@ -33,11 +34,13 @@ apply m p = point
 -- the least and the greatest scalar product of (a, b, c) with a point of the box
 unfoldable pub least_dot : Bounds → ℤ → ℤ → ℤ → ℤ
 least_dot box a b c =
-    int_min (box.lo.x *ℤ a) (box.hi.x *ℤ a) +ℤ int_min (box.lo.y *ℤ b) (box.hi.y *ℤ b) +ℤ int_min (box.lo.z *ℤ c) (box.hi.z *ℤ c)
+    int_min (box.lo.x *ℤ a) (box.hi.x *ℤ a) +ℤ int_min (box.lo.y *ℤ b) (box.hi.y *ℤ b)
+    +ℤ int_min (box.lo.z *ℤ c) (box.hi.z *ℤ c)
 
 unfoldable pub greatest_dot : Bounds → ℤ → ℤ → ℤ → ℤ
 greatest_dot box a b c =
-    int_max (box.lo.x *ℤ a) (box.hi.x *ℤ a) +ℤ int_max (box.lo.y *ℤ b) (box.hi.y *ℤ b) +ℤ int_max (box.lo.z *ℤ c) (box.hi.z *ℤ c)
+    int_max (box.lo.x *ℤ a) (box.hi.x *ℤ a) +ℤ int_max (box.lo.y *ℤ b) (box.hi.y *ℤ b)
+    +ℤ int_max (box.lo.z *ℤ c) (box.hi.z *ℤ c)
 
 -- a box around all points of a box after a step
 unfoldable pub apply_box : Matrix → Bounds → Bounds

@@ -1,3 +1,4 @@
+pub mod Limits
 pub mod Constants
 pub mod Within
 pub mod Plain
@@ -5,3 +6,4 @@ pub mod Views
 pub mod Fixed
 pub mod Steps
 pub mod Hit
+pub mod Laws

@@ -1,5 +1,6 @@
 -- The ranges of the fixed-point types. They speak of numbers alone, so that the types' ghost fields can cite them.
 use Rattle.std.specs.Prelude.{ℕ, ◌≤◌, List, [], ℤ, pos, ◌≤ℤ◌, unsigned_abs, slice_index_or}
+use Rattle.fx_math.specs.Limits.{coordinate_limit, entry_limit, size_limit, focus_limit, row_limit}
 
 -- z has a magnitude of at most m
 pub record IsWithin (m : ℕ) (z : ℤ) : Type 0 where
@@ -7,11 +8,11 @@ pub record IsWithin (m : ℕ) (z : ℤ) : Type 0 where
 
 -- a coordinate: a whole number of 1/4096 unit
 abbrev pub IsCoordinate : ℤ → Type 0
-IsCoordinate z = IsWithin 1073741823 z
+IsCoordinate z = IsWithin coordinate_limit z
 
 -- an entry of a linear matrix: a whole number of 1/65536
 abbrev pub IsEntry : ℤ → Type 0
-IsEntry z = IsWithin 1048576 z
+IsEntry z = IsWithin entry_limit z
 
 -- the three coordinates of a point
 pub record AreCoordinates (x y z : ℤ) : Type 0 where
@@ -42,17 +43,17 @@ pub record AreEntries (a : List (List ℤ)) : Type 0 where
 -- the size of a picture, its focal length in pixels, and the depths between which it shows anything
 pub record IsLens (w h f : ℕ) (near far : ℤ) : Type 0 where
   pub some_width : 1 ≤ w
-  pub most_width : w ≤ 1024
+  pub most_width : w ≤ size_limit
   pub some_height : 1 ≤ h
-  pub most_height : h ≤ 1024
+  pub most_height : h ≤ size_limit
   pub some_focus : 1 ≤ f
-  pub most_focus : f ≤ 65535
+  pub most_focus : f ≤ focus_limit
   pub before_eye : pos 1 ≤ℤ near
   pub ordered : near ≤ℤ far
-  pub most_far : far ≤ℤ pos 1073741823
+  pub most_far : far ≤ℤ pos coordinate_limit
 
--- three numbers of magnitude at most 2^31, as `det` takes them
+-- three numbers, as `det` takes them
 pub record AreSmall (row : List ℤ) : Type 0 where
-  pub first : IsWithin 2147483648 (entry row 0)
-  pub second : IsWithin 2147483648 (entry row 1)
-  pub third : IsWithin 2147483648 (entry row 2)
+  pub first : IsWithin row_limit (entry row 0)
+  pub second : IsWithin row_limit (entry row 1)
+  pub third : IsWithin row_limit (entry row 2)

@@ -2,7 +2,7 @@
 ghost use Rattle.std.specs.Prelude.{◌≡◌, map, All, IfSome, IsSome, ◌↔◌, ◌≢◌, []};
 ghost use Rattle.std.specs.Int.{int_min, int_max};
 ghost use Rattle.fx_math.specs.Within.{IsCoordinate};
-ghost use Rattle.fx_math.specs.Plain.{Holds, IsInside, point};
+ghost use Rattle.fx_math.specs.Plain.{Bounds, Holds, IsInside, point};
 ghost use Rattle.fx_math.specs.Views.{point_of, bounds_of};
 ghost use Rattle.fx_math.specs.Fixed.{box_at, hull, hull_of, hull_with};
 ghost use Rattle.std.specs.Option.{option_map};
@@ -16,6 +16,8 @@ pub fn hull(a: &Box3, b: &Box3) -> Box3
     ensures value { bounds_of result ≡ hull (bounds_of a.now) (bounds_of b.now) }
     ensures holds_first { IsInside (bounds_of a.now) (bounds_of result) }
     ensures holds_second { IsInside (bounds_of b.now) (bounds_of result) }
+    ensures least { (c : Bounds) → IsInside (bounds_of a.now) c → IsInside (bounds_of b.now) c
+        → IsInside (bounds_of result) c }
 {
     Box3 {
         lo: lower_corner(a.lo, b.lo),
@@ -66,6 +68,8 @@ pub fn hull_of(vs: &[Vec3]) -> Option<Box3>
     ensures value { option_map bounds_of result ≡ hull_of (map point_of vs.now) }
     ensures some { IsSome result ↔ (vs.now ≢ []) }
     ensures holds { IfSome result (λ b. All (λ v. Holds (bounds_of b) (point_of v)) vs.now) }
+    ensures least { IfSome result (λ b. (c : Bounds) → All (λ v. Holds c (point_of v)) vs.now
+        → IsInside (bounds_of b) c) }
 {
     let mut around = None;
     for v in vs {

@@ -1,5 +1,6 @@
 //! What a picture shows: its size, its focal length and its depths.
 ghost use Rattle.std.specs.Prelude.{◌≡◌, ◌↔◌, ◌≤◌, ◌≤ℤ◌, pos, IsSome, IfSome, IsTrue};
+ghost use Rattle.fx_math.specs.Limits.{size_limit, coordinate_limit};
 ghost use Rattle.fx_math.specs.Within.{IsLens};
 
 use crate::vectors::MAX_COORDINATE;
@@ -39,13 +40,13 @@ impl Lens {
 }
 
 fn is_size(n: u16) -> bool
-    ensures { IsTrue result ↔ (1 ≤ n) × (n ≤ 1024) }
+    ensures { IsTrue result ↔ (1 ≤ n) × (n ≤ size_limit) }
 {
     n >= 1 && n <= MAX_SIZE
 }
 
 fn are_depths(near: i32, far: i32) -> bool
-    ensures { IsTrue result ↔ (pos 1 ≤ℤ near) × (near ≤ℤ far) × (far ≤ℤ pos 1073741823) }
+    ensures { IsTrue result ↔ (pos 1 ≤ℤ near) × (near ≤ℤ far) × (far ≤ℤ pos coordinate_limit) }
 {
     near >= 1 && near <= far && far <= MAX_COORDINATE
 }

@@ -4,15 +4,16 @@
 //! tenth of a degree. Points are row vectors; X is right, Y forward and Z up.
 #![tactic(auto)]
 
-pub mod angles;
-pub mod boxes;
-pub mod exact;
-pub mod hulls;
-pub mod lenses;
-pub mod matrices;
-pub mod moves;
-pub mod steps;
-pub mod vectors;
+mod angles;
+mod boxes;
+mod exact;
+mod hulls;
+pub mod laws;
+mod lenses;
+mod matrices;
+mod moves;
+mod steps;
+mod vectors;
 
 pub use angles::{cosine, sine};
 pub use boxes::Box3;

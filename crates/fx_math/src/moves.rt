@@ -4,11 +4,11 @@
 //! The shift by 16 places is the division by 65536 rounded down.
 ghost use Rattle.std.specs.Prelude.{◌≡◌, pos, ◌*ℤ◌, ◌+ℤ◌};
 ghost use Rattle.std.specs.Int.{int_min, int_max};
+ghost use Rattle.fx_math.specs.Limits.{product_limit, dot_limit};
 ghost use Rattle.fx_math.specs.Within.{IsWithin, IsCoordinate, IsEntry};
 ghost use Rattle.fx_math.specs.Plain.{Point, Bounds, point, IsBox, IsInside, Holds};
 ghost use Rattle.fx_math.specs.Views.{point_of, matrix_of, bounds_of};
-ghost use Rattle.fx_math.specs.Steps.{origin, view_steps};
-ghost use Rattle.fx_math.specs.Fixed.{apply, apply_box, carry, clamp, floor_div, moved, dot, least_dot, greatest_dot};
+ghost use Rattle.fx_math.specs.Fixed.{apply, apply_box, clamp, floor_div, moved, dot, least_dot, greatest_dot};
 
 use crate::boxes::Box3;
 use crate::matrices::Affine;
@@ -22,9 +22,6 @@ const LEAST: i64 = -1_073_741_823;
 /// translation, and is clamped to the coordinates' range.
 pub fn apply(m: &Affine, v: Vec3) -> Vec3
     ensures value { point_of result ≡ apply (matrix_of m.now) (point_of v) }
-
-    // the steps of a view of zeros leave the point as it is
-    ensures view_of_zeros { carry (view_steps origin (pos 0) (pos 0) (pos 0)) (point_of v) ≡ point_of v }
 {
     let [p, q, r] = m.a;
     moved_point(
@@ -39,17 +36,17 @@ fn product(z: i32, a: i32) -> i64
     requires z { IsCoordinate z }
     requires a { IsEntry a }
     ensures value { result ≡ z *ℤ a }
-    ensures bound { IsWithin 1125899905794048 result }
+    ensures bound { IsWithin product_limit result }
 {
     i64::from(z) * i64::from(a)
 }
 
 fn sum(x: i64, y: i64, z: i64) -> i64
-    requires x { IsWithin 1125899905794048 x }
-    requires y { IsWithin 1125899905794048 y }
-    requires z { IsWithin 1125899905794048 z }
+    requires x { IsWithin product_limit x }
+    requires y { IsWithin product_limit y }
+    requires z { IsWithin product_limit z }
     ensures value { result ≡ x +ℤ y +ℤ z }
-    ensures bound { IsWithin 3377699717382144 result }
+    ensures bound { IsWithin dot_limit result }
 {
     x + y + z
 }
@@ -59,13 +56,13 @@ fn dot(v: Vec3, a: i32, b: i32, c: i32) -> i64
     requires b { IsEntry b }
     requires c { IsEntry c }
     ensures value { result ≡ dot (point_of v) a b c }
-    ensures bound { IsWithin 3377699717382144 result }
+    ensures bound { IsWithin dot_limit result }
 {
     sum(product(v.x, a), product(v.y, b), product(v.z, c))
 }
 
 fn moved(sum: i64, t: i32) -> i32
-    requires sum { IsWithin 3377699717382144 sum }
+    requires sum { IsWithin dot_limit sum }
     requires t { IsCoordinate t }
     ensures value { result ≡ moved sum t }
     ensures bound { IsCoordinate result }
@@ -74,9 +71,9 @@ fn moved(sum: i64, t: i32) -> i32
 }
 
 fn moved_point(x: i64, y: i64, z: i64, t: Vec3) -> Vec3
-    requires x { IsWithin 3377699717382144 x }
-    requires y { IsWithin 3377699717382144 y }
-    requires z { IsWithin 3377699717382144 z }
+    requires x { IsWithin dot_limit x }
+    requires y { IsWithin dot_limit y }
+    requires z { IsWithin dot_limit z }
     ensures { point_of result ≡ point (moved x t.x) (moved y t.y) (moved z t.z) }
 {
     Vec3 {
@@ -87,9 +84,9 @@ fn moved_point(x: i64, y: i64, z: i64, t: Vec3) -> Vec3
 }
 
 fn whole(sum: i64) -> i64
-    requires { IsWithin 3377699717382144 sum }
+    requires { IsWithin dot_limit sum }
     ensures value { result ≡ floor_div sum (pos 65536) }
-    ensures bound { IsWithin 3377699717382144 result }
+    ensures bound { IsWithin dot_limit result }
 {
     sum >> 16
 }
@@ -115,8 +112,8 @@ fn product_ends(low: i32, high: i32, a: i32) -> Ends
     requires a { IsEntry a }
     ensures least { result.least ≡ int_min (low *ℤ a) (high *ℤ a) }
     ensures greatest { result.greatest ≡ int_max (low *ℤ a) (high *ℤ a) }
-    ensures least_bound { IsWithin 1125899905794048 result.least }
-    ensures greatest_bound { IsWithin 1125899905794048 result.greatest }
+    ensures least_bound { IsWithin product_limit result.least }
+    ensures greatest_bound { IsWithin product_limit result.greatest }
 {
     let first = product(low, a);
     let second = product(high, a);
@@ -132,8 +129,8 @@ fn sum_ends(b: &Box3, p: i32, q: i32, r: i32) -> Ends
     requires r { IsEntry r }
     ensures least { result.least ≡ least_dot (bounds_of b.now) p q r }
     ensures greatest { result.greatest ≡ greatest_dot (bounds_of b.now) p q r }
-    ensures least_bound { IsWithin 3377699717382144 result.least }
-    ensures greatest_bound { IsWithin 3377699717382144 result.greatest }
+    ensures least_bound { IsWithin dot_limit result.least }
+    ensures greatest_bound { IsWithin dot_limit result.greatest }
 {
     let x = product_ends(b.lo.x, b.hi.x, p);
     let y = product_ends(b.lo.y, b.hi.y, q);
@@ -152,7 +149,8 @@ pub fn apply_box(m: &Affine, b: &Box3) -> Box3
     ensures holds { (p : Point) → Holds (bounds_of b.now) p → Holds (bounds_of result) (apply (matrix_of m.now) p) }
 
     // a part of the box is moved into the result
-    ensures keeps_parts { (part : Bounds) → IsBox part → IsInside part (bounds_of b.now) → IsInside (apply_box (matrix_of m.now) part) (bounds_of result) }
+    ensures keeps_parts { (part : Bounds) → IsBox part → IsInside part (bounds_of b.now)
+        → IsInside (apply_box (matrix_of m.now) part) (bounds_of result) }
 {
     let [p, q, r] = m.a;
     let x = sum_ends(b, p[0], q[0], r[0]);

@@ -1,9 +1,8 @@
 //! The steps of a pose and of a view, as affine matrices.
-ghost use Rattle.std.specs.Prelude.{◌≡◌, pos};
-ghost use Rattle.fx_math.specs.Within.{IsWithin, AreCoordinates};
-ghost use Rattle.fx_math.specs.Plain.{Point};
+ghost use Rattle.std.specs.Prelude.{◌≡◌};
+ghost use Rattle.fx_math.specs.Limits.{whole_turn};
+ghost use Rattle.fx_math.specs.Within.{IsWithin, IsEntry};
 ghost use Rattle.fx_math.specs.Views.{point_of, matrix_of};
-ghost use Rattle.fx_math.specs.Fixed.{apply};
 ghost use Rattle.fx_math.specs.Steps.{scaling, roll, pitch, heading, shift};
 
 use crate::angles::{cosine, sine};
@@ -13,7 +12,7 @@ use crate::vectors::Vec3;
 /// The scaling by `s / 65536`.
 #[tactic(auto, unfolding(crate::specs::Steps::scaling))]
 pub fn scaling(s: i32) -> Affine
-    requires { IsWithin 1048576 s }
+    requires { IsEntry s }
     ensures { matrix_of result ≡ scaling s }
 {
     Affine {
@@ -25,7 +24,7 @@ pub fn scaling(s: i32) -> Affine
 /// The roll by `x` tenths of a degree, about Y.
 #[tactic(auto, unfolding(crate::specs::Steps::roll))]
 pub fn roll(x: i32) -> Affine
-    requires { IsWithin 3600 x }
+    requires { IsWithin whole_turn x }
     ensures value { matrix_of result ≡ roll x }
 {
     let s = sine(x);
@@ -39,7 +38,7 @@ pub fn roll(x: i32) -> Affine
 /// The pitch by `x` tenths of a degree, about X.
 #[tactic(auto, unfolding(crate::specs::Steps::pitch))]
 pub fn pitch(x: i32) -> Affine
-    requires { IsWithin 3600 x }
+    requires { IsWithin whole_turn x }
     ensures value { matrix_of result ≡ pitch x }
 {
     let s = sine(x);
@@ -53,7 +52,7 @@ pub fn pitch(x: i32) -> Affine
 /// The turn by a heading of `x` tenths of a degree, about Z.
 #[tactic(auto, unfolding(crate::specs::Steps::heading))]
 pub fn heading(x: i32) -> Affine
-    requires { IsWithin 3600 x }
+    requires { IsWithin whole_turn x }
     ensures value { matrix_of result ≡ heading x }
 {
     let s = sine(x);

@@ -1,6 +1,7 @@
 -- Culling is safe: no pixel is hit by a triangle in a box that is outside, and a part of such a box is outside.
 use Rattle.std.proofs.Common.{◌≡◌, ◌≢◌, ℕ, ◌*◌, ◌<◌, refl, ap, sym, subst, ◌∙◌, inl, inr, arith}
-use Rattle.std.specs.Prelude.{ℤ, pos, neg_ℤ, ◌-ℤ◌, ◌*ℤ◌, ◌≤ℤ◌, ◌<ℤ◌, Bool, true, false, ◌||◌, ◌&&◌, IsTrue, int_lt, int_le, ◌⊎◌}
+use Rattle.std.specs.Prelude.{ℤ, pos, neg_ℤ, ◌-ℤ◌, ◌*ℤ◌, ◌≤ℤ◌, ◌<ℤ◌, ◌||◌, IsTrue, int_lt, int_le, ◌⊎◌}
+use Rattle.std.proofs.lemmas.Bool.{or_cases, or_left, or_right, and_parts, false_from_ne_true}
 use Rattle.std.proofs.lemmas.Int.{ints, by_lt_z}
 use lib.IntN.{*ℤ_comm, *ℤ-zero}
 use Rattle.fx_math.specs.declared.lenses.Lens.{Lens}
@@ -13,38 +14,18 @@ use Rattle.fx_math.proofs.Cramer.{ray_forward, inside_cases, inside_sum}
 use Rattle.pf_bounds.specs.Outside.{is_off_depth, is_beside, is_outside, HitsNothing, PartsAreOutside}
 use Rattle.pf_bounds.proofs.Weights.{IsMet, front_met, back_met}
 
-either : (a b : Bool) → IsTrue (a || b) → IsTrue a ⊎ IsTrue b
-either true b h = inl refl
-either false b h = inr h
-
-both : (a b : Bool) → IsTrue (a && b) → IsTrue a × IsTrue b
-both true b h = (refl, h)
-both false b h = cc
-
-not_true : (a : Bool) → (IsTrue a → ⊥) → a ≡ false
-not_true true h = absurd (h refl)
-not_true false h = refl
-
-first_or : (a b : Bool) → IsTrue a → IsTrue (a || b)
-first_or true b h = refl
-first_or false b h = cc
-
-second_or : (a b : Bool) → IsTrue b → IsTrue (a || b)
-second_or true b h = refl
-second_or false b h = h
-
 -- two orders, as a test and as a fact
 either_below : (a b c d : ℤ) → IsTrue (int_lt a b || int_lt c d) → (a <ℤ b) ⊎ (c <ℤ d)
-either_below a b c d h = elim (either (int_lt a b) (int_lt c d) h) [ inl f ↦ inl (omega (arith, ints, f)) | inr f ↦ inr (omega (arith, ints, f)) ]
+either_below a b c d h = elim (or_cases (int_lt a b) (int_lt c d) h) [ inl f ↦ inl (omega (arith, ints, f)) | inr f ↦ inr (omega (arith, ints, f)) ]
 
 below_true : (a b : ℤ) → a <ℤ b → IsTrue (int_lt a b)
 below_true a b h = grind (arith, ints)
 
 first_below : (a b c d : ℤ) → a <ℤ b → IsTrue (int_lt a b || int_lt c d)
-first_below a b c d h = first_or (int_lt a b) (int_lt c d) (below_true a b h)
+first_below a b c d h = or_left (int_lt a b) (int_lt c d) (below_true a b h)
 
 second_below : (a b c d : ℤ) → c <ℤ d → IsTrue (int_lt a b || int_lt c d)
-second_below a b c d h = second_or (int_lt a b) (int_lt c d) (below_true c d h)
+second_below a b c d h = or_right (int_lt a b) (int_lt c d) (below_true c d h)
 
 -- where a direction of at most m meets a range from `low` at a depth of at most h, the range does not begin beyond
 side : (sum volume k low d m h : ℤ) → pos 0 <ℤ sum → pos 0 <ℤ volume → pos 0 <ℤ k → pos 0 ≤ℤ m →
@@ -108,7 +89,7 @@ not_off_depth : (lens : Lens) (b : Bounds) (volume sum : ℤ) → pos 0 <ℤ sum
     IsTrue (is_in_depth lens (floor_div (pos (2 * lens.f) *ℤ volume) sum)) → IsTrue (is_off_depth lens b) → ⊥
 unfolding is_off_depth is_in_depth
 not_off_depth lens b volume sum s low high deep h =
-    let within = both (int_le lens.near (floor_div (pos (2 * lens.f) *ℤ volume) sum)) (int_le (floor_div (pos (2 * lens.f) *ℤ volume) sum) lens.far) deep in
+    let within = and_parts (int_le lens.near (floor_div (pos (2 * lens.f) *ℤ volume) sum)) (int_le (floor_div (pos (2 * lens.f) *ℤ volume) sum) lens.far) deep in
     let turned : pos (2 * lens.f) *ℤ volume ≡ volume *ℤ pos (2 * lens.f) = *ℤ_comm (pos (2 * lens.f)) volume in
     let most : floor_div (pos (2 * lens.f) *ℤ volume) sum ≤ℤ b.hi.y = floor_at_most (pos (2 * lens.f) *ℤ volume) sum b.hi.y s (omega (arith, order, turned, high)) in
     let least : b.lo.y ≤ℤ floor_div (pos (2 * lens.f) *ℤ volume) sum = floor_at_least (pos (2 * lens.f) *ℤ volume) sum b.lo.y s (omega (arith, order, turned, low)) in
@@ -125,8 +106,8 @@ met_inside lens b d volume sum met through deep h =
     let forward : volume *ℤ d.y ≡ volume *ℤ pos (2 * lens.f) = ap (λ (z : ℤ). volume *ℤ z) through.forward in
     let low : (sum *ℤ b.lo.y) ≤ℤ (volume *ℤ pos (2 * lens.f)) = omega (arith, order, met.y_low, forward) in
     let high : (volume *ℤ pos (2 * lens.f)) ≤ℤ (sum *ℤ b.hi.y) = omega (arith, order, met.y_high, forward) in
-    elim (either (is_off_depth lens b || is_beside lens.f lens.w b.lo.x b.hi.x b.hi.y) (is_beside lens.f lens.h b.lo.z b.hi.z b.hi.y) h) [
-      | inl first ↦ elim (either (is_off_depth lens b) (is_beside lens.f lens.w b.lo.x b.hi.x b.hi.y) first) [
+    elim (or_cases (is_off_depth lens b || is_beside lens.f lens.w b.lo.x b.hi.x b.hi.y) (is_beside lens.f lens.h b.lo.z b.hi.z b.hi.y) h) [
+      | inl first ↦ elim (or_cases (is_off_depth lens b) (is_beside lens.f lens.w b.lo.x b.hi.x b.hi.y) first) [
         | inl off ↦ not_off_depth lens b volume sum met.sum_above low high deep off
         | inr beside ↦ not_beside lens.f lens.w b.lo.x b.hi.x b.hi.y sum volume d.x (omega arith) (omega arith) met.sum_above met.volume_above
             met.x_low met.x_high through.right through.left high beside
@@ -141,7 +122,7 @@ hit_inside : (lens : Lens) (b : Bounds) (u v w : Point) (px py : ℕ) → Holds 
 unfolding is_hit depth_of
 hit_inside lens b u v w px py hu hv hw column row hit h =
     let d = ray lens px py in
-    let parts = both (is_inside (det3 u v w) (edges (ray lens px py) u v w)) (is_in_depth lens (depth_of lens (det3 u v w) (edges (ray lens px py) u v w))) hit in
+    let parts = and_parts (is_inside (det3 u v w) (edges (ray lens px py) u v w)) (is_in_depth lens (depth_of lens (det3 u v w) (edges (ray lens px py) u v w))) hit in
     let through = ray_through lens px py column row in
     elim (inside_cases (det3 u v w) (edges d u v w) parts.0) [
       | inl front ↦ met_inside lens b d (det3 u v w) (sum_of (edges d u v w)) (front_met b u v w d hu hv hw (ray_forward lens px py) front) through parts.1 h
@@ -159,7 +140,7 @@ hit_inside lens b u v w px py hu hv hw column row hit h =
 
 pub outside_hidden : (lens : Lens) (b : Bounds) → IsTrue (is_outside lens b) → HitsNothing lens b
 outside_hidden lens b h u v w hu hv hw px py column row =
-    not_true (is_hit lens px py u v w) (λ hit. hit_inside lens b u v w px py hu hv hw column row hit h)
+    false_from_ne_true (is_hit lens px py u v w) (λ hit. hit_inside lens b u v w px py hu hv hw column row hit h)
 
 -- ---- parts
 part_beside : (focus size : ℕ) (low high depth low' high' depth' : ℤ) → 0 < size → low ≤ℤ low' → high' ≤ℤ high → depth' ≤ℤ depth →
@@ -192,10 +173,10 @@ outside_parts lens b h part inside =
     let off = is_off_depth lens part in
     let wide = is_beside lens.f lens.w part.lo.x part.hi.x part.hi.y in
     let high = is_beside lens.f lens.h part.lo.z part.hi.z part.hi.y in
-    elim (either (is_off_depth lens b || is_beside lens.f lens.w b.lo.x b.hi.x b.hi.y) (is_beside lens.f lens.h b.lo.z b.hi.z b.hi.y) h) [
-      | inl first ↦ first_or (off || wide) high (elim (either (is_off_depth lens b) (is_beside lens.f lens.w b.lo.x b.hi.x b.hi.y) first) [
-        | inl apart ↦ first_or off wide (part_off_depth lens b part inside apart)
-        | inr beside ↦ second_or off wide (part_beside lens.f lens.w b.lo.x b.hi.x b.hi.y part.lo.x part.hi.x part.hi.y (omega arith) inside.x_low inside.x_high inside.y_high beside)
+    elim (or_cases (is_off_depth lens b || is_beside lens.f lens.w b.lo.x b.hi.x b.hi.y) (is_beside lens.f lens.h b.lo.z b.hi.z b.hi.y) h) [
+      | inl first ↦ or_left (off || wide) high (elim (or_cases (is_off_depth lens b) (is_beside lens.f lens.w b.lo.x b.hi.x b.hi.y) first) [
+        | inl apart ↦ or_left off wide (part_off_depth lens b part inside apart)
+        | inr beside ↦ or_right off wide (part_beside lens.f lens.w b.lo.x b.hi.x b.hi.y part.lo.x part.hi.x part.hi.y (omega arith) inside.x_low inside.x_high inside.y_high beside)
       ])
-      | inr beside ↦ second_or (off || wide) high (part_beside lens.f lens.h b.lo.z b.hi.z b.hi.y part.lo.z part.hi.z part.hi.y (omega arith) inside.z_low inside.z_high inside.y_high beside)
+      | inr beside ↦ or_right (off || wide) high (part_beside lens.f lens.h b.lo.z b.hi.z b.hi.y part.lo.z part.hi.z part.hi.y (omega arith) inside.z_low inside.z_high inside.y_high beside)
     ]

@@ -3,7 +3,8 @@
 //! The products of a coordinate below 2^30 with twice a focal length below 2^17, or with a picture's size, fit i64.
 #![tactic(auto)]
 
-ghost use Rattle.std.specs.Prelude.{◌≡◌, ◌≤◌, ℕ, ◌*◌, pos, neg_ℤ, ◌*ℤ◌, ◌-ℤ◌, IsTrue};
+ghost use Rattle.std.specs.Prelude.{◌≡◌, ◌≤◌, ◌*◌, ◌^◌, pos, neg_ℤ, ◌*ℤ◌, IsTrue};
+ghost use Rattle.fx_math.specs.Limits.{coordinate_limit};
 ghost use Rattle.fx_math.specs.Within.{IsWithin, IsCoordinate};
 ghost use Rattle.fx_math.specs.Views.{bounds_of};
 ghost use Rattle.pf_bounds.specs.Outside.{is_off_depth, is_beside, is_outside, HitsNothing, PartsAreOutside};
@@ -55,18 +56,18 @@ fn beside(focus: u16, size: u16, low: i32, high: i32, depth: i32) -> bool
 }
 
 fn scaled(n: u32, z: i32) -> i64
-    requires n { n ≤ 131072 }
+    requires n { n ≤ 2 ^ 17 }
     requires z { IsCoordinate z }
     ensures value { result ≡ pos n *ℤ z }
-    ensures bound { IsWithin 140737488224256 result }
+    ensures bound { IsWithin (2 ^ 17 * coordinate_limit) result }
 {
     i64::from(n) * i64::from(z)
 }
 
 fn opposite(z: i64) -> i64
-    requires { IsWithin 140737488224256 z }
+    requires { IsWithin (2 ^ 17 * coordinate_limit) z }
     ensures value { result ≡ neg_ℤ z }
-    ensures bound { IsWithin 140737488224256 result }
+    ensures bound { IsWithin (2 ^ 17 * coordinate_limit) result }
 {
     -z
 }

@@ -5,11 +5,17 @@ use Rattle.pf_history.specs.declared.commands.Command.{Command}
 use Rattle.pf_history.specs.declared.commands.Command.TheVariants as command
 use Rattle.pf_history.specs.declared.commands.Entry.{Entry}
 use Rattle.pf_history.specs.Objects.{FrameState, opening_state, next_state}
-use Rattle.pf_history.specs.Logs.{Log, state_after, IsLegalFrom, CanMake, is_frame, is_merge, how_many}
-use Rattle.pf_history.specs.Laws.{CountsLaw}
+use Rattle.pf_history.specs.Commands.{is_frame, is_merge}
+use Rattle.pf_history.specs.Logs.{Log, state_after, state_of, IsLegalFrom, CanMake, how_many}
+use Rattle.pf_history.specs.Laws.{CountsLaw, NeverFallLaw}
+use Rattle.pf_history.proofs.Folds.{state_append, legal_rest}
 
 abbrev pub one : Bool → ℕ
 one t = cond t 1 0
+
+pub one_most : (t : Bool) → one t ≤ 1
+one_most true = omega arith
+one_most false = omega arith
 
 pub frames_next : (s : FrameState) (c : Command) → (next_state s c).frames ≡ s.frames + one (is_frame c)
 frames_next s (command.Edit e) = omega arith
@@ -48,19 +54,6 @@ merges_after s (e ∷ es) =
     let more = how_many_step is_merge e es in
     omega (arith, rest, now, more)
 
--- no log has more commands that pass a test than entries
-pub how_many_most : (test : Command → Bool) (log : Log) → how_many test log ≤ length log
-how_many_most test [] = omega arith
-how_many_most test (e ∷ es) =
-    let rest = how_many_most test es in
-    let step = how_many_step test e es in
-    let most = one_most (test e.1.command) in
-    omega (arith, rest, step, most)
-  where
-    one_most : (t : Bool) → one t ≤ 1
-    one_most true = omega arith
-    one_most false = omega arith
-
 retired_next : (s : FrameState) (c : Command) → CanMake s c → s.retired ≤ s.frames → (next_state s c).retired ≤ (next_state s c).frames
 retired_next s (command.Edit e) can l = l
 retired_next s (command.Merge m) can l = l
@@ -71,6 +64,29 @@ retired_next s command.Frame can l = omega (arith, l)
 pub retired_after : (s : FrameState) (log : Log) → IsLegalFrom s log → s.retired ≤ s.frames → (state_after s log).retired ≤ (state_after s log).frames
 retired_after s [] legal l = l
 retired_after s (e ∷ es) legal l = retired_after (next_state s e.1.command) es legal.1 (retired_next s e.1.command legal.0.sync l)
+
+retired_grows : (s : FrameState) (c : Command) → CanMake s c → s.retired ≤ (next_state s c).retired
+retired_grows s (command.Edit e) can = omega arith
+retired_grows s (command.Merge m) can = omega arith
+retired_grows s (command.View channel v) can = omega arith
+retired_grows s (command.Sync r) can = can.0
+retired_grows s command.Frame can = omega arith
+
+retired_later : (s : FrameState) (log : Log) → IsLegalFrom s log → s.retired ≤ (state_after s log).retired
+retired_later s [] legal = omega arith
+retired_later s (e ∷ es) legal =
+    let one = retired_grows s e.1.command legal.0.sync in
+    let rest = retired_later (next_state s e.1.command) es legal.1 in
+    omega (arith, one, rest)
+
+pub never_fall_law : NeverFallLaw
+never_fall_law channels log more =
+    let longer = state_append (opening_state channels) log more in
+    record {
+      frames = rw longer (let f = frames_after (state_of channels log) more in omega (arith, f));
+      merges = rw longer (let m = merges_after (state_of channels log) more in omega (arith, m));
+      retired = λ legal. rw longer (retired_later (state_of channels log) more (legal_rest (opening_state channels) log more legal));
+    }
 
 pub counts_law : CountsLaw
 counts_law channels log =

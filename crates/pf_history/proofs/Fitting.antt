@@ -1,48 +1,18 @@
 -- Turns and asks: the relation that the stages keep says that a history fits a play.
-use Rattle.std.proofs.Common.{◌≡◌, ℕ, suc, ◌≤◌, Bool, true, false, cond, List, [], ◌∷◌, ◌++◌, map, length, drop, refl, sym, ◌∙◌, ap, subst, arith}
-use Rattle.std.specs.List.{AllByRecursion, filter, zip}
+use Rattle.std.proofs.Common.{◌≡◌, ℕ, suc, ◌≤◌, List, [], ◌∷◌, ◌++◌, map, length, drop, refl, sym, ◌∙◌, ap, subst, arith}
+use Rattle.std.proofs.Math.Seq.{drop-length}
+use Rattle.std.specs.List.{AllByRecursion, zip}
 use Rattle.pf_model.specs.declared.lines.AppLine.{AppLine}
 use Rattle.pf_model.specs.declared.lines.BaseLine.{BaseLine}
-use Rattle.pf_history.specs.declared.commands.Caller.{Caller}
 use Rattle.pf_history.specs.declared.commands.Caller.TheVariants.{App, Dbase}
 use Rattle.pf_history.specs.declared.commands.Command.{Command}
 use Rattle.pf_history.specs.declared.commands.Command.TheVariants as command
-use Rattle.pf_history.specs.declared.commands.Entry.{Entry}
-use Rattle.pf_history.specs.Objects.{FrameState, opening_state, next_state}
-use Rattle.pf_history.specs.Logs.{Log, state_after, is_by, own}
-use Rattle.pf_history.specs.Asks.{Wanted, WantEdit, WantView, WantSync, WantFrame, WantClose, Ask, BaseAsk, asked_app, asked_dbase, Turn, turns_from, Meets, Follows, FollowsBase}
+use Rattle.pf_history.specs.Objects.{FrameState, opening_state}
+use Rattle.pf_history.specs.Logs.{Log}
+use Rattle.pf_history.specs.Asks.{Wanted, WantEdit, WantView, WantSync, WantFrame, WantClose, Ask, BaseAsk, asked_app, asked_dbase, Turn, Meets, Follows, FollowsBase}
 use Rattle.pf_history.specs.Fits.{turns_of, Fills, IsFrontOfApp, IsFrontOfDbase, HasWaited, HasAwaited, LeavesRoom, Closes, FindsRoom, FitsPlay, FollowsPlay}
-use Rattle.pf_history.specs.Laws.{FitLaw}
-
--- Turns
-
-pub turns_append : (test : ℕ × Entry → Bool) (s : FrameState) (xs ys : Log) → turns_from test s (xs ++ ys) ≡ turns_from test s xs ++ turns_from test (state_after s xs) ys
-turns_append test s [] ys = refl
-turns_append test s (x ∷ xs) ys = by (test x) (turns_append test (next_state s x.1.command) xs ys)
-  where
-    by : (t : Bool) → turns_from test (next_state s x.1.command) (xs ++ ys) ≡ turns_from test (next_state s x.1.command) xs ++ turns_from test (state_after (next_state s x.1.command) xs) ys →
-        cond t (record { found = s; made = x.1.command } ∷ turns_from test (next_state s x.1.command) (xs ++ ys)) (turns_from test (next_state s x.1.command) (xs ++ ys))
-        ≡ cond t (record { found = s; made = x.1.command } ∷ turns_from test (next_state s x.1.command) xs) (turns_from test (next_state s x.1.command) xs) ++ turns_from test (state_after (next_state s x.1.command) xs) ys
-    by true rest = ap (λ ts. record { found = s; made = x.1.command } ∷ ts) rest
-    by false rest = rest
-
--- entries that do not pass the test make no turns
-pub turns_none : (test : ℕ × Entry → Bool) (s : FrameState) (xs : Log) → AllByRecursion (λ e. test e ≡ false) xs → turns_from test s xs ≡ []
-turns_none test s [] none = refl
-turns_none test s (x ∷ xs) none =
-    ap (λ t. cond t (record { found = s; made = x.1.command } ∷ turns_from test (next_state s x.1.command) xs) (turns_from test (next_state s x.1.command) xs)) none.0
-    ∙ turns_none test (next_state s x.1.command) xs none.1
-
--- the commands of the turns are the own ones
-pub turns_own : (caller : Caller) (s : FrameState) (log : Log) → map (λ t. t.made) (turns_from (is_by caller) s log) ≡ own caller log
-turns_own caller s [] = refl
-turns_own caller s (x ∷ xs) = by (is_by caller x) (turns_own caller (next_state s x.1.command) xs)
-  where
-    by : (t : Bool) → map (λ t. t.made) (turns_from (is_by caller) (next_state s x.1.command) xs) ≡ own caller xs →
-        map (λ t. t.made) (cond t (record { found = s; made = x.1.command } ∷ turns_from (is_by caller) (next_state s x.1.command) xs) (turns_from (is_by caller) (next_state s x.1.command) xs))
-        ≡ map (λ e. e.1.command) (cond t (x ∷ filter (is_by caller) xs) (filter (is_by caller) xs))
-    by true rest = ap (λ cs. x.1.command ∷ cs) rest
-    by false rest = rest
+use Rattle.pf_history.specs.FitLaws.{left_of_app, left_of_dbase, FitLaw}
+use Rattle.pf_history.proofs.Turns.{turns_own}
 
 -- Follows
 
@@ -160,10 +130,6 @@ base_whole (a ∷ asks) [] h = absurd (cc)
 base_whole [] (t ∷ ts) h = absurd h
 base_whole (a ∷ asks) (t ∷ ts) h = ap suc (base_whole asks ts h.2)
 
-drop_all : {X : Type 0} (xs : List X) → drop (length xs) xs ≡ []
-drop_all [] = refl
-drop_all (x ∷ xs) = drop_all xs
-
 fits_of : (channels ahead : ℕ) (app : List AppLine) (dbase : List BaseLine) (log : Log) (left_app : List Ask) (left_dbase : List BaseAsk) → FollowsPlay channels ahead app dbase log left_app left_dbase → FitsPlay channels ahead app dbase log
 fits_of channels ahead app dbase log left_app left_dbase h =
     let a = app_parts ahead (length (asked_dbase dbase)) (asked_app app) (turns_of channels App log) left_app h.follows_app in
@@ -178,7 +144,7 @@ fits_of channels ahead app dbase log left_app left_dbase h =
       frames_find_room = a.finds;
     }
 
-follows_of : (channels ahead : ℕ) (app : List AppLine) (dbase : List BaseLine) (log : Log) → FitsPlay channels ahead app dbase log → FollowsPlay channels ahead app dbase log (drop (length (own App log)) (asked_app app)) (drop (length (own Dbase log)) (asked_dbase dbase))
+follows_of : (channels ahead : ℕ) (app : List AppLine) (dbase : List BaseLine) (log : Log) → FitsPlay channels ahead app dbase log → FollowsPlay channels ahead app dbase log (left_of_app app log) (left_of_dbase dbase log)
 follows_of channels ahead app dbase log h =
     let own_app = turns_own App (opening_state channels) log in
     let own_dbase = turns_own Dbase (opening_state channels) log in
@@ -206,7 +172,7 @@ fit_law channels ahead app dbase log =
       follows_wholly = λ h.
           let f = follows_of channels ahead app dbase log h.fits in
           record {
-            follows_app = subst (λ (left : List Ask). Follows ahead (length (asked_dbase dbase)) (asked_app app) (turns_of channels App log) left) (ap (λ n. drop n (asked_app app)) h.whole_app ∙ drop_all (asked_app app)) f.follows_app;
-            follows_dbase = subst (λ (left : List BaseAsk). FollowsBase (asked_dbase dbase) (turns_of channels Dbase log) left) (ap (λ n. drop n (asked_dbase dbase)) h.whole_dbase ∙ drop_all (asked_dbase dbase)) f.follows_dbase;
+            follows_app = subst (λ (left : List Ask). Follows ahead (length (asked_dbase dbase)) (asked_app app) (turns_of channels App log) left) (ap (λ n. drop n (asked_app app)) h.whole_app ∙ drop-length (asked_app app)) f.follows_app;
+            follows_dbase = subst (λ (left : List BaseAsk). FollowsBase (asked_dbase dbase) (turns_of channels Dbase log) left) (ap (λ n. drop n (asked_dbase dbase)) h.whole_dbase ∙ drop-length (asked_dbase dbase)) f.follows_dbase;
           };
     }

@@ -1,19 +1,22 @@
 -- The state after a log, entry by entry.
-use Rattle.std.proofs.Common.{◌≡◌, ℕ, ◌+◌, ◌≤◌, Bool, true, false, cond, not, nat_le, List, [], ◌∷◌, ◌++◌, map, is_some, refl, ◌∙◌, arith}
-use Rattle.std.specs.List.{AllByRecursion, fold, filter}
+use Rattle.std.proofs.Common.{◌≡◌, ℕ, zero, suc, ◌+◌, ◌≤◌, Bool, true, false, cond, not, nat_le, List, [], ◌∷◌, ◌++◌, map, take, is_some, slice_get, Some, refl, ◌∙◌, subst, arith}
+use Rattle.std.proofs.lemmas.Option.{same_Some}
+use Rattle.std.specs.List.{AllByRecursion, fold}
 use Rattle.pf_model.specs.declared.edits.Edit.{Edit}
 use Rattle.pf_model.specs.declared.edits.Edit.TheVariants as edit
 use Rattle.pf_model.specs.declared.nodes.Gone.{Gone}
 use Rattle.pf_model.specs.Graphs.{SceneGraph}
 use Rattle.pf_model.specs.Edits.{fault_of, effect, after}
 use Rattle.pf_model.specs.Merges.{merge_fault, after_all}
-use Rattle.pf_model.specs.Copies.{GraveState, is_due}
+use Rattle.pf_model.specs.Copies.{GraveState, is_due, grave_of}
+use Rattle.pf_model.proofs.Levels.{all_map}
 use Rattle.pf_history.specs.declared.commands.Command.{Command}
 use Rattle.pf_history.specs.declared.commands.Command.TheVariants as command
 use Rattle.pf_history.specs.declared.commands.Entry.{Entry}
-use Rattle.pf_history.specs.Objects.{FrameState, opening_state, next_state, grave_of}
-use Rattle.pf_history.specs.Logs.{Log, state_after, state_of, CanMake, IsLegalEntry, IsLegalFrom, entry_of}
-use Rattle.pf_history.specs.Laws.{OwnEntryLaw, PreparationLaw, GravesLaw}
+use Rattle.pf_history.specs.Objects.{FrameState, opening_state, next_state}
+use Rattle.pf_history.specs.Logs.{Log, state_after, state_of, state_at, CanMake, IsLegalEntry, IsLegalFrom, entry_of}
+use Rattle.pf_history.specs.Laws.{OwnEntryLaw, IsOwnThere, LegalEntryLaw, PreparationLaw, GravesLaw}
+use Rattle.pf_history.proofs.Lists.{all_append, all_filter}
 
 pub state_append : (s : FrameState) (xs ys : Log) → state_after s (xs ++ ys) ≡ state_after (state_after s xs) ys
 state_append s [] ys = refl
@@ -25,6 +28,27 @@ state_push s xs e = state_append s xs (e ∷ [])
 pub legal_push : (s : FrameState) (xs : Log) (e : ℕ × Entry) → IsLegalFrom s xs → IsLegalEntry (state_after s xs) e.1 → IsLegalFrom s (xs ++ e ∷ [])
 legal_push s [] e legal this = (this, tt)
 legal_push s (x ∷ xs) e legal this = (legal.0, legal_push (next_state s x.1.command) xs e legal.1 this)
+
+-- a front of a legal log is legal, and so is the rest from the state behind it
+pub legal_front : (s : FrameState) (xs ys : Log) → IsLegalFrom s (xs ++ ys) → IsLegalFrom s xs
+legal_front s [] ys legal = tt
+legal_front s (x ∷ xs) ys legal = (legal.0, legal_front (next_state s x.1.command) xs ys legal.1)
+
+pub legal_rest : (s : FrameState) (xs ys : Log) → IsLegalFrom s (xs ++ ys) → IsLegalFrom (state_after s xs) ys
+legal_rest s [] ys legal = legal
+legal_rest s (x ∷ xs) ys legal = legal_rest (next_state s x.1.command) xs ys legal.1
+
+pub legal_at : (s : FrameState) (log : Log) (j : ℕ) (e : ℕ × Entry) → IsLegalFrom s log → slice_get log j ≡ Some e → IsLegalEntry (state_after s (take j log)) e.1
+legal_at s [] j e legal at = absurd (cc)
+legal_at s (d ∷ log) zero e legal at = subst (λ (x : ℕ × Entry). IsLegalEntry s x.1) (same_Some d e at) legal.0
+legal_at s (d ∷ log) (suc j) e legal at = legal_at (next_state s d.1.command) log j e legal.1 at
+
+own_there : (channels : ℕ) (log : Log) (j : ℕ) (e : Entry) → IsLegalEntry (state_at channels log j) e → IsOwnThere channels log j e
+own_there channels log j e legal =
+    record { own = λ i. record { caller = legal.caller i; command = e.command; reply = legal.reply i }; can = legal.sync }
+
+pub legal_entry_law : LegalEntryLaw
+legal_entry_law channels log j e legal at = own_there channels log j e.1 (legal_at (opening_state channels) log j e legal at)
 
 pub own_entry_legal : (s : FrameState) (c : Command) → CanMake s c → IsLegalEntry s (entry_of s c)
 own_entry_legal s c can = record { reply = refl; sync = can; caller = refl }
@@ -46,22 +70,8 @@ kept_after P step s (e ∷ es) h = kept_after P step (next_state s e.1.command) 
 
 pub effect_time : (g : SceneGraph) (e : Edit) → (effect g e).time ≡ g.time
 effect_time g (edit.Make id kind) = refl
-effect_time g (edit.Add parent child) = refl
-effect_time g (edit.Insert parent place child) = refl
-effect_time g (edit.Replace parent child by) = refl
-effect_time g (edit.Remove parent child) = refl
 effect_time g (edit.Delete id) = refl
-effect_time g (edit.Pick id pick) = refl
-effect_time g (edit.Mat id mat) = refl
-effect_time g (edit.Trans id t) = refl
-effect_time g (edit.Rot id h p r) = refl
-effect_time g (edit.Scale id s) = refl
-effect_time g (edit.Range id place value) = refl
-effect_time g (edit.Centre id at) = refl
-effect_time g (edit.Times id place frames) = refl
-effect_time g (edit.Run id) = refl
-effect_time g (edit.Stop id) = refl
-effect_time g (edit.Verts id geom) = refl
+effect_time g e = refl
 
 pub after_time : (g : SceneGraph) (e : Edit) → (after g e).time ≡ g.time
 after_time g e = by (is_some (fault_of g e))
@@ -96,22 +106,6 @@ preparation_law channels log = kept_after IsPreparing preparing_next (opening_st
 
 -- Graves
 
-pub all_append : {X : Type 0} (P : X → Type 0) (xs ys : List X) → AllByRecursion P xs → AllByRecursion P ys → AllByRecursion P (xs ++ ys)
-all_append P [] ys h k = k
-all_append P (x ∷ xs) ys h k = (h.0, all_append P xs ys h.1 k)
-
-pub all_filter : {X : Type 0} (P : X → Type 0) (test : X → Bool) (xs : List X) → AllByRecursion P xs → AllByRecursion P (filter test xs)
-all_filter P test [] h = tt
-all_filter P test (x ∷ xs) h = by (test x) (all_filter P test xs h.1)
-  where
-    by : (t : Bool) → AllByRecursion P (filter test xs) → AllByRecursion P (cond t (x ∷ filter test xs) (filter test xs))
-    by true rest = (h.0, rest)
-    by false rest = rest
-
-pub all_weaker : {X : Type 0} (P Q : X → Type 0) (xs : List X) → ((x : X) → P x → Q x) → AllByRecursion P xs → AllByRecursion Q xs
-all_weaker P Q [] weaker h = tt
-all_weaker P Q (x ∷ xs) weaker h = (weaker x h.0, all_weaker P Q xs weaker h.1)
-
 grave_last : (frames : ℕ) (g : Gone) → (grave_of frames g).last ≤ frames
 grave_last frames g = by (nat_le g.born frames)
   where
@@ -133,7 +127,7 @@ last_next s (command.Merge m) h =
     all_append (λ g. g.last ≤ s.frames) s.graves (map (grave_of s.frames) (after_all s.graph m.edits).gone) h (buried_last s.frames (after_all s.graph m.edits).gone)
 last_next s (command.View channel v) h = h
 last_next s (command.Sync r) h = all_filter (λ g. g.last ≤ s.frames) (λ g. not (is_due r g)) s.graves h
-last_next s command.Frame h = all_weaker (λ (g : GraveState). g.last ≤ s.frames) (λ g. g.last ≤ s.frames + 1) s.graves (λ g l. omega arith) h
+last_next s command.Frame h = all_map (λ (g : GraveState). g.last ≤ s.frames) (λ g. g.last ≤ s.frames + 1) (λ g l. omega arith) s.graves h
 
 pub graves_law : GravesLaw
 graves_law channels log = kept_after AreLast last_next (opening_state channels) log tt

@@ -1,25 +1,32 @@
 -- A freed serial stands in no frame after the retired ones.
 use Rattle.std.proofs.Common.{◌≡◌, ℕ, suc, zero, ◌+◌, ◌<◌, ◌≤◌, Bool, true, false, cond, not, ◌||◌, ◌==◌, nat_lt, nat_le, List, [], ◌∷◌, ◌++◌, map, length, take, drop, is_some, slice_get, Some, refl, sym, ◌∙◌, ap, subst, arith, append_assoc}
-use Rattle.std.proofs.lemmas.List.{append-nil}
-use Rattle.std.proofs.lemmas.Bool.Decides.{nat_tests}
+use Rattle.std.proofs.lemmas.List.{append-nil, map-append, length-append}
+use Rattle.std.proofs.lemmas.Bool.{ltb-true, ltb-false, leb-true, leb-false, eqb-true, eq-eqb, ne_eqb}
 use Rattle.std.specs.List.{AllByRecursion, fold, filter, list_any}
 use Rattle.pf_model.specs.declared.nodes.Node.{Node}
 use Rattle.pf_model.specs.declared.nodes.Gone.{Gone}
 use Rattle.pf_model.specs.declared.edits.Edit.{Edit}
-use Rattle.pf_model.specs.declared.edits.Edit.TheVariants as edit
 use Rattle.pf_model.specs.Graphs.{SceneGraph, Nodes, node_at, change, put, without}
-use Rattle.pf_model.specs.Edits.{fault_of, effect, after, remains}
+use Rattle.pf_model.specs.Edits.{fault_of, effect, after, remains, deleted}
+use Rattle.pf_model.specs.NodeEdits.{node_after}
+use Rattle.pf_model.specs.Laws.{KeepsBirth, IsEdited, Makes, Deletes, Changes}
 use Rattle.pf_model.specs.Merges.{merge_fault, after_all}
-use Rattle.pf_model.specs.Copies.{GraveState, is_due, freed_by}
+use Rattle.pf_model.specs.Copies.{GraveState, named_by, is_due, freed_by, put_all, grave_of}
 use Rattle.pf_model.proofs.Places.{node_at_step}
+use Rattle.pf_model.proofs.Editing.{effect_edited}
+use Rattle.pf_model.proofs.Levels.{all_map}
 use Rattle.pf_history.specs.declared.commands.Command.{Command}
 use Rattle.pf_history.specs.declared.commands.Command.TheVariants as command
+use Rattle.pf_history.specs.declared.commands.Reply.TheVariants as reply
 use Rattle.pf_history.specs.declared.commands.Entry.{Entry}
-use Rattle.pf_history.specs.Objects.{FrameState, opening_state, next_state, grave_of}
-use Rattle.pf_history.specs.Logs.{Log, state_after, is_frame}
-use Rattle.pf_history.specs.Cuts.{put_all, names, Cutting, cuttings}
-use Rattle.pf_history.specs.Laws.{has_serial, FreedLaw}
-use Rattle.pf_history.proofs.Folds.{all_append, all_filter, all_weaker}
+use Rattle.pf_history.specs.Objects.{FrameState, opening_state, next_state}
+use Rattle.pf_history.specs.Commands.{is_frame}
+use Rattle.pf_history.specs.Logs.{Log, state_after, state_at, IsLegalEntry}
+use Rattle.pf_history.specs.Cuts.{names, Cutting, cuttings, found_by_frames}
+use Rattle.pf_history.specs.CutLaws.{has_serial, is_among, sync_entry, FreedLaw}
+use Rattle.pf_history.proofs.Lists.{all_append, all_filter, all_drop, all_drop_at}
+use Rattle.pf_history.proofs.Folds.{legal_at}
+use Rattle.pf_history.proofs.Counting.{one, one_most}
 
 -- Serials and births of nodes
 
@@ -30,9 +37,6 @@ Tags = List (ℕ × ℕ)
 abbrev tags : Nodes → Tags
 tags nodes = map (λ e. (e.1.serial, e.1.born)) nodes
 
-abbrev one : Bool → ℕ
-one t = cond t 1 0
-
 -- how many nodes have a serial
 abbrev times : ℕ → Tags → ℕ
 times x [] = 0
@@ -42,10 +46,6 @@ times x (t ∷ ts) = one (t.0 == x) + times x ts
 abbrev graves_of : ℕ → List GraveState → ℕ
 graves_of x [] = 0
 graves_of x (g ∷ gs) = one (g.serial == x) + graves_of x gs
-
-one_most : (t : Bool) → one t ≤ 1
-one_most true = omega arith
-one_most false = omega arith
 
 times_none : (x : ℕ) (nodes : Nodes) → times x (tags nodes) ≡ 0 → has_serial x nodes ≡ false
 times_none x [] h = refl
@@ -69,7 +69,7 @@ graves_filter x test (g ∷ gs) = by (test g) (graves_filter x test gs)
 
 -- A node changed, put and taken out
 
-change_tags : (id : ℕ) (f : Node → Node) (nodes : Nodes) → ((n : Node) → ((f n).serial ≡ n.serial) × ((f n).born ≡ n.born)) → tags (change id f nodes) ≡ tags nodes
+change_tags : (id : ℕ) (f : Node → Node) (nodes : Nodes) → KeepsBirth f → tags (change id f nodes) ≡ tags nodes
 change_tags id f [] same = refl
 change_tags id f (e ∷ es) same = by (e.0 == id) (change_tags id f es same)
   where
@@ -132,34 +132,22 @@ record IsPast (x : ℕ) (g : SceneGraph) : Type 0 where
 abbrev Lacks : ℕ → FrameState → Type 0
 Lacks x s = has_serial x s.graph.nodes ≡ false
 
-past_change : (x : ℕ) (g : SceneGraph) (id : ℕ) (f : Node → Node) → ((n : Node) → ((f n).serial ≡ n.serial) × ((f n).born ≡ n.born)) → IsPast x g → IsPast x (record g { nodes = change id f g.nodes })
+past_change : (x : ℕ) (g : SceneGraph) (id : ℕ) (f : Node → Node) → KeepsBirth f → IsPast x g → IsPast x (record g { nodes = change id f g.nodes })
 past_change x g id f same h = record { none = ap (times x) (change_tags id f g.nodes same) ∙ h.none; given = h.given }
 
-not_this : (a b : ℕ) → b < a → (a == b) ≡ false
-not_this a b l = grind (arith, nat_tests)
+past_edited : (x : ℕ) (g : SceneGraph) (e : Edit) (h : SceneGraph) → IsEdited g e h → IsPast x g → IsPast x h
+past_edited x g e _ (Makes kind is) p =
+    let n : Node = record { serial = g.next_serial; born = g.time; kind = kind; children = [] } in
+    let more = put_times x (named_by e) n g.nodes in
+    let z : one (g.next_serial == x) ≡ 0 = ap one (ne_eqb g.next_serial x (let l = p.given in omega (arith, l))) in
+    record { none = omega (arith, more, z, p.none); given = omega (arith, p.given) }
+past_edited x g e _ (Deletes is) p =
+    let w = without_times x 0 (named_by e) g.nodes in
+    record { none = omega (arith, w, p.none); given = p.given }
+past_edited x g e _ (Changes keeps) p = past_change x g (named_by e) (node_after g.time e) keeps p
 
 past_effect : (x : ℕ) (g : SceneGraph) (e : Edit) → IsPast x g → IsPast x (effect g e)
-past_effect x g (edit.Make id kind) h =
-    let n : Node = record { serial = g.next_serial; born = g.time; kind = kind; children = [] } in
-    let p = put_times x id n g.nodes in
-    let z : one (g.next_serial == x) ≡ 0 = ap one (not_this g.next_serial x h.given) in
-    record { none = omega (arith, p, z, h.none); given = omega (arith, h.given) }
-past_effect x g (edit.Add id child) h = past_change x g id _ (λ n. (refl, refl)) h
-past_effect x g (edit.Insert id place child) h = past_change x g id _ (λ n. (refl, refl)) h
-past_effect x g (edit.Replace id child by) h = past_change x g id _ (λ n. (refl, refl)) h
-past_effect x g (edit.Remove id child) h = past_change x g id _ (λ n. (refl, refl)) h
-past_effect x g (edit.Delete id) h = let w = without_times x 0 id g.nodes in record { none = omega (arith, w, h.none); given = h.given }
-past_effect x g (edit.Pick id pick) h = past_change x g id _ (λ n. (refl, refl)) h
-past_effect x g (edit.Mat id mat) h = past_change x g id _ (λ n. (refl, refl)) h
-past_effect x g (edit.Trans id t) h = past_change x g id _ (λ n. (refl, refl)) h
-past_effect x g (edit.Rot id a b c) h = past_change x g id _ (λ n. (refl, refl)) h
-past_effect x g (edit.Scale id s) h = past_change x g id _ (λ n. (refl, refl)) h
-past_effect x g (edit.Range id place value) h = past_change x g id _ (λ n. (refl, refl)) h
-past_effect x g (edit.Centre id at) h = past_change x g id _ (λ n. (refl, refl)) h
-past_effect x g (edit.Times id place frames) h = past_change x g id _ (λ n. (refl, refl)) h
-past_effect x g (edit.Run id) h = past_change x g id _ (λ n. (refl, refl)) h
-past_effect x g (edit.Stop id) h = past_change x g id _ (λ n. (refl, refl)) h
-past_effect x g (edit.Verts id geom) h = past_change x g id _ (λ n. (refl, refl)) h
+past_effect x g e p = past_edited x g e (effect g e) (effect_edited g e) p
 
 past_effects : (x : ℕ) (es : List Edit) (g : SceneGraph) → IsPast x g → IsPast x (fold effect g es)
 past_effects x [] g h = h
@@ -206,11 +194,6 @@ past_frames x ids s (e ∷ es) h =
 abbrev NoneFrom : ℕ → ℕ → List FrameState → Type 0
 NoneFrom r x found = AllByRecursion (Lacks x) (drop r found)
 
-all_drop : (P : FrameState → Type 0) (r : ℕ) (xs : List FrameState) → AllByRecursion P xs → AllByRecursion P (drop r xs)
-all_drop P zero xs h = h
-all_drop P (suc r) [] h = tt
-all_drop P (suc r) (x ∷ xs) h = all_drop P r xs h.1
-
 none_append : (r x : ℕ) (xs ys : List FrameState) → NoneFrom r x xs → AllByRecursion (Lacks x) ys → NoneFrom r x (xs ++ ys)
 none_append r x [] ys h k = all_drop (Lacks x) r ys k
 none_append zero x (s ∷ xs) ys h k = all_append (Lacks x) (s ∷ xs) ys h k
@@ -248,7 +231,7 @@ all_graves frames graves g = graves ++ map (grave_of frames) g.gone
 abbrev GraphKept : List FrameState → ℕ → List GraveState → SceneGraph → Type 0
 GraphKept found frames graves g = AreKept found frames (tags g.nodes) g.time g.next_serial (all_graves frames graves g)
 
-kept_change : (found : List FrameState) (frames : ℕ) (graves : List GraveState) (g : SceneGraph) (id : ℕ) (f : Node → Node) → ((n : Node) → ((f n).serial ≡ n.serial) × ((f n).born ≡ n.born)) → GraphKept found frames graves g → GraphKept found frames graves (record g { nodes = change id f g.nodes })
+kept_change : (found : List FrameState) (frames : ℕ) (graves : List GraveState) (g : SceneGraph) (id : ℕ) (f : Node → Node) → KeepsBirth f → GraphKept found frames graves g → GraphKept found frames graves (record g { nodes = change id f g.nodes })
 kept_change found frames graves g id f same h =
     subst (λ (ts : Tags). AreKept found frames ts g.time g.next_serial (all_graves frames graves g)) (sym (change_tags id f g.nodes same)) h
 
@@ -265,22 +248,16 @@ kept_make found frames graves g id n serial born h =
       once = λ x. once x (n.serial == x) refl;
       below = λ x l.
           let p = put_times x id n g.nodes in
-          let z : one (n.serial == x) ≡ 0 = ap one (other x (omega (arith, l, serial))) in
+          let z : one (n.serial == x) ≡ 0 = ap one (ne_eqb n.serial x (omega (arith, l, serial))) in
           let b = h.below x (omega (arith, l)) in
           omega (arith, p, z, b);
     }
   where
-    other : (x : ℕ) → n.serial < x → (n.serial == x) ≡ false
-    other x l = grind (arith, nat_tests)
-
-    same : (x : ℕ) → (n.serial == x) ≡ true → n.serial ≡ x
-    same x e = grind (arith, nat_tests)
-
     once : (x : ℕ) (t : Bool) → (n.serial == x) ≡ t → times x (tags (put id n g.nodes)) + graves_of x (all_graves frames graves g) ≤ 1
     once x true e =
         let p = put_times x id n g.nodes in
         let z : one (n.serial == x) ≡ 1 = ap one e in
-        let i = same x e in
+        let i = eqb-true n.serial x e in
         let b = h.below x (omega (arith, i, serial)) in
         omega (arith, p, z, b)
     once x false e =
@@ -293,26 +270,19 @@ kept_make found frames graves g id n serial born h =
 buried_now : (found : List FrameState) (frames : ℕ) (g : Gone) → length found ≡ frames → (frames < g.born → NoneFrom 0 g.serial found) → NoneFrom (grave_of frames g).last g.serial found
 buried_now found frames g many fresh = by (nat_le g.born frames) refl
   where
-    after_this : (a b : ℕ) → nat_le a b ≡ false → b < a
-    after_this a b e = grind (arith, nat_tests)
-
     by : (t : Bool) → nat_le g.born frames ≡ t → NoneFrom (cond t frames 0) g.serial found
     by true e = subst (λ (n : ℕ). NoneFrom n g.serial found) many (none_past g.serial found)
-    by false e = fresh (after_this g.born frames e)
+    by false e = fresh (leb-false g.born frames e)
 
 all_buried : (found : List FrameState) (frames : ℕ) (gs : List Gone) → length found ≡ frames → AllByRecursion (λ g. frames < g.born → NoneFrom 0 g.serial found) gs → AllByRecursion (λ g. NoneFrom g.last g.serial found) (map (grave_of frames) gs)
 all_buried found frames [] many h = tt
 all_buried found frames (g ∷ gs) many h = (buried_now found frames g many h.0, all_buried found frames gs many h.1)
 
-map_append : (frames : ℕ) (xs ys : List Gone) → map (grave_of frames) (xs ++ ys) ≡ map (grave_of frames) xs ++ map (grave_of frames) ys
-map_append frames [] ys = refl
-map_append frames (x ∷ xs) ys = ap (λ gs. grave_of frames x ∷ gs) (map_append frames xs ys)
-
-kept_delete : (found : List FrameState) (frames : ℕ) (graves : List GraveState) (g : SceneGraph) (id : ℕ) → GraphKept found frames graves g → GraphKept found frames graves (effect g (edit.Delete id))
+kept_delete : (found : List FrameState) (frames : ℕ) (graves : List GraveState) (g : SceneGraph) (id : ℕ) → GraphKept found frames graves g → GraphKept found frames graves (deleted id g)
 kept_delete found frames graves g id h =
     let out = map (grave_of frames) (remains id (node_at g.nodes id)) in
     let joined : all_graves frames graves g ++ out ≡ graves ++ map (grave_of frames) (g.gone ++ remains id (node_at g.nodes id)) =
-    append_assoc graves (map (grave_of frames) g.gone) out ∙ ap (λ gs. graves ++ gs) (sym (map_append frames g.gone (remains id (node_at g.nodes id)))) in
+    append_assoc graves (map (grave_of frames) g.gone) out ∙ ap (λ gs. graves ++ gs) (sym (map-append (grave_of frames) g.gone (remains id (node_at g.nodes id)))) in
     subst (λ (gs : List GraveState). AreKept found frames (tags (without id g.nodes)) g.time g.next_serial gs) joined
     (record {
       preparing = h.preparing;
@@ -334,24 +304,14 @@ kept_delete found frames graves g id h =
           omega (arith, w, a, o);
     })
 
+kept_edited : (found : List FrameState) (frames : ℕ) (graves : List GraveState) (g : SceneGraph) (e : Edit) (h : SceneGraph) → IsEdited g e h → GraphKept found frames graves g → GraphKept found frames graves h
+kept_edited found frames graves g e _ (Makes kind is) k =
+    kept_make found frames graves g (named_by e) (record { serial = g.next_serial; born = g.time; kind = kind; children = [] }) refl refl k
+kept_edited found frames graves g e _ (Deletes is) k = kept_delete found frames graves g (named_by e) k
+kept_edited found frames graves g e _ (Changes keeps) k = kept_change found frames graves g (named_by e) (node_after g.time e) keeps k
+
 kept_effect : (found : List FrameState) (frames : ℕ) (graves : List GraveState) (g : SceneGraph) (e : Edit) → GraphKept found frames graves g → GraphKept found frames graves (effect g e)
-kept_effect found frames graves g (edit.Make id kind) h = kept_make found frames graves g id (record { serial = g.next_serial; born = g.time; kind = kind; children = [] }) refl refl h
-kept_effect found frames graves g (edit.Add id child) h = kept_change found frames graves g id _ (λ n. (refl, refl)) h
-kept_effect found frames graves g (edit.Insert id place child) h = kept_change found frames graves g id _ (λ n. (refl, refl)) h
-kept_effect found frames graves g (edit.Replace id child by) h = kept_change found frames graves g id _ (λ n. (refl, refl)) h
-kept_effect found frames graves g (edit.Remove id child) h = kept_change found frames graves g id _ (λ n. (refl, refl)) h
-kept_effect found frames graves g (edit.Delete id) h = kept_delete found frames graves g id h
-kept_effect found frames graves g (edit.Pick id pick) h = kept_change found frames graves g id _ (λ n. (refl, refl)) h
-kept_effect found frames graves g (edit.Mat id mat) h = kept_change found frames graves g id _ (λ n. (refl, refl)) h
-kept_effect found frames graves g (edit.Trans id t) h = kept_change found frames graves g id _ (λ n. (refl, refl)) h
-kept_effect found frames graves g (edit.Rot id a b c) h = kept_change found frames graves g id _ (λ n. (refl, refl)) h
-kept_effect found frames graves g (edit.Scale id s) h = kept_change found frames graves g id _ (λ n. (refl, refl)) h
-kept_effect found frames graves g (edit.Range id place value) h = kept_change found frames graves g id _ (λ n. (refl, refl)) h
-kept_effect found frames graves g (edit.Centre id at) h = kept_change found frames graves g id _ (λ n. (refl, refl)) h
-kept_effect found frames graves g (edit.Times id place span) h = kept_change found frames graves g id _ (λ n. (refl, refl)) h
-kept_effect found frames graves g (edit.Run id) h = kept_change found frames graves g id _ (λ n. (refl, refl)) h
-kept_effect found frames graves g (edit.Stop id) h = kept_change found frames graves g id _ (λ n. (refl, refl)) h
-kept_effect found frames graves g (edit.Verts id geom) h = kept_change found frames graves g id _ (λ n. (refl, refl)) h
+kept_effect found frames graves g e k = kept_edited found frames graves g e (effect g e) (effect_edited g e) k
 
 kept_effects : (found : List FrameState) (frames : ℕ) (graves : List GraveState) (es : List Edit) (g : SceneGraph) → GraphKept found frames graves g → GraphKept found frames graves (fold effect g es)
 kept_effects found frames graves [] g h = h
@@ -372,37 +332,24 @@ graph_kept found s h =
 grave_past : (found : List FrameState) (s : FrameState) (x : ℕ) → IsKept found s → 1 ≤ graves_of x s.graves → IsPast x s.graph
 grave_past found s x h l = record { none = let o = h.kept.once x in omega (arith, o, l); given = by (nat_lt x s.graph.next_serial) refl }
   where
-    not_below : (a b : ℕ) → nat_lt a b ≡ false → b ≤ a
-    not_below a b e = grind (arith, nat_tests)
-
-    is_below : (a b : ℕ) → nat_lt a b ≡ true → a < b
-    is_below a b e = grind (arith, nat_tests)
-
     by : (t : Bool) → nat_lt x s.graph.next_serial ≡ t → x < s.graph.next_serial
-    by true e = is_below x s.graph.next_serial e
-    by false e = let z = h.kept.below x (not_below x s.graph.next_serial e) in absurd (omega (arith, z, l))
+    by true e = ltb-true x s.graph.next_serial e
+    by false e = let z = h.kept.below x (ltb-false x s.graph.next_serial e) in absurd (omega (arith, z, l))
 
 -- one more frame: what is in a grave does not stand in it
 all_graves_lack : (found : List FrameState) (s : FrameState) → IsKept found s → (gs : List GraveState) → ((x : ℕ) → graves_of x gs ≤ graves_of x s.graves) → AllByRecursion (λ g. NoneFrom g.last g.serial found) gs → AllByRecursion (λ g. NoneFrom g.last g.serial (found ++ s ∷ [])) gs
 all_graves_lack found s h [] within k = tt
 all_graves_lack found s h (g ∷ gs) within k =
-    let this : one (g.serial == g.serial) ≡ 1 = ap one (self_same g.serial) in
+    let this : one (g.serial == g.serial) ≡ 1 = ap one (eq-eqb g.serial g.serial refl) in
     let w = within g.serial in
     let past = grave_past found s g.serial h (omega (arith, this, w)) in (
       none_append g.last g.serial found (s ∷ []) k.0 (times_none g.serial s.graph.nodes past.none, tt),
       all_graves_lack found s h gs (λ x. let v = within x in omega (arith, v)) k.1,
     )
-  where
-    self_same : (a : ℕ) → (a == a) ≡ true
-    self_same a = grind (arith, nat_tests)
 
 -- the frames found, with this one where the command is a Frame
 abbrev noted : List FrameState → FrameState → Command → List FrameState
 noted found s c = cond (is_frame c) (found ++ s ∷ []) found
-
-length_snoc : (xs : List FrameState) (s : FrameState) → length (xs ++ s ∷ []) ≡ length xs + 1
-length_snoc [] s = refl
-length_snoc (x ∷ xs) s = let rest = length_snoc xs s in omega (arith, rest)
 
 kept_next : (found : List FrameState) (s : FrameState) (c : Command) → IsKept found s → IsKept (noted found s c) (next_state s c)
 kept_next found s (command.Edit e) h = record { kept = by (is_some (fault_of s.graph e)); emptied = refl }
@@ -434,9 +381,9 @@ kept_next found s command.Frame h =
     record {
       kept = record {
         preparing = omega arith;
-        many = let n = length_snoc found s in let m = h.kept.many in omega (arith, n, m);
-        born = all_weaker (λ (t : ℕ × ℕ). t.1 ≤ s.frames + 1) (λ t. t.1 ≤ s.frames + 1 + 1) (tags s.graph.nodes) (λ t l. omega (arith, l)) h.kept.born;
-        fresh = all_weaker (λ (t : ℕ × ℕ). t.1 ≤ s.frames + 1) (λ t. s.frames + 1 < t.1 → NoneFrom 0 t.0 (found ++ s ∷ [])) (tags s.graph.nodes) (λ t l k. absurd (omega (arith, l, k))) h.kept.born;
+        many = let n = length-append found (s ∷ []) in let m = h.kept.many in omega (arith, n, m);
+        born = all_map (λ (t : ℕ × ℕ). t.1 ≤ s.frames + 1) (λ t. t.1 ≤ s.frames + 1 + 1) (λ t l. omega (arith, l)) (tags s.graph.nodes) h.kept.born;
+        fresh = all_map (λ (t : ℕ × ℕ). t.1 ≤ s.frames + 1) (λ t. s.frames + 1 < t.1 → NoneFrom 0 t.0 (found ++ s ∷ [])) (λ t l k. absurd (omega (arith, l, k))) (tags s.graph.nodes) h.kept.born;
         buried = all_graves_lack found s h s.graves (λ x. omega arith) h.kept.buried;
         free = λ x l. let z = h.kept.below x l in none_append 0 x found (s ∷ []) (h.kept.free x l) (times_none x s.graph.nodes (omega (arith, z)), tt);
         once = h.kept.once;
@@ -452,19 +399,13 @@ freed_grave : (found : List FrameState) (r x : ℕ) (gs : List GraveState) → A
 freed_grave found r x [] h is = absurd (cc)
 freed_grave found r x (g ∷ gs) h is = by (is_due r g) refl (freed_grave found r x gs h.1) is
   where
-    due : (a b : ℕ) → nat_le a b ≡ true → a ≤ b
-    due a b e = grind (arith, nat_tests)
-
-    same : (a b : ℕ) → (a == b) ≡ true → a ≡ b
-    same a b e = grind (arith, nat_tests)
-
     more : NoneFrom r x found × (1 ≤ graves_of x gs) → NoneFrom r x found × (1 ≤ one (g.serial == x) + graves_of x gs)
     more rest = let l = rest.1 in (rest.0, omega (arith, l))
 
     here : is_due r g ≡ true → (list_any (λ y. y == x) (freed_by r gs) ≡ true → NoneFrom r x found × (1 ≤ graves_of x gs)) → (u : Bool) → (g.serial == x) ≡ u → (u || list_any (λ y. y == x) (freed_by r gs)) ≡ true → NoneFrom r x found × (1 ≤ one (g.serial == x) + graves_of x gs)
     here d rest true e is =
         let z : one (g.serial == x) ≡ 1 = ap one e in
-        (subst (λ (y : ℕ). NoneFrom r y found) (same g.serial x e) (none_later g.last r g.serial found (due g.last r d) h.0), omega (arith, z))
+        (subst (λ (y : ℕ). NoneFrom r y found) (eqb-true g.serial x e) (none_later g.last r g.serial found (leb-true g.last r d) h.0), omega (arith, z))
     here d rest false e is = more (rest is)
 
     by : (t : Bool) → is_due r g ≡ t → (list_any (λ y. y == x) (freed_by r gs) ≡ true → NoneFrom r x found × (1 ≤ graves_of x gs)) →
@@ -502,13 +443,33 @@ opening_kept channels =
         buried = tt;
         free = λ x l. tt;
         once = λ x. let o = one_most (0 == x) in omega (arith, o);
-        below = λ x l. let z : one (0 == x) ≡ 0 = ap one (above x l) in omega (arith, z);
+        below = λ x l. let z : one (0 == x) ≡ 0 = ap one (ne_eqb 0 x (omega (arith, l))) in omega (arith, z);
       };
       emptied = refl;
     }
+
+-- Freed in the words of a reply
+
+-- what a Sync of a legal history replies is what is freed
+replied : (s : FrameState) (seat r : ℕ) (serials : List ℕ) → IsLegalEntry s (sync_entry r serials) → serials ≡ freed_by r s.graves
+replied s seat r serials legal = let same : reply.Freed serials ≡ reply.Freed (freed_by r s.graves) = legal.reply in cc
+
+within : (r x k : ℕ) (s : FrameState) (found : List FrameState) → NoneFrom r x found → slice_get found k ≡ Some s → has_serial x s.graph.nodes ≡ true → k + 1 ≤ r
+within r x k s found none at there = by (nat_le r k) refl
   where
-    above : (x : ℕ) → 1 ≤ x → (0 == x) ≡ false
-    above x l = grind (arith, nat_tests)
+    by : (t : Bool) → nat_le r k ≡ t → k + 1 ≤ r
+    by true e = absurd (let lacks : has_serial x s.graph.nodes ≡ false = all_drop_at (Lacks x) r found none k s at (leb-true r k e) in cc)
+    by false e = let l : k < r = leb-false r k e in omega arith
 
 pub freed_law : FreedLaw
-freed_law channels log j e r x at is freed = freed_from [] [] (opening_state channels) log (opening_kept channels) j e r x at is freed
+freed_law channels log j r x =
+    record {
+      object = λ e at is freed. freed_from [] [] (opening_state channels) log (opening_kept channels) j e r x at is freed;
+      replied = λ seat serials legal at freed k s found there.
+          let e = legal_at (opening_state channels) log j (seat, sync_entry r serials) legal at in
+          let same = replied (state_at channels log j) seat r serials e in
+          within r x k s (found_by_frames channels log)
+          (freed_from [] [] (opening_state channels) log (opening_kept channels) j (seat, sync_entry r serials) r x at refl
+          (subst (λ (xs : List ℕ). is_among x xs ≡ true) same freed))
+          found there;
+    }

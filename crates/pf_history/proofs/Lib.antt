@@ -1,4 +1,6 @@
+pub mod Lists
 pub mod Folds
+pub mod Turns
 pub mod Fitting
 pub mod Copying
 pub mod Freeing
@@ -7,6 +9,3 @@ pub mod Cutting
 pub mod Props
 pub mod Reach
 mod Rows
-pub mod Merging
-pub mod Running
-pub mod Views

@@ -11,7 +11,8 @@ use Rattle.pf_history.specs.declared.commands.Command.{Command}
 use Rattle.pf_history.specs.declared.commands.Command.TheVariants as command
 use Rattle.pf_history.specs.Objects.{FrameState, opening_state, next_state, emptied, preparing}
 use Rattle.pf_history.specs.Logs.{Log, state_after}
-use Rattle.pf_history.specs.Laws.{command_fits, LimitsLaw}
+use Rattle.pf_history.specs.Commands.{command_fits}
+use Rattle.pf_history.specs.Laws.{LimitsLaw}
 use Rattle.pf_history.proofs.Folds.{IsPreparing, preparing_next}
 
 -- no limit speaks of the deleted nodes

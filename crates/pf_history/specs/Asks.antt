@@ -44,7 +44,8 @@ asked_from need synced (app.View channel v ∷ steps) =
 asked_from need synced (app.Sync ∷ steps) = record { need = need; wanted = WantSync } ∷ asked_from need true steps
 asked_from need true (app.Frame ∷ steps) = record { need = need; wanted = WantFrame } ∷ asked_from need false steps
 asked_from need false (app.Frame ∷ steps) =
-    record { need = need; wanted = WantSync } ∷ record { need = need; wanted = WantFrame } ∷ asked_from need false steps
+    record { need = need; wanted = WantSync } ∷ record { need = need; wanted = WantFrame }
+    ∷ asked_from need false steps
 asked_from need synced (app.Wait n ∷ steps) = asked_from (max need n) synced steps
 
 -- what a section asks of the application
@@ -116,4 +117,5 @@ Follows ahead merges (a ∷ asks) (t ∷ ts) left =
 abbrev pub FollowsBase : List BaseAsk → List Turn → List BaseAsk → Type 0
 FollowsBase asks [] left = asks ≡ left
 FollowsBase [] (t ∷ ts) left = ⊥
-FollowsBase (a ∷ asks) (t ∷ ts) left = (t.made ≡ command.Merge a.merge) × (a.need ≤ t.found.frames) × FollowsBase asks ts left
+FollowsBase (a ∷ asks) (t ∷ ts) left =
+    (t.made ≡ command.Merge a.merge) × (a.need ≤ t.found.frames) × FollowsBase asks ts left

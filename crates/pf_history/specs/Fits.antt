@@ -9,11 +9,15 @@ use Rattle.pf_history.specs.declared.commands.Command.{Command}
 use Rattle.pf_history.specs.declared.commands.Command.TheVariants as command
 use Rattle.pf_history.specs.Objects.{FrameState, opening_state}
 use Rattle.pf_history.specs.Logs.{Log, is_by, own}
-use Rattle.pf_history.specs.Asks.{Ask, Wanted, WantEdit, WantView, WantSync, WantFrame, WantClose, BaseAsk, Turn, asked_app, asked_dbase, turns_from, Follows, FollowsBase}
+use Rattle.pf_history.specs.Asks.{Ask, Wanted, WantEdit, WantView, WantSync, WantFrame, WantClose, BaseAsk, Turn, asked_app, asked_dbase, turns_from, is_at, Follows, FollowsBase}
 
 -- the turns of a caller
 abbrev pub turns_of : ℕ → Caller → Log → List Turn
 turns_of channels caller log = turns_from (is_by caller) (opening_state channels) log
+
+-- the turns that a seat makes for a caller
+abbrev pub turns_at : ℕ → ℕ → Caller → Log → List Turn
+turns_at channels seat caller log = turns_from (is_at seat caller) (opening_state channels) log
 
 -- a command is the one asked for; a Sync may have any number
 abbrev pub Fills : Wanted → Command → Type 0
@@ -57,14 +61,18 @@ abbrev pub FindsRoom : ℕ → FrameState → Command → Type 0
 FindsRoom ahead s command.Frame = s.frames < s.retired + ahead
 FindsRoom ahead s _ = ⊤
 
+-- each turn is as P asks of it, by what it was asked for
+abbrev pub EachMade : (Wanted → FrameState → Command → Type 0) → List Ask → List Turn → Type 0
+EachMade P asks turns = AllByRecursion (λ p. P p.0.wanted p.1.found p.1.made) (zip asks turns)
+
 -- A log fits a play's two sections, with this many channels and frames in flight.
 pub record FitsPlay (channels ahead : ℕ) (app : List AppLine) (dbase : List BaseLine) (log : Log) : Type 0 where
   pub app_in_order : IsFrontOfApp (own App log) (asked_app app)
   pub dbase_in_order : IsFrontOfDbase (own Dbase log) (asked_dbase dbase)
   pub app_waited : HasWaited (asked_app app) (turns_of channels App log)
   pub dbase_awaited : HasAwaited (asked_dbase dbase) (turns_of channels Dbase log)
-  pub syncs_leave_room : AllByRecursion (λ p. LeavesRoom ahead p.0.wanted p.1.found p.1.made) (zip (asked_app app) (turns_of channels App log))
-  pub close_is_last : AllByRecursion (λ p. Closes (length (asked_dbase dbase)) p.0.wanted p.1.found p.1.made) (zip (asked_app app) (turns_of channels App log))
+  pub syncs_leave_room : EachMade (LeavesRoom ahead) (asked_app app) (turns_of channels App log)
+  pub close_is_last : EachMade (Closes (length (asked_dbase dbase))) (asked_app app) (turns_of channels App log)
   pub frames_find_room : AllByRecursion (λ t. FindsRoom ahead t.found t.made) (turns_of channels App log)
 
 -- It fits, and all that the play asks for was made.
@@ -75,6 +83,7 @@ pub record FitsWholly (channels ahead : ℕ) (app : List AppLine) (dbase : List 
 
 -- The relation that the stages keep: what was made of each section is the first of what it asks, each where it may be
 -- made, and these are still asked.
-pub record FollowsPlay (channels ahead : ℕ) (app : List AppLine) (dbase : List BaseLine) (log : Log) (left_app : List Ask) (left_dbase : List BaseAsk) : Type 0 where
+pub record FollowsPlay (channels ahead : ℕ) (app : List AppLine) (dbase : List BaseLine) (log : Log)
+    (left_app : List Ask) (left_dbase : List BaseAsk) : Type 0 where
   pub follows_app : Follows ahead (length (asked_dbase dbase)) (asked_app app) (turns_of channels App log) left_app
   pub follows_dbase : FollowsBase (asked_dbase dbase) (turns_of channels Dbase log) left_dbase

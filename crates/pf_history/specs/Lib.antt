@@ -1,7 +1,9 @@
+pub mod Commands
 pub mod Objects
 pub mod Logs
 pub mod Asks
 pub mod Fits
 pub mod Cuts
 pub mod Laws
-pub mod Runs
+pub mod FitLaws
+pub mod CutLaws

@@ -6,6 +6,7 @@ use Rattle.pf_history.specs.declared.commands.Caller.TheVariants.{App, Dbase}
 use Rattle.pf_history.specs.declared.commands.Command.{Command}
 use Rattle.pf_history.specs.declared.commands.Command.TheVariants as command
 use Rattle.pf_history.specs.declared.commands.Entry.{Entry}
+use Rattle.pf_history.specs.Commands.{caller_of}
 use Rattle.pf_history.specs.Objects.{FrameState, opening_state, reply_of, next_state}
 
 -- A log: entries in order, each beside the number of the seat that made it.
@@ -33,11 +34,6 @@ state_at channels log j = state_of channels (take j log)
 abbrev pub CanMake : FrameState → Command → Type 0
 CanMake s (command.Sync r) = (s.retired ≤ r) × (r ≤ s.frames)
 CanMake s _ = ⊤
-
--- who makes a command: the database process exactly the merges
-abbrev pub caller_of : Command → Caller
-caller_of (command.Merge m) = Dbase
-caller_of _ = App
 
 -- an entry that the object would make in this state
 pub record IsLegalEntry (s : FrameState) (e : Entry) : Type 0 where
@@ -69,16 +65,6 @@ is_by caller e = is_caller caller e.1.caller
 -- the commands of a caller, in order
 abbrev pub own : Caller → Log → List Command
 own caller log = map (λ e. e.1.command) (filter (is_by caller) log)
-
--- whether a command is a Frame
-abbrev pub is_frame : Command → Bool
-is_frame command.Frame = true
-is_frame _ = false
-
--- whether a command is a merge
-abbrev pub is_merge : Command → Bool
-is_merge (command.Merge m) = true
-is_merge _ = false
 
 -- how many commands of a log pass a test
 abbrev pub how_many : (Command → Bool) → Log → ℕ

@@ -1,14 +1,11 @@
 -- The one-thread object: what each command replies and leaves when one thread makes them one after the other.
-use Rattle.std.specs.Prelude.{ℕ, ◌+◌, pos, not, nat_le, if◌then◌else◌, List, [], ◌++◌, map, replicate, slice_set}
-use Rattle.std.specs.List.{filter}
+use Rattle.std.specs.Prelude.{ℕ, ◌+◌, List, [], ◌++◌, map, replicate, slice_set}
 use Rattle.std.specs.Option.{option_map_or}
-use Rattle.fx_math.specs.Constants.{origin_vector}
-use Rattle.pf_model.specs.Angles.{Viewpoint}
-use Rattle.pf_model.specs.declared.nodes.Gone.{Gone}
+use Rattle.pf_model.specs.Angles.{Viewpoint, home_view}
 use Rattle.pf_model.specs.Graphs.{SceneGraph, empty_scene}
 use Rattle.pf_model.specs.Edits.{fault_of, after}
 use Rattle.pf_model.specs.Merges.{merge_fault, after_all}
-use Rattle.pf_model.specs.Copies.{GraveState, is_due, freed_by}
+use Rattle.pf_model.specs.Copies.{GraveState, grave_of, freed_by, graves_kept}
 use Rattle.pf_history.specs.declared.commands.Command.{Command}
 use Rattle.pf_history.specs.declared.commands.Command.TheVariants as command
 use Rattle.pf_history.specs.declared.commands.Reply.{Reply}
@@ -23,10 +20,6 @@ pub record FrameState : Type 0 where
   pub retired : ℕ
   pub merges : ℕ
   pub graves : List GraveState
-
--- a view from the origin with angles of 0
-abbrev pub home_view : Viewpoint
-home_view = record { eye = origin_vector; h = pos 0; p = pos 0; r = pos 0 }
 
 -- the state before the first command, with so many channels
 abbrev pub opening_state : ℕ → FrameState
@@ -48,11 +41,6 @@ reply_of s (command.View channel v) = reply.Done
 reply_of s (command.Sync r) = reply.Freed (freed_by r s.graves)
 reply_of s command.Frame = reply.Began (s.frames + 1)
 
--- the grave of a deleted node: the last frame that may name it is the last one begun, and 0 where the node was made
--- after that
-abbrev pub grave_of : ℕ → Gone → GraveState
-grave_of frames g = record { serial = g.serial; last = if nat_le g.born frames then frames else 0 }
-
 -- a graph whose deleted nodes are taken out
 abbrev pub emptied : SceneGraph → SceneGraph
 emptied g = record g { gone = [] }
@@ -60,10 +48,6 @@ emptied g = record g { gone = [] }
 -- the state with this graph, its deleted nodes buried
 abbrev pub with_graph : SceneGraph → FrameState → FrameState
 with_graph g s = record s { graph = emptied g; graves = s.graves ++ map (grave_of s.frames) g.gone }
-
--- the graves that stay once r frames are retired
-abbrev pub graves_kept : ℕ → List GraveState → List GraveState
-graves_kept r graves = filter (λ g. not (is_due r g)) graves
 
 -- the graph in preparation for this frame
 abbrev pub preparing : ℕ → SceneGraph → SceneGraph

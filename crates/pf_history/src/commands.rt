@@ -44,9 +44,7 @@ pub enum Command {
 }
 
 impl Command {
-    ghost use Rattle.pf_history.specs.Logs.{caller_of};
-    ghost use Rattle.pf_history.specs.Laws.{command_fits};
-    ghost use Rattle.pf_history.specs.Runs.{edit_count};
+    ghost use Rattle.pf_history.specs.Commands.{caller_of, command_fits, edit_count};
 
     /// Who makes such a command: the database process exactly the merges.
     pub fn caller(&self) -> Caller

@@ -32,7 +32,8 @@ impl History {
         }
     }
 
-    /// Makes room for `n` more entries; the entries stay, and no room is lost. It fails only where that room was missing.
+    /// Makes room for `n` more entries; the entries stay, and no room is lost. It fails only where that room was
+    /// missing.
     pub fn reserve(&mut self, n: usize) -> Result<(), NoMemory>
         ensures room { OnOk result (n ≤ self.new.spare) }
         ensures entries { self.new.entries ≡ self.old.entries }
@@ -88,7 +89,7 @@ impl History {
 mod tests {
     use super::*;
     use crate::commands::{Caller, Command, Merge, Reply};
-    use pf_model::EditList;
+    use pf_model::{Edit, EditList};
     use std::test::Fail;
 
     fn entry(command: Command, reply: Reply) -> Entry {
@@ -119,6 +120,30 @@ mod tests {
         assert_eq!(rt; second.caller, Caller::Dbase);
         assert!(rt; matches!(&second.reply, Reply::Done));
         assert!(rt; history.at(2).is_none());
+        Ok(())
+    }
+
+    #[test]
+    fn commands_tell_their_edits(rt: HostRuntime) -> Result<(), Fail> {
+        let mut edits = EditList::new(rt.alloc());
+        edits.push(Edit::Add {
+            parent: 0,
+            child: 1,
+        })?;
+        edits.push(Edit::Delete { id: 1 })?;
+        let merge = Command::Merge(Merge { edits, dropped: 0 });
+        assert_eq!(rt; merge.caller(), Caller::Dbase);
+        assert_eq!(rt; merge.edit_count(), 2);
+        assert!(rt; merge.fits());
+        assert_eq!(rt; Command::Sync(1).edit_count(), 0);
+        assert_eq!(rt; Command::Edit(Edit::Run { id: 1 }).edit_count(), 1);
+        assert!(rt;
+            !Command::Edit(Edit::Scale {
+                id: 1,
+                s: 2_000_000
+            })
+            .fits()
+        );
         Ok(())
     }
 }

@@ -2,17 +2,10 @@
 //! and the update lists that the frames of a history cut.
 #![tactic(auto)]
 
-pub mod commands;
-pub mod history;
+mod commands;
+mod history;
 pub mod laws;
-pub mod runs;
-pub mod sequential;
 
 pub use commands::{Caller, Command, Entry, Merge, Reply};
 pub use history::History;
 pub use pf_model::{EditList, Serials};
-pub use runs::{can_run, run};
-pub use sequential::Sequential;
-
-#[cfg(test)]
-mod tests;

@@ -70,7 +70,7 @@ children_low look m id l =
     let e : 1 + greatest (map (height_in (suc m) look) (children_of look id)) ≤ suc m = subst (λ (h : ℕ). h ≤ suc m) (height_step (suc m) look id) l in
     each_at_most (height_in (suc m) look) m (children_of look id) (omega arith)
 
-no_height : (look : Look) (id : ℕ) → height_in 1 look id ≤ 0 → ⊥
+pub no_height : (look : Look) (id : ℕ) → height_in 1 look id ≤ 0 → ⊥
 no_height look id l =
     let e : 1 + greatest (map (height_in 0 look) (children_of look id)) ≤ 0 = subst (λ (h : ℕ). h ≤ 0) (height_step 0 look id) l in
     omega arith
@@ -102,16 +102,25 @@ pub box_next : (n : ℕ) (look : Look) (id : ℕ) → box_in (suc n) look id ≡
 unfolding box_in
 box_next n look id = refl
 
+-- the box of a node looks at no other nodes than its children
+pub boxes_agree : (o : Option Node) (f g : ℕ → Option Bounds) → AllByRecursion (λ c. f c ≡ g c) (option_map_or (λ n. n.children) o []) → option_map_or (box_from f) o None ≡ option_map_or (box_from g) o None
+boxes_agree None f g h = refl
+boxes_agree (Some n) f g h = ap (λ bs. option_map_or box_of_tris (geom_of n.kind) (option_map (carry_box (own_steps n.kind)) (hull_of_all bs))) (map_agree f g n.children h)
+
 pub boxes_settle : (look : Look) (n id k : ℕ) → height_in (suc n) look id ≤ n → box_in (n + k) look id ≡ box_in n look id
 boxes_settle look =
-    settles look (λ n. box_in n look) (λ id f. box_step look f id) (λ n id. box_next n look id) same
-  where
-    same : (id : ℕ) (f g : ℕ → Option Bounds) → AllByRecursion (λ c. f c ≡ g c) (children_of look id) → box_step look f id ≡ box_step look g id
-    same id f g h = by (look id) h
-      where
-        by : (o : Option Node) → AllByRecursion (λ c. f c ≡ g c) (option_map_or (λ n. n.children) o []) → option_map_or (box_from f) o None ≡ option_map_or (box_from g) o None
-        by None h = refl
-        by (Some n) h = ap (λ bs. option_map_or box_of_tris (geom_of n.kind) (option_map (carry_box (own_steps n.kind)) (hull_of_all bs))) (map_agree f g n.children h)
+    settles look (λ n. box_in n look) (λ id f. box_step look f id) (λ n id. box_next n look id) (λ id f g h. boxes_agree (look id) f g h)
+
+-- one more level of what is below looks at the children alone
+pub below_agrees : (b : ℕ) (p q : ℕ → Bool) (cs : List ℕ) → AllByRecursion (λ c. p c ≡ q c) cs → list_any (λ c. c == b || p c) cs ≡ list_any (λ c. c == b || q c) cs
+below_agrees b p q cs h =
+    any_agree (λ c. c == b || p c) (λ c. c == b || q c) cs
+    (all_map (λ c. p c ≡ q c) (λ c. (c == b || p c) ≡ (c == b || q c)) (λ c e. ap (λ t. c == b || t) e) cs h)
+
+pub below_settles : (look : Look) (b n id k : ℕ) → height_in (suc n) look id ≤ n → below_in (n + k) look id b ≡ below_in n look id b
+below_settles look b =
+    settles look (λ n a. below_in n look a b) (λ a p. list_any (λ c. c == b || p c) (children_of look a)) (λ n a. below_step n look a b)
+    (λ a p q h. below_agrees b p q (children_of look a) h)
 
 -- Walks
 
@@ -199,7 +208,7 @@ below_child h p b m (c ∷ cs) step l any = by (λ r. below_child h p b m cs ste
     by rest true e any = let s : h b ≤ h c = step c e in omega arith
     by rest false e any = rest any
 
-below_zero : (look : Look) (a b : ℕ) → below_in 0 look a b ≡ false
+pub below_zero : (look : Look) (a b : ℕ) → below_in 0 look a b ≡ false
 unfolding below_in
 below_zero look a b = refl
 
@@ -235,3 +244,6 @@ size_at_limit look id l = ap (λ (n : ℕ). size_in n look id) levels_are ∙ si
 
 pub box_is_step : (look : Look) (id : ℕ) → height_of look id ≤ 32 → box_in 32 look id ≡ box_step look (box_in 32 look) id
 box_is_step look id l = sym (boxes_settle look 32 id 1 (low_at look id l)) ∙ box_next 32 look id
+
+pub below_at_limit : (look : Look) (a b : ℕ) → height_of look a ≤ 32 → is_below look a b ≡ below_in 32 look a b
+below_at_limit look a b l = ap (λ (n : ℕ). below_in n look a b) levels_are ∙ below_settles look b 32 a 4065 (low_at look a l)

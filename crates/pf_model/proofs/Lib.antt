@@ -16,3 +16,10 @@ pub mod Homes
 pub mod Entries
 pub mod Turns
 pub mod Changes
+pub mod Solutions
+pub mod Apart
+pub mod Between
+pub mod Editing
+pub mod Numbering
+pub mod Totals
+pub mod ShownPlaces

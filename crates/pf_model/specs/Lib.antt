@@ -15,3 +15,5 @@ pub mod Limits
 pub mod Copies
 pub mod Totals
 pub mod Laws
+pub mod ShownPlaces
+pub mod Surfaces

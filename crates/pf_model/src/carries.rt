@@ -1,15 +1,35 @@
-//! Points and boxes carried through the steps of poses, kinds and views, one step after the other.
-ghost use Rattle.std.specs.Prelude.{◌≡◌, neg_ℤ};
-ghost use Rattle.fx_math.specs.Within.{IsWithin, IsCoordinate};
-ghost use Rattle.fx_math.specs.Plain.{point};
-ghost use Rattle.fx_math.specs.Views.{point_of, bounds_of};
+//! Points and boxes carried through lists of steps, and through the steps of poses, kinds and views.
+ghost use Rattle.std.specs.Prelude.{◌≡◌, map};
+ghost use Rattle.fx_math.specs.Views.{point_of, matrix_of, bounds_of};
 ghost use Rattle.fx_math.specs.Fixed.{carry, carry_box};
 ghost use Rattle.pf_model.specs.Kinds.{pose_steps, own_steps};
 ghost use Rattle.pf_model.specs.Walks.{steps_of_view};
 
 use crate::nodes::Kind;
-use crate::poses::{Euler, Pose, View};
-use fx_math::{Box3, Vec3, apply, apply_box, heading, pitch, roll, scaling, shift};
+use crate::poses::{Pose, View};
+use fx_math::{Affine, Box3, Vec3, apply, apply_box};
+
+/// A point after a list of steps, one after the other.
+pub fn carried_point(v: Vec3, steps: &[Affine]) -> Vec3
+    ensures { point_of result ≡ carry (map matrix_of steps.now) (point_of v) }
+{
+    let mut carried = v;
+    for step in steps {
+        carried = apply(step, carried);
+    }
+    carried
+}
+
+/// A box after a list of steps, one after the other.
+pub fn carried_box(b: &Box3, steps: &[Affine]) -> Box3
+    ensures { bounds_of result ≡ carry_box (map matrix_of steps.now) (bounds_of b.now) }
+{
+    let mut carried = *b;
+    for step in steps {
+        carried = apply_box(step, &carried);
+    }
+    carried
+}
 
 impl Pose {
     /// A point of the children's coordinates in the coordinates above.
@@ -18,7 +38,7 @@ impl Pose {
     {
         match self {
             Pose::Matrix(matrix) => apply(matrix, v),
-            Pose::Euler(euler) => carried(euler, v),
+            Pose::Euler(euler) => carried_point(v, &euler.steps()),
         }
     }
 
@@ -28,29 +48,9 @@ impl Pose {
     {
         match self {
             Pose::Matrix(matrix) => apply_box(matrix, b),
-            Pose::Euler(euler) => box_carried(euler, b),
+            Pose::Euler(euler) => carried_box(b, &euler.steps()),
         }
     }
-}
-
-fn carried(euler: &Euler, v: Vec3) -> Vec3
-    ensures { point_of result ≡ carry (pose_steps (Pose.Euler euler.now)) (point_of v) }
-{
-    let scaled = apply(&scaling(euler.scale), v);
-    let rolled = apply(&roll(euler.r), scaled);
-    let pitched = apply(&pitch(euler.p), rolled);
-    let turned = apply(&heading(euler.h), pitched);
-    apply(&shift(euler.t), turned)
-}
-
-fn box_carried(euler: &Euler, b: &Box3) -> Box3
-    ensures { bounds_of result ≡ carry_box (pose_steps (Pose.Euler euler.now)) (bounds_of b.now) }
-{
-    let scaled = apply_box(&scaling(euler.scale), b);
-    let rolled = apply_box(&roll(euler.r), &scaled);
-    let pitched = apply_box(&pitch(euler.p), &rolled);
-    let turned = apply_box(&heading(euler.h), &pitched);
-    apply_box(&shift(euler.t), &turned)
 }
 
 impl Kind {
@@ -77,53 +77,53 @@ impl Kind {
     }
 }
 
-/// The opposite of a coordinate.
-fn opposite(z: i32) -> i32
-    requires { IsCoordinate z }
-    ensures value { result ≡ neg_ℤ z }
-    ensures bound { IsCoordinate result }
-{
-    -z
-}
-
-/// The opposite of a point.
-fn opposite_of(v: Vec3) -> Vec3
-    ensures { point_of result ≡ point (neg_ℤ v.x) (neg_ℤ v.y) (neg_ℤ v.z) }
-{
-    Vec3 {
-        x: opposite(v.x),
-        y: opposite(v.y),
-        z: opposite(v.z),
-    }
-}
-
-/// The opposite of an angle.
-fn opposite_angle(x: i32) -> i32
-    requires { IsWithin 3600 x }
-    ensures value { result ≡ neg_ℤ x }
-    ensures bound { IsWithin 3600 result }
-{
-    -x
-}
-
 impl View {
     /// A point of the scene in eye coordinates.
     pub fn carry(&self, v: Vec3) -> Vec3
         ensures { point_of result ≡ carry (steps_of_view self.now) (point_of v) }
     {
-        let moved = apply(&shift(opposite_of(self.eye)), v);
-        let turned = apply(&heading(opposite_angle(self.h)), moved);
-        let pitched = apply(&pitch(opposite_angle(self.p)), turned);
-        apply(&roll(opposite_angle(self.r)), pitched)
+        carried_point(v, &self.steps())
     }
 
     /// A box of the scene in eye coordinates.
     pub fn carry_box(&self, b: &Box3) -> Box3
         ensures { bounds_of result ≡ carry_box (steps_of_view self.now) (bounds_of b.now) }
     {
-        let moved = apply_box(&shift(opposite_of(self.eye)), b);
-        let turned = apply_box(&heading(opposite_angle(self.h)), &moved);
-        let pitched = apply_box(&pitch(opposite_angle(self.p)), &turned);
-        apply_box(&roll(opposite_angle(self.r)), &pitched)
+        carried_box(b, &self.steps())
+    }
+}
+
+#[cfg(test)]
+mod tests {
+    use super::*;
+    use crate::poses::Euler;
+    use fx_math::shift;
+    use std::test::Fail;
+
+    fn quarter_turn() -> Euler {
+        Euler {
+            scale: 65_536,
+            h: 900,
+            p: 0,
+            r: 0,
+            t: Vec3::ORIGIN,
+        }
+    }
+
+    #[test]
+    fn quarter_turn_and_shift(rt: HostRuntime) -> Result<(), Fail> {
+        let ahead = Vec3::new(0, 4_096, 0).ok_or("range")?;
+        let left = Vec3::new(-4_096, 0, 0).ok_or("range")?;
+        let moved = Vec3::new(-4_096, 4_096, 0).ok_or("range")?;
+        let [scaled, rolled, pitched, turned, _] = quarter_turn().steps();
+        let steps = [scaled, rolled, pitched, turned, shift(ahead)];
+        assert_eq!(rt; carried_point(ahead, &steps), moved);
+        assert_eq!(rt; Pose::Euler(quarter_turn()).carry(ahead), left);
+        let b = Box3::new(Vec3::ORIGIN, ahead).ok_or("order")?;
+        let turned = Box3::new(left, Vec3::ORIGIN).ok_or("order")?;
+        assert_eq!(rt; Pose::Euler(quarter_turn()).carry_box(&b), turned);
+        let across = Box3::new(moved, ahead).ok_or("order")?;
+        assert_eq!(rt; carried_box(&b, &steps), across);
+        Ok(())
     }
 }

@@ -3,10 +3,12 @@ ghost use Rattle.std.specs.Prelude.{◌≡◌, ◌≤◌, ◌<◌, ◌*◌, ◌+
 ghost use Rattle.fx_math.specs.Views.{point_of};
 ghost use Rattle.fx_math.specs.Within.{IsCoordinate};
 ghost use Rattle.pf_model.specs.Kinds.{is_between, level_at, squared_length, chosen_at, picked, chosen_of};
+ghost use Rattle.pf_model.specs.ShownPlaces.{ArePlaces};
 
 use crate::nodes::{Chosen, Kind, Node, Pick};
 use crate::sequences::sequence_place;
 use fx_math::Vec3;
+use std::ops::Range;
 
 /// The square of a coordinate.
 fn squared(x: i32) -> u64
@@ -95,5 +97,36 @@ pub fn chosen_children(node: &Node, centre: Vec3, time: u32) -> Chosen
         }
         Kind::Geode { .. } | Kind::Glass { .. } => Chosen::Nothing,
         Kind::Group | Kind::Scs(_) | Kind::Dcs(_) | Kind::Layer => Chosen::All,
+    }
+}
+
+impl Chosen {
+    /// The places of the chosen ones of so many children.
+    pub fn shown_places(self, children: usize) -> Range<usize>
+        ensures { ArePlaces self children result.start result.end }
+    {
+        match self {
+            Chosen::All => 0..children,
+            Chosen::One(place) if usize::from(place) < children => {
+                let place = usize::from(place);
+                place..place + 1
+            }
+            Chosen::One(_) | Chosen::Nothing => 0..0,
+        }
+    }
+}
+
+#[cfg(test)]
+mod tests {
+    use super::*;
+    use std::test::Fail;
+
+    #[test]
+    fn places_of_three_children(rt: HostRuntime) -> Result<(), Fail> {
+        assert_eq!(rt; Chosen::All.shown_places(3), 0..3);
+        assert_eq!(rt; Chosen::One(2).shown_places(3), 2..3);
+        assert_eq!(rt; Chosen::One(3).shown_places(3), 0..0);
+        assert_eq!(rt; Chosen::Nothing.shown_places(3), 0..0);
+        Ok(())
     }
 }

@@ -2,6 +2,7 @@
 #![tactic(auto)]
 
 pub(crate) mod attributes;
+pub mod boxes;
 pub mod carries;
 pub mod choices;
 pub mod edits;
@@ -13,10 +14,14 @@ pub mod lists;
 pub mod nodes;
 pub mod poses;
 pub(crate) mod sequences;
+pub mod step_lists;
 pub mod steps;
+pub mod surfaces;
 pub mod views;
 
 pub use attributes::{attribute_fault, kind_after};
+pub use boxes::{box_of_tris, squared_distance};
+pub use carries::{carried_box, carried_point};
 pub use choices::chosen_children;
 pub use edits::{Edit, EditError, EditList, EditListBuilder, Fault};
 pub use geometry::{Geom, Tri};
@@ -25,6 +30,7 @@ pub use lists::{Ids, Ranges, Serials, SerialsBuilder, ShortList, Times};
 pub use nodes::{Chosen, Gone, Kind, Node, Pick, Run};
 pub use poses::{Euler, Pose, View};
 pub use steps::Steps;
+pub use surfaces::Surface;
 pub use views::{Arrays, NodeView, SceneView};
 
 #[cfg(test)]

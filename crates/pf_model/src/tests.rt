@@ -63,7 +63,10 @@ fn short_lists(rt: HostRuntime) -> Result<(), Fail> {
     assert_eq!(rt; ids.at(1), Some(7));
     assert_eq!(rt; ids.at(2), None);
     ids.insert(2, 7)?;
-    assert_eq!(rt; ids.with_first_replaced(7, 9)?.as_slice(), [4, 9, 7].as_slice());
+    assert_eq!(rt;
+        ids.with_first_replaced(7, 9)?.as_slice(),
+        [4, 9, 7].as_slice()
+    );
     assert_eq!(rt; ids.without_first(7)?.as_slice(), [4, 7].as_slice());
     let mut serials = Serials::with_room(rt.alloc(), 2)?;
     serials.push(9);

@@ -3,6 +3,7 @@ use Rattle.std.proofs.Common.{◌≡◌, ℕ, zero, suc, ◌+◌, ◌*◌, List,
 use Rattle.std.specs.Prelude.{map, filter_map}
 use Rattle.std.specs.List.{flat_map, cons_option}
 use Rattle.std.specs.Option.{option_map_or, option_to_list, option_and_then}
+use Rattle.std.proofs.lemmas.List.{map-append}
 use Rattle.std.proofs.lemmas.List.Elements.{filter_map-append}
 use Rattle.pf_model.specs.declared.nodes.Node.{Node}
 use Rattle.pf_model.specs.Graphs.{Look}
@@ -16,10 +17,6 @@ unplaced e = instance_of e.0 e.1 0
 -- what occurrences draw, without places
 abbrev pub drawn : Look → List Occurrence → List Instance
 drawn look os = map unplaced (filter_map (surface_in look) os)
-
-map-append : {X Y : Type 0} (f : X → Y) (xs ys : List X) → map f (xs ++ ys) ≡ map f xs ++ map f ys
-map-append f [] ys = refl
-map-append {X} {Y} f (x ∷ xs) ys = ap (λ (zs : List Y). f x ∷ zs) (map-append f xs ys)
 
 drawn-append : (look : Look) (os ps : List Occurrence) → drawn look (os ++ ps) ≡ drawn look os ++ drawn look ps
 drawn-append look os ps = ap (map unplaced) (filter_map-append (surface_in look) os ps) ∙ map-append unplaced (filter_map (surface_in look) os) (filter_map (surface_in look) ps)

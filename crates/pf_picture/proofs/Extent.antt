@@ -2,10 +2,9 @@
 use Rattle.std.proofs.Common.{◌≡◌, ℕ, zero, suc, ◌+◌, ◌*◌, ◌<◌, ◌≤◌, ◌^◌, List, [], ◌∷◌, ◌++◌, length, take, get_or, Option, Some, None, option_map, refl, ap, sym, ◌∙◌, subst, arith, length-append, zero-add}
 use Rattle.std.specs.Prelude.{map, sum}
 use Rattle.std.specs.List.{flat_map, enumerate_from, slice_get, filter_map}
-use Rattle.std.proofs.lemmas.List.{length-map, take_more, take_all}
+use Rattle.std.proofs.lemmas.List.{length-map, map-append, take_more, take_all}
 use Rattle.std.proofs.lemmas.List.FromFn.{length-enumerate_from, get_or-enumerate_from}
 use Rattle.std.proofs.Math.ListN.{get_or-map}
-use Rattle.pf_picture.proofs.Zipped.{map-append_one}
 use Rattle.pf_picture.specs.declared.leaves.Leaf.{Leaf}
 use Rattle.std.specs.Option.{option_map_or, option_to_list}
 use Rattle.std.proofs.lemmas.List.Sums.{sum_by-cons}
@@ -19,7 +18,8 @@ use Rattle.pf_model.specs.Kinds.{Surface, surface_of, own_steps, decal}
 use Rattle.pf_model.specs.Limits.{KeepsLimits}
 use Rattle.pf_model.specs.Walks.{Instance, Occurrence, instance_of, instances, surface_in, shown_children, chosen_in, walk, scene_at, steps_of_view}
 use Rattle.pf_model.proofs.Levels.{size_step, size_at_limit}
-use Rattle.pf_picture.specs.Walking.{instance_of_leaf, own_drawn, drawn_at, drawn_in, placed, numbered}
+use Rattle.tri_cover.specs.Labels.{placed, renumbered}
+use Rattle.pf_picture.specs.Walking.{instance_of_leaf, alone, own_drawn, drawn_at, drawn_in}
 use Rattle.pf_picture.proofs.DrawnWalk.{drawn-walk, unplaced}
 
 sum-cons : (n : ℕ) (ns : List ℕ) → sum (n ∷ ns) ≡ n + sum ns
@@ -44,7 +44,7 @@ length-own : (id : ℕ) (steps : List Matrix) (shift : ℕ) (n : Node) → lengt
 length-own id steps shift n = by (surface_of n.kind)
   where
     unplaced_surface : Surface → Instance
-    unplaced_surface s = record { place = 0; id = id; state = s.state; tint = s.tint; shift = shift; steps = steps; tris = s.tris }
+    unplaced_surface s = instance_of (alone id steps shift) s 0
 
     by : (s : Option Surface) → length (option_to_list (option_map (λ (t : Surface). unplaced_surface t) s)) ≤ 1
     by None = omega arith
@@ -80,13 +80,13 @@ map-placed k [] = refl
 map-placed k (p ∷ ps) = ap (λ (xs : List Instance). instance_of p.0 p.1 k ∷ xs) (map-placed (k + 1) ps)
 
 -- the instances of pf_model's walk
-pub instances-numbered : (look : Look) (time : ℕ) (v : Viewpoint) → instances look time v ≡ numbered (drawn_in 32 look time 0 (steps_of_view v) 0)
-instances-numbered look time v = map-placed 0 (filter_map (surface_in look) (walk look time v)) ∙ ap numbered (drawn-walk 32 look time (scene_at (steps_of_view v)))
+pub instances-numbered : (look : Look) (time : ℕ) (v : Viewpoint) → instances look time v ≡ renumbered (drawn_in 32 look time 0 (steps_of_view v) 0)
+instances-numbered look time v = map-placed 0 (filter_map (surface_in look) (walk look time v)) ∙ ap renumbered (drawn-walk 32 look time (scene_at (steps_of_view v)))
 
 -- a loop that numbers leaves
 pub numbered_more : (leaves : List Leaf) (i : ℕ) (leaf : Leaf) → i < length leaves → leaf ≡ get_or leaves i leaf → map placed (take (i + 1) (enumerate_from 0 (map instance_of_leaf leaves))) ≡ map placed (take i (enumerate_from 0 (map instance_of_leaf leaves))) ++ placed (i, instance_of_leaf leaf) ∷ []
 numbered_more leaves i leaf l is =
-    ap (map placed) (take_more es i last within ∙ ap (λ (e : ℕ × Instance). take i es ++ e ∷ []) at) ∙ map-append_one placed (take i es) last
+    ap (map placed) (take_more es i last within ∙ ap (λ (e : ℕ × Instance). take i es ++ e ∷ []) at) ∙ map-append placed (take i es) (last ∷ [])
   where
     es : List (ℕ × Instance)
     es = enumerate_from 0 (map instance_of_leaf leaves)
@@ -108,5 +108,5 @@ numbered_more leaves i leaf l is =
         ∙ ap (λ (n : ℕ). numbered_at n (get_or (map instance_of_leaf leaves) i (instance_of_leaf leaf))) (zero-add i)
         ∙ ap (numbered_at i) (get_or-map instance_of_leaf leaves i leaf ∙ ap instance_of_leaf (sym is))
 
-pub numbered_all : (leaves : List Leaf) (n : ℕ) → length leaves ≤ n → map placed (take n (enumerate_from 0 (map instance_of_leaf leaves))) ≡ numbered (map instance_of_leaf leaves)
+pub numbered_all : (leaves : List Leaf) (n : ℕ) → length leaves ≤ n → map placed (take n (enumerate_from 0 (map instance_of_leaf leaves))) ≡ renumbered (map instance_of_leaf leaves)
 numbered_all leaves n l = ap (map placed) (take_all n (enumerate_from 0 (map instance_of_leaf leaves)) (omega (arith, l, length-map leaves instance_of_leaf, length-enumerate_from 0 (map instance_of_leaf leaves))))

@@ -1,11 +1,9 @@
-pub mod Carried
 pub mod Drawn
+pub mod DrawnWalk
 pub mod Extent
 pub mod Filled
 pub mod Folding
-pub mod DrawnWalk
 pub mod Ordered
-pub mod PlacesShown
 pub mod Seen
 pub mod Walked
 pub mod Zipped

@@ -1,4 +1,4 @@
--- A surface shows what its instance shows.
+-- A shape shows what its instance shows.
 use Rattle.std.proofs.Common.{◌≡◌, ℕ, ◌+◌, List, [], ◌∷◌, Option, option_map, refl, ap, ◌∙◌}
 use Rattle.std.specs.Prelude.{filter_map}
 use Rattle.std.specs.List.{enumerate_from, cons_option}
@@ -8,7 +8,7 @@ use Rattle.pf_model.specs.declared.geometry.Tri.{Tri}
 use Rattle.tri_cover.specs.declared.hit.Hit.{Hit}
 use Rattle.tri_cover.specs.Hits.{hit}
 use Rattle.tri_cover.specs.Picture as pictures
-use Rattle.pf_picture.specs.Surfaces.{AreCarried}
+use Rattle.pf_picture.specs.Shapes.{AreCarried}
 
 pub carried_fragments : (f : ℕ → Hit → pictures.Fragment) (lens : Lens) (px py : ℕ) (steps : List Matrix) (n : ℕ) (ts us : List Tri) → AreCarried steps ts us → filter_map (λ (e : ℕ × Tri). option_map (f e.0) (hit lens px py [] e.1)) (enumerate_from n us) ≡ filter_map (λ (e : ℕ × Tri). option_map (f e.0) (hit lens px py steps e.1)) (enumerate_from n ts)
 carried_fragments f lens px py steps n [] [] same = refl

@@ -3,6 +3,7 @@ use Rattle.std.proofs.Common.{◌≡◌, ℕ, zero, suc, ◌+◌, ◌-◌, ◌*�
 use Rattle.std.specs.Prelude.{slice_index}
 use Rattle.std.specs.List.{flat_map}
 use Rattle.std.specs.Option.{option_map_or}
+use Rattle.std.proofs.lemmas.List.{append-nil}
 use Rattle.std.proofs.lemmas.List.FromFn.{map-range_with_len_more}
 use Rattle.std.proofs.lemmas.List.Concat.{flat_map-append}
 use Rattle.fx_math.specs.Plain.{Matrix}
@@ -11,23 +12,19 @@ use Rattle.pf_model.specs.declared.nodes.Node.{Node}
 use Rattle.pf_model.specs.Graphs.{Look}
 use Rattle.pf_model.specs.Kinds.{own_steps, decal}
 use Rattle.pf_model.specs.Walks.{Instance, shown_children, chosen_in}
-use Rattle.pf_picture.specs.Places.{places, ArePlaces}
+use Rattle.pf_model.specs.ShownPlaces.{places, ArePlaces}
 use Rattle.pf_picture.specs.Walking.{own_drawn, drawn_at, drawn_in}
-
-pub append_nil : {X : Type 0} (xs : List X) → xs ≡ xs ++ []
-append_nil [] = refl
-append_nil {X} (x ∷ xs) = ap (λ (ys : List X). x ∷ ys) (append_nil xs)
 
 pub no_levels : (xs : List Instance) (levels : ℕ) (look : Look) (time id : ℕ) (steps : List Matrix) (shift : ℕ) → levels ≡ 0 → xs ≡ xs ++ drawn_in levels look time id steps shift
 unfolding drawn_in
-no_levels xs zero look time id steps shift e = append_nil xs
+no_levels xs zero look time id steps shift e = sym (append-nil xs)
 no_levels xs (suc n) look time id steps shift e = absurd (omega (arith, e))
 
 pub no_node : (xs : List Instance) (levels : ℕ) (look : Look) (time id : ℕ) (steps : List Matrix) (shift : ℕ) → None ≡ look id → xs ≡ xs ++ drawn_in levels look time id steps shift
 unfolding drawn_in
-no_node xs zero look time id steps shift e = append_nil xs
+no_node xs zero look time id steps shift e = sym (append-nil xs)
 no_node xs (suc n) look time id steps shift e =
-    append_nil xs ∙ ap (λ (o : Option Node). xs ++ option_map_or (drawn_at id time steps shift (drawn_in n look time)) o []) e
+    sym (append-nil xs) ∙ ap (λ (o : Option Node). xs ++ option_map_or (drawn_at id time steps shift (drawn_in n look time)) o []) e
 
 abbrev pair : ℕ → ℕ → ℕ × ℕ
 pair a b = (a, b)
@@ -49,7 +46,7 @@ one_more f start current next cs from place le so_far adds = adds ∙ ap (λ (xs
     len = omega (arith, le)
 
     one : flat_map f (last ∷ []) ≡ f last
-    one = sym (append_nil (f last))
+    one = append-nil (f last)
 
     more : places cs from (n + 1) ≡ places cs from n ++ last ∷ []
     more = map-range_with_len_more (λ (k : ℕ). pair k (slice_index cs k)) from n place (omega (arith, le))

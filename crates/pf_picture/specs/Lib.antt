@@ -1,9 +1,6 @@
 pub mod Drawings
-pub mod Eye
 pub mod Fragments
 pub mod Instances
-pub mod Panes
-pub mod Places
 pub mod Rows
-pub mod Surfaces
+pub mod Shapes
 pub mod Walking

@@ -10,7 +10,8 @@ colour_in lens back d px py = colour_of lens back px py d.opaque.items d.glass.i
 
 -- the first n rows have these colours
 abbrev pub ShowsRows : Pixmap → (ℕ → ℕ → List ℕ) → ℕ → Type 0
-ShowsRows image colour n = (px py : ℕ) → px < image.width → py < n → py < image.height → pixel image px py ≡ colour px py
+ShowsRows image colour n =
+    (px py : ℕ) → px < image.width → py < n → py < image.height → pixel image px py ≡ colour px py
 
 -- the first n pixels of a row have these colours, and the others are as they were
 pub record DrawsPixels (old new : Pixmap) (colour : ℕ → ℕ → List ℕ) (n py : ℕ) : Type 0 where

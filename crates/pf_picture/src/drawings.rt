@@ -1,22 +1,23 @@
 //! All that is drawn, in eye coordinates, and its colour at a pixel.
 ghost use Rattle.std.specs.Prelude.{◌≡◌, ◌<◌, map, IfOk, option_map};
-ghost use Rattle.pf_picture.specs.Drawings.{IsDrawingOf, AreSurfaces, ground_of, ground_colour, colour_of};
+ghost use Rattle.tri_cover.specs.Picture.{colour_under};
+ghost use Rattle.pf_picture.specs.Drawings.{IsDrawingOf, AreShapes, nearest_in, colour_of};
 ghost use Rattle.pf_picture.specs.Fragments.{fragment_of};
 ghost use Rattle.pf_picture.specs.Instances.{instance_of};
 
 use crate::fragments::Fragment;
 use crate::instances::Instance;
 use crate::panes::{far_to_near, opaque};
-use crate::surfaces::Surface;
+use crate::shapes::Shape;
 use fx_math::Lens;
 use pf_io::NoMemory;
 use std::alloc::Global;
 
-/// The surfaces of a list of instances: the opaque ones as they stand, and those of glass from far to near.
+/// The shapes of a list of instances: the opaque ones as they stand, and those of glass from far to near.
 #[derive(Drop)]
 pub(crate) struct Drawing {
-    opaque: Vec<Surface>,
-    glass: Vec<Surface>,
+    opaque: Vec<Shape>,
+    glass: Vec<Shape>,
 }
 
 impl Drawing {
@@ -25,42 +26,43 @@ impl Drawing {
     {
         let opaque = opaque(alloc, instances)?;
         let glass = far_to_near(alloc, instances)?;
-        let opaque = surfaces(alloc, &opaque)?;
-        let glass = surfaces(alloc, &glass)?;
+        let opaque = shapes(alloc, &opaque)?;
+        let glass = shapes(alloc, &glass)?;
         Ok(Drawing { opaque, glass })
     }
 
-    /// The nearest fragment of an opaque surface.
-    fn ground(&self, lens: &Lens, px: u16, py: u16) -> Option<Fragment>
+    /// The nearest fragment of an opaque shape.
+    fn nearest(&self, lens: &Lens, px: u16, py: u16) -> Option<Fragment>
         requires x { px < lens.now.w }
         requires y { py < lens.now.h }
-        ensures { option_map fragment_of result ≡ ground_of lens.now px py self.now.opaque.items }
+        ensures { option_map fragment_of result ≡ nearest_in lens.now px py self.now.opaque.items }
     {
         let mut nearest = None;
-        for surface in &self.opaque {
-            nearest = surface.nearest(nearest, lens, px, py);
+        for shape in &self.opaque {
+            nearest = shape.nearest(nearest, lens, px, py);
         }
         nearest
     }
 
-    /// The colour at a pixel: the ground's, or the background's where there is none, under the glass.
+    /// The colour at a pixel: that of the nearest opaque fragment, or of the background where there is none, under the
+    /// glass.
     pub(crate) fn colour(&self, lens: &Lens, back: [u8; 3], px: u16, py: u16) -> [u8; 3]
         requires x { px < lens.now.w }
         requires y { py < lens.now.h }
         ensures { result ≡ colour_of lens.now back px py self.now.opaque.items self.now.glass.items }
     {
-        let behind = self.ground(lens, px, py);
-        let mut colour = ground_colour(&behind, back);
-        for surface in &self.glass {
-            let glazed = surface.glazed(&behind, colour, lens, px, py);
+        let behind = self.nearest(lens, px, py);
+        let mut colour = colour_under(&behind, back);
+        for shape in &self.glass {
+            let glazed = shape.glazed(&behind, colour, lens, px, py);
             colour = glazed;
         }
         colour
     }
 }
 
-fn ground_colour(behind: &Option<Fragment>, back: [u8; 3]) -> [u8; 3]
-    ensures { result ≡ ground_colour back (option_map fragment_of behind.now) }
+fn colour_under(behind: &Option<Fragment>, back: [u8; 3]) -> [u8; 3]
+    ensures { result ≡ colour_under back (option_map fragment_of behind.now) }
 {
     match behind {
         Some(fragment) => fragment.colour,
@@ -68,12 +70,12 @@ fn ground_colour(behind: &Option<Fragment>, back: [u8; 3]) -> [u8; 3]
     }
 }
 
-fn surfaces(alloc: Global, instances: &[Instance]) -> Result<Vec<Surface>, NoMemory>
-    ensures { IfOk result (λ surfaces. AreSurfaces (map instance_of instances.now) surfaces.items) }
+fn shapes(alloc: Global, instances: &[Instance]) -> Result<Vec<Shape>, NoMemory>
+    ensures { IfOk result (λ shapes. AreShapes (map instance_of instances.now) shapes.items) }
 {
-    let mut surfaces = Vec::new(alloc);
+    let mut shapes = Vec::new(alloc);
     for instance in instances {
-        surfaces.push(Surface::new(alloc, instance)?)?;
+        shapes.push(Shape::new(alloc, instance)?)?;
     }
-    Ok(surfaces)
+    Ok(shapes)
 }

@@ -4,8 +4,8 @@ ghost use Rattle.tri_cover.specs.Picture as pictures;
 ghost use Rattle.tri_cover.specs.Glass.{blend, blended};
 ghost use Rattle.pf_picture.specs.Fragments.{key_of, fragment_of};
 
-/// What decides between hits at one pixel: the depth less the decal shift, the place of the instance and the number of the
-/// triangle in it.
+/// What decides between hits at one pixel: the depth less the decal shift, the place of the instance and the number of
+/// the triangle in it.
 #[derive(Clone, Copy)]
 pub(crate) struct Key {
     pub(crate) depth: u32,
@@ -37,7 +37,8 @@ impl Key {
 impl Fragment {
     /// The one of the lesser key; at equal keys `best`.
     pub(crate) fn nearer(best: Option<Fragment>, fragment: Fragment) -> Option<Fragment>
-        ensures { option_map fragment_of result ≡ pictures.nearer (option_map fragment_of best) (fragment_of fragment) }
+        ensures { option_map fragment_of result
+            ≡ pictures.nearer (option_map fragment_of best) (fragment_of fragment) }
     {
         match best {
             Some(nearest) if !fragment.key.is_less(&nearest.key) => Some(nearest),
@@ -45,7 +46,7 @@ impl Fragment {
         }
     }
 
-    /// Whether the fragment lies behind the ground.
+    /// Whether the fragment lies behind the opaque one that is drawn.
     fn is_hidden(&self, behind: &Option<Fragment>) -> bool
         ensures { result ≡ pictures.is_hidden (option_map fragment_of behind.now) (fragment_of self.now) }
     {

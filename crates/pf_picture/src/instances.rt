@@ -19,4 +19,6 @@ pub struct Instance<'a> {
     pub steps: &'a [Affine],
     /// Its triangles, in its own coordinates.
     pub tris: &'a [Tri],
+    /// How far it is: glass of a greater number is drawn before glass of a lesser one.
+    pub far: u64,
 }

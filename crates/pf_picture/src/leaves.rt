@@ -11,4 +11,5 @@ pub(crate) struct Leaf<'a> {
     pub(crate) shift: u32,
     pub(crate) steps: Vec<Affine>,
     pub(crate) tris: &'a [Tri],
+    pub(crate) far: u64,
 }

@@ -3,16 +3,13 @@
 
 mod distances;
 mod drawings;
-mod eye;
 mod fragments;
-pub mod instances;
+mod instances;
 mod leaves;
 mod numbers;
-mod pane;
 mod panes;
-pub mod renderer;
-mod step_lists;
-mod surfaces;
+mod renderer;
+mod shapes;
 mod walk;
 
 pub use instances::Instance;

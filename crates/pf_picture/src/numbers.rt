@@ -1,7 +1,8 @@
 //! The geodes that a walk met, numbered.
 ghost use Rattle.std.specs.Prelude.{◌≡◌, ◌<◌, ◌^◌, length, map, IfOk};
 ghost use Rattle.pf_picture.specs.Instances.{instance_of};
-ghost use Rattle.pf_picture.specs.Walking.{instance_of_leaf, placed, numbered};
+ghost use Rattle.tri_cover.specs.Labels.{placed, renumbered};
+ghost use Rattle.pf_picture.specs.Walking.{instance_of_leaf};
 
 use crate::instances::Instance;
 use crate::leaves::Leaf;
@@ -14,7 +15,7 @@ pub(crate) fn numbered<'a>(
     leaves: &'a [Leaf<'a>],
 ) -> Result<Vec<Instance<'a>>, NoMemory>
     requires { length leaves.now < 2 ^ 32 }
-    ensures { IfOk result (λ xs. map instance_of xs.items ≡ numbered (map instance_of_leaf leaves.now)) }
+    ensures { IfOk result (λ xs. map instance_of xs.items ≡ renumbered (map instance_of_leaf leaves.now)) }
 {
     let mut instances = Vec::new(alloc);
     for (place, leaf) in leaves.iter().enumerate() {
@@ -34,5 +35,6 @@ fn instance_at<'a>(place: u32, leaf: &'a Leaf<'a>) -> Instance<'a>
         shift: leaf.shift,
         steps: &leaf.steps,
         tris: leaf.tris,
+        far: leaf.far,
     }
 }

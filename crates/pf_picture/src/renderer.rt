@@ -10,7 +10,6 @@ ghost use Rattle.pf_picture.specs.Rows.{DrawsRow, colour_in};
 use crate::drawings::Drawing;
 use crate::instances::Instance;
 use crate::numbers::numbered;
-use crate::step_lists::view_steps;
 use crate::walk::walk;
 use fx_math::Lens;
 use pf_io::NoMemory;
@@ -21,8 +20,8 @@ use std::alloc::Global;
 /// The nodes on the longest chain of a scene within the limits.
 const LEVELS: u32 = 32;
 
-/// The picture of a list of instances before a background: of the size of the lens, at each pixel the nearest triangle of
-/// the opaque instances under those of glass.
+/// The picture of a list of instances before a background: of the size of the lens, at each pixel the nearest triangle
+/// of the opaque instances under those of glass, which are drawn by falling `far`, then by rising `place`.
 pub fn draw_instances(
     alloc: Global,
     instances: &[Instance],
@@ -39,8 +38,8 @@ pub fn draw_instances(
     Ok(image)
 }
 
-/// The picture of a scene at a time, for a view and before a background: that of the whole walk, every triangle at every
-/// pixel. The scene is within the limits, the starts of its sequences aside.
+/// The picture of a scene at a time, for a view and before a background: that of the whole walk, every triangle at
+/// every pixel. The scene is within the limits, the starts of its sequences aside.
 pub fn draw_plain<V: NodeView>(
     alloc: Global,
     scene: &V,
@@ -52,11 +51,11 @@ pub fn draw_plain<V: NodeView>(
     requires { KeepsLimits (V.look scene.now) }
     ensures width { IfOk result (λ image. image.width ≡ lens.now.w) }
     ensures height { IfOk result (λ image. image.height ≡ lens.now.h) }
-    ensures pixels { IfOk result (λ image. Shows image (picture lens.now back (instances (V.look scene.now) time view.now))) }
+    ensures pixels { IfOk result (λ image.
+        Shows image (picture lens.now back (instances (V.look scene.now) time view.now))) }
 {
-    let steps = view_steps(alloc, view)?;
     let mut leaves = Vec::new(alloc);
-    walk(alloc, scene, time, LEVELS, 0, &steps, 0, &mut leaves)?;
+    walk(alloc, scene, time, LEVELS, 0, &view.steps(), 0, &mut leaves)?;
     let instances = numbered(alloc, &leaves)?;
     let image = draw_instances(alloc, &instances, lens, back)?;
     Ok(image)

@@ -33,18 +33,20 @@ fn opaque<'a>(place: u32, tris: &'a [Tri]) -> Instance<'a> {
         shift: 0,
         steps: &[],
         tris,
+        far: 0,
     }
 }
 
-fn glass<'a>(place: u32, alpha: u8, tris: &'a [Tri]) -> Instance<'a> {
+fn glass<'a>(place: u32, far: u64, tris: &'a [Tri]) -> Instance<'a> {
     Instance {
         place,
         id: 1,
         state: 0,
-        tint: Some(alpha),
+        tint: Some(128),
         shift: 0,
         steps: &[],
         tris,
+        far,
     }
 }
 
@@ -93,6 +95,7 @@ fn a_decal_is_nearer(rt: HostRuntime) -> Result<(), Fail> {
         shift: 16,
         steps: &[],
         tris: &blue,
+        far: 0,
     };
     shows(&rt, rt.alloc(), &[opaque(0, &red), decal], [0, 0, 255])
 }
@@ -110,12 +113,13 @@ fn steps_carry_to_the_eye(rt: HostRuntime) -> Result<(), Fail> {
         shift: 0,
         steps: &steps,
         tris: &red,
+        far: 0,
     };
     shows(&rt, rt.alloc(), &[opaque(0, &blue), moved], [255, 0, 0])
 }
 
 #[test]
-fn glass_over_ground(rt: HostRuntime) -> Result<(), Fail> {
+fn glass_over_an_opaque_triangle(rt: HostRuntime) -> Result<(), Fail> {
     let red = [facing(4096, [255, 0, 0])?];
     let near = [facing(2048, [0, 0, 255])?];
     let level = [facing(4096, [0, 0, 255])?];
@@ -123,19 +127,19 @@ fn glass_over_ground(rt: HostRuntime) -> Result<(), Fail> {
     shows(
         &rt,
         rt.alloc(),
-        &[opaque(0, &red), glass(1, 128, &near)],
+        &[opaque(0, &red), glass(1, 9, &near)],
         [127, 0, 128],
     )?;
     shows(
         &rt,
         rt.alloc(),
-        &[opaque(0, &red), glass(1, 128, &level)],
+        &[opaque(0, &red), glass(1, 9, &level)],
         [127, 0, 128],
     )?;
     shows(
         &rt,
         rt.alloc(),
-        &[opaque(0, &red), glass(1, 128, &behind)],
+        &[opaque(0, &red), glass(1, 9, &behind)],
         [255, 0, 0],
     )
 }
@@ -147,7 +151,7 @@ fn two_panes_from_far_to_near(rt: HostRuntime) -> Result<(), Fail> {
     shows(
         &rt,
         rt.alloc(),
-        &[glass(0, 128, &green), glass(1, 128, &blue)],
+        &[glass(0, 4, &green), glass(1, 64, &blue)],
         [1, 132, 70],
     )
 }

@@ -1,16 +1,14 @@
 //! The walk of a scene through its shown children.
 ghost use Rattle.std.specs.Prelude.{◌≡◌, ◌+◌, ◌*◌, ◌^◌, ◌<◌, ◌++◌, map, OnOk, IfOk};
-ghost use Rattle.fx_math.specs.Views.{matrix_of, point_of};
-ghost use Rattle.pf_model.specs.Kinds.{centre_of, decal};
+ghost use Rattle.fx_math.specs.Views.{matrix_of};
+ghost use Rattle.pf_model.specs.Kinds.{own_steps};
 ghost use Rattle.pf_picture.specs.Walking.{instance_of_leaf, own_drawn, drawn_in};
-ghost use Rattle.pf_picture.specs.Places.{ArePlaces};
 
-use crate::eye::carried_point;
+use crate::distances::distance;
 use crate::leaves::Leaf;
-use crate::step_lists::steps_below;
-use fx_math::{Affine, Vec3};
+use fx_math::Affine;
 use pf_io::NoMemory;
-use pf_model::{Chosen, Kind, Node, NodeView, chosen_children};
+use pf_model::{Kind, Node, NodeView, carried_point, chosen_children};
 use std::alloc::Global;
 
 /// Appends the geodes at and below a node, in order and depth first, with at most so many levels. `steps` lead from the
@@ -37,11 +35,13 @@ pub(crate) fn walk<'a, V: NodeView>(
     };
     push_surface(alloc, node, id, steps, shift, leaves)?;
     let below = steps_below(alloc, &node.kind, steps)?;
-    let chosen = chosen_children(node, carried_point(centre(&node.kind), steps), time);
+    let centre = carried_point(node.kind.centre(), steps);
+    let chosen = chosen_children(node, centre, time);
     let children = node.children.as_slice();
-    let (from, to) = shown_places(chosen, children.len());
+    let shown = chosen.shown_places(children.len());
+    let (from, to) = (shown.start, shown.end);
     for place in from..to {
-        let nearer = shift + decal(&node.kind) * place as u32;
+        let nearer = shift + node.kind.decal() * place as u32;
         walk(
             alloc,
             scene,
@@ -56,39 +56,6 @@ pub(crate) fn walk<'a, V: NodeView>(
     Ok(())
 }
 
-/// The centre of a level of detail.
-fn centre(kind: &Kind) -> Vec3
-    ensures { point_of result ≡ centre_of kind.now }
-{
-    match kind {
-        Kind::Lod { centre, .. } => *centre,
-        _ => Vec3::ORIGIN,
-    }
-}
-
-/// How much nearer each place of a node is drawn than the place before it.
-fn decal(kind: &Kind) -> u32
-    ensures value { result ≡ decal kind.now }
-    ensures bound { result < 17 }
-{
-    match kind {
-        Kind::Layer => 16,
-        _ => 0,
-    }
-}
-
-/// The places of the chosen ones of so many children: from the first to before the second.
-fn shown_places(chosen: Chosen, children: usize) -> (usize, usize)
-    ensures { ArePlaces chosen children result.0 result.1 }
-{
-    match chosen {
-        Chosen::All => (0, children),
-        Chosen::Nothing => (0, 0),
-        Chosen::One(place) if (place as usize) < children => (place as usize, place as usize + 1),
-        Chosen::One(_) => (0, 0),
-    }
-}
-
 /// Appends what a node itself draws.
 fn push_surface<'a>(
     alloc: Global,
@@ -101,33 +68,29 @@ fn push_surface<'a>(
     ensures { OnOk result (map instance_of_leaf leaves.new.items ≡ map instance_of_leaf leaves.old.items
         ++ own_drawn id (map matrix_of steps.now) shift node.now) }
 {
-    match &node.kind {
-        Kind::Geode { state, geom } => {
-            let steps = copied(alloc, steps)?;
-            leaves.push(Leaf {
-                id,
-                state: *state,
-                tint: None,
-                shift,
-                steps,
-                tris: geom.as_slice(),
-            })?;
-            Ok(())
-        }
-        Kind::Glass { state, alpha, geom } => {
-            let steps = copied(alloc, steps)?;
-            leaves.push(Leaf {
-                id,
-                state: *state,
-                tint: Some(*alpha),
-                shift,
-                steps,
-                tris: geom.as_slice(),
-            })?;
-            Ok(())
-        }
-        _ => Ok(()),
-    }
+    let Some(surface) = node.kind.surface() else {
+        return Ok(());
+    };
+    let tris = surface.geom.as_slice();
+    leaves.push(Leaf {
+        id,
+        state: surface.state,
+        tint: surface.tint,
+        shift,
+        steps: copied(alloc, steps)?,
+        tris,
+        far: distance(surface.tint, steps, tris),
+    })?;
+    Ok(())
+}
+
+/// The steps from a node's children to the eye, where `above` are those from the node's own coordinates.
+fn steps_below(alloc: Global, kind: &Kind, above: &[Affine]) -> Result<Vec<Affine>, NoMemory>
+    ensures { IfOk result (λ s. map matrix_of s.items ≡ own_steps kind.now ++ map matrix_of above.now) }
+{
+    let mut steps = kind.steps(alloc)?;
+    steps.extend_from_slice(above)?;
+    Ok(steps)
 }
 
 fn copied(alloc: Global, steps: &[Affine]) -> Result<Vec<Affine>, NoMemory>

@@ -1,6 +1,9 @@
 use super::*;
 use fx_math::Vec3;
-use pf_model::{Chosen, Edit, EditError, Euler, Fault, Geom, Kind, NodeView, Pick, Pose, Run, Times, Tri, chosen_children};
+use pf_model::{
+    Chosen, Edit, EditError, Euler, Fault, Geom, Kind, NodeView, Pick, Pose, Run, Times, Tri,
+    chosen_children,
+};
 use std::alloc::{AllocError, Global};
 use std::process::Abort;
 use std::test::Fail;

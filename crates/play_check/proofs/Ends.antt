@@ -1,224 +1,148 @@
--- Where the greedy order ends, no order goes further.
-use Rattle.std.proofs.Common.{◌≡◌, ◌==◌, ℕ, zero, suc, ◌+◌, ◌<◌, ◌≤◌, nat_le, max, Bool, true, false, cond, inl, inr, List, [], ◌∷◌, map, length, Option, Some, None, refl, ap, arith}
-use Rattle.std.proofs.lemmas.Option.{same_Some, cond_some}
-use Rattle.std.proofs.lemmas.Bool.{leb-true, le-leb}
-use Rattle.pf_model.specs.declared.lines.AppStep.{AppStep}
-use Rattle.pf_model.specs.declared.lines.AppStep.TheVariants as app_step
+-- Where both callers stand, no order goes further.
+use Rattle.std.proofs.Common.{◌≡◌, ◌==◌, ℕ, zero, suc, false, ◌+◌, ◌<◌, ◌≤◌, inl, inr, List, [], ◌∷◌, ◌++◌, length, Option, None, refl, sym, ap, subst, arith}
+use Rattle.std.proofs.lemmas.List.{map-append, length-map}
 use Rattle.pf_model.specs.declared.lines.AppLine.{AppLine}
-use Rattle.pf_model.specs.declared.lines.BaseStep.{BaseStep}
-use Rattle.pf_model.specs.declared.lines.BaseStep.TheVariants as base_step
 use Rattle.pf_model.specs.declared.lines.BaseLine.{BaseLine}
-use Rattle.pf_history.specs.Asks.{asked_app, asked_dbase, asked_from, asked_base_from}
-use Rattle.play_check.specs.Stuck.{Pause, wait_before, waits_of, await_before, awaits_of, CanPassWait, CanPassAwait, IsSomeBarred, IsStuck, IsFirstBarred, AreStuckLines}
-use Rattle.play_check.specs.Turns.{frames_begun, merges_made, GoesOn, Stands, BaseGoesOn, BaseStands, line_at, base_line_at}
-use Rattle.play_check.specs.Orders.{frames_within, merges_within}
+use Rattle.pf_history.specs.Asks.{asked_app, asked_dbase}
+use Rattle.play_check.specs.Lines.{Given, Gives, Waits, Mark, app_given, base_given, app_marks, base_marks, total, passed, Stands, line_at}
+use Rattle.play_check.specs.Orders.{app_dues, base_dues, within}
+use Rattle.play_check.specs.Stuck.{Pause, pause_before, pauses_of, CanPassWait, CanPassAwait, IsSomeBarred, IsStuck, IsFirstBarred, AreStuckLines}
+use Rattle.play_check.specs.Laws.{WaitingLaw}
+use Rattle.play_check.proofs.Dues.{givens, Yields, app_yields, base_yields, waits_more, most_added}
 use Rattle.play_check.proofs.Orders.{no_further}
-use Rattle.play_check.proofs.Walks.{WalkedLines}
-
--- What waits for more is asked for in vain
-
-cond_zero : (b : Bool) → cond {A = ℕ} b 0 0 ≡ 0
-cond_zero true = refl
-cond_zero false = refl
-
-uncounted : (need most n : ℕ) → most < need → cond (nat_le need most) n 0 ≡ 0
-uncounted need most n far = by (nat_le need most) refl
-  where
-    by : (b : Bool) → nat_le need most ≡ b → cond b n 0 ≡ 0
-    by true e = absurd (omega (arith, leb-true need most e, far))
-    by false e = refl
-
-far_frames : (most need : ℕ) (synced : Bool) (steps : List AppStep) → most < need → frames_within most (asked_from need synced steps) ≡ 0
-far_frames most need synced [] far = omega (arith, uncounted need most 0 far)
-far_frames most need synced (app_step.Edit e ∷ steps) far = omega (arith, uncounted need most 0 far, far_frames most need synced steps far)
-far_frames most need synced (app_step.View channel v ∷ steps) far = omega (arith, uncounted need most 0 far, far_frames most need synced steps far)
-far_frames most need synced (app_step.Sync ∷ steps) far = omega (arith, uncounted need most 0 far, far_frames most need true steps far)
-far_frames most need true (app_step.Frame ∷ steps) far = omega (arith, uncounted need most 1 far, far_frames most need false steps far)
-far_frames most need false (app_step.Frame ∷ steps) far =
-    omega (arith, uncounted need most 0 far, uncounted need most 1 far, far_frames most need false steps far)
-far_frames most need synced (app_step.Wait n ∷ steps) far =
-    let further : most < max need n = omega (arith, far) in
-    far_frames most (max need n) synced steps further
-
-far_merges : (most need : ℕ) (since steps : List BaseStep) → most < need → merges_within most (asked_base_from need since steps) ≡ 0
-far_merges most need since [] far = refl
-far_merges most need since (base_step.Buffer ∷ steps) far = far_merges most need [] steps far
-far_merges most need since (base_step.Edit e ∷ steps) far = far_merges most need _ steps far
-far_merges most need since (base_step.Ask e ∷ steps) far = far_merges most need _ steps far
-far_merges most need since (base_step.Merge ∷ steps) far = omega (arith, uncounted need most 1 far, far_merges most need [] steps far)
-far_merges most need since (base_step.Await k ∷ steps) far =
-    let further : most < max need k = omega (arith, far) in
-    far_merges most (max need k) since steps further
+use Rattle.play_check.proofs.Walks.{Walked}
 
 -- A caller that stands
 
--- a step that does not go on is a wait for more
-waits_more : (n most : ℕ) → cond {A = Option ℕ} (nat_le n most) (Some 0) None ≡ None → most < n
-waits_more n most h = by (nat_le n most) refl h
-  where
-    by : (b : Bool) → nat_le n most ≡ b → cond {A = Option ℕ} b (Some 0) None ≡ None → most < n
-    by true e none = absurd (cc)
-    by false e none = below (le-leb n most) e
-      where
-        below : (n ≤ most → nat_le n most ≡ true) → nat_le n most ≡ false → most < n
-        below le e = grind (arith, le, e)
-
-stands_frames : (merges need : ℕ) (synced : Bool) (lines : List AppLine) → Stands merges lines → frames_within merges (asked_from need synced (map (λ l. l.step) lines)) ≡ 0
-stands_frames merges need synced [] h = omega (arith, cond_zero (nat_le need merges))
-stands_frames merges need synced (l ∷ ls) h = by l.step (map (λ l. l.step) ls) h
-  where
-    by : (step : AppStep) (steps : List AppStep) → frames_begun merges step ≡ None → frames_within merges (asked_from need synced (step ∷ steps)) ≡ 0
-    by (app_step.Wait n) steps none =
-        let more : merges < n = waits_more n merges none in
-        let far : merges < max need n = omega (arith, more) in
-        far_frames merges (max need n) synced steps far
-    by (app_step.Edit e) steps none = absurd (cc)
-    by (app_step.View channel v) steps none = absurd (cc)
-    by app_step.Sync steps none = absurd (cc)
-    by app_step.Frame steps none = absurd (cc)
-
-stands_merges : (frames need : ℕ) (since : List BaseStep) (lines : List BaseLine) → BaseStands frames lines → merges_within frames (asked_base_from need since (map (λ l. l.step) lines)) ≡ 0
-stands_merges frames need since [] h = refl
-stands_merges frames need since (l ∷ ls) h = by l.step (map (λ l. l.step) ls) h
-  where
-    by : (step : BaseStep) (steps : List BaseStep) → merges_made frames step ≡ None → merges_within frames (asked_base_from need since (step ∷ steps)) ≡ 0
-    by (base_step.Await k) steps none =
-        let more : frames < k = waits_more k frames none in
-        let far : frames < max need k = omega (arith, more) in
-        far_merges frames (max need k) since steps far
-    by (base_step.Edit e) steps none = absurd (cc)
-    by (base_step.Ask e) steps none = absurd (cc)
-    by base_step.Buffer steps none = absurd (cc)
-    by base_step.Merge steps none = absurd (cc)
-
 -- the pause at which a caller stands is the first that cannot be passed
-stands_first : (CanPass : Pause → Type 0) (merges : ℕ) (lines : List AppLine) → Stands merges lines → ((p : Pause) → merges < p.count → ¬ CanPass p) → IsFirstBarred CanPass (waits_of lines) (line_at lines)
-stands_first CanPass merges [] h barred = refl
-stands_first CanPass merges (l ∷ ls) h barred = by l.line l.step (waits_of ls) h
+stands_first : (Passable : Pause → Type 0) (count : ℕ) (left : List Mark) → Stands count left → ((p : Pause) → count < p.count → ¬ Passable p) → IsFirstBarred Passable (pauses_of left) (line_at left)
+stands_first Passable count [] h barred = refl
+stands_first Passable count (m ∷ ms) h barred = by m.line m.given h
   where
-    by : (line : ℕ) (step : AppStep) (pauses : List Pause) → frames_begun merges step ≡ None → IsFirstBarred CanPass (wait_before line step pauses) line
-    by line (app_step.Wait n) pauses none = inr (barred (record { line = line; count = n }) (waits_more n merges none), refl)
-    by line (app_step.Edit e) pauses none = absurd (cc)
-    by line (app_step.View channel v) pauses none = absurd (cc)
-    by line app_step.Sync pauses none = absurd (cc)
-    by line app_step.Frame pauses none = absurd (cc)
-
-base_stands_first : (CanPass : Pause → Type 0) (frames : ℕ) (lines : List BaseLine) → BaseStands frames lines → ((p : Pause) → frames < p.count → ¬ CanPass p) → IsFirstBarred CanPass (awaits_of lines) (base_line_at lines)
-base_stands_first CanPass frames [] h barred = refl
-base_stands_first CanPass frames (l ∷ ls) h barred = by l.line l.step (awaits_of ls) h
-  where
-    by : (line : ℕ) (step : BaseStep) (pauses : List Pause) → merges_made frames step ≡ None → IsFirstBarred CanPass (await_before line step pauses) line
-    by line (base_step.Await k) pauses none = inr (barred (record { line = line; count = k }) (waits_more k frames none), refl)
-    by line (base_step.Edit e) pauses none = absurd (cc)
-    by line (base_step.Ask e) pauses none = absurd (cc)
-    by line base_step.Buffer pauses none = absurd (cc)
-    by line base_step.Merge pauses none = absurd (cc)
+    by : (line : ℕ) (g : Given) → passed count g ≡ None → IsFirstBarred Passable (pause_before line g (pauses_of ms)) line
+    by line (Waits n) none = inr (barred (record { line = line; count = n }) (waits_more n count none), refl)
+    by line (Gives n) none = absurd (cc)
 
 -- a caller that stands and is not over stands at a pause that cannot be passed
-stands_barred : (CanPass : Pause → Type 0) (merges : ℕ) (lines : List AppLine) → 0 < length lines → Stands merges lines → ((p : Pause) → merges < p.count → ¬ CanPass p) → IsSomeBarred CanPass (waits_of lines)
-stands_barred CanPass merges [] some h barred = absurd (omega (arith, some))
-stands_barred CanPass merges (l ∷ ls) some h barred = by l.line l.step (waits_of ls) h
+stands_barred : (Passable : Pause → Type 0) (count : ℕ) (left : List Mark) → 0 < length left → Stands count left → ((p : Pause) → count < p.count → ¬ Passable p) → IsSomeBarred Passable (pauses_of left)
+stands_barred Passable count [] some h barred = absurd (omega (arith, some))
+stands_barred Passable count (m ∷ ms) some h barred = by m.line m.given h
   where
-    by : (line : ℕ) (step : AppStep) (pauses : List Pause) → frames_begun merges step ≡ None → IsSomeBarred CanPass (wait_before line step pauses)
-    by line (app_step.Wait n) pauses none = inl (barred (record { line = line; count = n }) (waits_more n merges none))
-    by line (app_step.Edit e) pauses none = absurd (cc)
-    by line (app_step.View channel v) pauses none = absurd (cc)
-    by line app_step.Sync pauses none = absurd (cc)
-    by line app_step.Frame pauses none = absurd (cc)
+    by : (line : ℕ) (g : Given) → passed count g ≡ None → IsSomeBarred Passable (pause_before line g (pauses_of ms))
+    by line (Waits n) none = inl (barred (record { line = line; count = n }) (waits_more n count none))
+    by line (Gives n) none = absurd (cc)
 
-base_stands_barred : (CanPass : Pause → Type 0) (frames : ℕ) (lines : List BaseLine) → 0 < length lines → BaseStands frames lines → ((p : Pause) → frames < p.count → ¬ CanPass p) → IsSomeBarred CanPass (awaits_of lines)
-base_stands_barred CanPass frames [] some h barred = absurd (omega (arith, some))
-base_stands_barred CanPass frames (l ∷ ls) some h barred = by l.line l.step (awaits_of ls) h
+no_pause : (Passable : Pause → Type 0) (left : List Mark) → length left ≡ 0 → IsSomeBarred Passable (pauses_of left) → ⊥
+no_pause Passable [] none h = h
+no_pause Passable (m ∷ ms) none h = absurd (omega (arith, none))
+
+-- pauses behind others
+barred_behind : (Passable : Pause → Type 0) (done left : List Mark) → IsSomeBarred Passable (pauses_of left) → IsSomeBarred Passable (pauses_of (done ++ left))
+barred_behind Passable [] left h = h
+barred_behind Passable (m ∷ ms) left h = by m.line m.given (barred_behind Passable ms left h)
   where
-    by : (line : ℕ) (step : BaseStep) (pauses : List Pause) → merges_made frames step ≡ None → IsSomeBarred CanPass (await_before line step pauses)
-    by line (base_step.Await k) pauses none = inl (barred (record { line = line; count = k }) (waits_more k frames none))
-    by line (base_step.Edit e) pauses none = absurd (cc)
-    by line (base_step.Ask e) pauses none = absurd (cc)
-    by line base_step.Buffer pauses none = absurd (cc)
-    by line base_step.Merge pauses none = absurd (cc)
+    by : (line : ℕ) (g : Given) → IsSomeBarred Passable (pauses_of (ms ++ left)) → IsSomeBarred Passable (pause_before line g (pauses_of (ms ++ left)))
+    by line (Gives n) h = h
+    by line (Waits n) h = inr h
 
--- Where both callers stand
+-- Two sections, each over or waiting for more than the other gives before it.
+
+pub record Halted (app : List AppLine) (dbase : List BaseLine) (app_left dbase_left : List Mark) (frames merges : ℕ) : Type 0 where
+  pub app_done : List Mark
+  pub base_done : List Mark
+  pub app_parts : app_marks app ≡ app_done ++ app_left
+  pub base_parts : base_marks dbase ≡ base_done ++ dbase_left
+  pub frames_given : total app_done ≤ frames
+  pub merges_given : total base_done ≤ merges
+  pub app_stands : Stands merges app_left
+  pub base_stands : Stands frames dbase_left
+
+record AreBarred (app : List AppLine) (dbase : List BaseLine) (frames merges : ℕ) : Type 0 where
+  waits : (p : Pause) → merges < p.count → ¬ CanPassWait app dbase p
+  awaits : (p : Pause) → frames < p.count → ¬ CanPassAwait app dbase p
+
+barred : (app : List AppLine) (dbase : List BaseLine) (app_left dbase_left : List Mark) (frames merges : ℕ) → Halted app dbase app_left dbase_left frames merges → AreBarred app dbase frames merges
+barred app dbase app_left dbase_left frames merges h =
+    let app_asks : Yields 0 (givens (h.app_done ++ app_left)) (app_dues (asked_app app)) = subst (λ (ms : List Mark). Yields 0 (givens ms) (app_dues (asked_app app))) h.app_parts (app_yields 0 false app) in
+    let base_asks : Yields 0 (givens (h.base_done ++ dbase_left)) (base_dues (asked_dbase dbase)) = subst (λ (ms : List Mark). Yields 0 (givens ms) (base_dues (asked_dbase dbase))) h.base_parts (base_yields 0 [] dbase) in
+    let app_most = most_added merges 0 h.app_done app_left (app_dues (asked_app app)) h.app_stands app_asks in
+    let base_most = most_added frames 0 h.base_done dbase_left (base_dues (asked_dbase dbase)) h.base_stands base_asks in
+    let frames_all : within merges (app_dues (asked_app app)) ≤ frames = omega (arith, app_most, h.frames_given) in
+    let merges_all : within frames (base_dues (asked_dbase dbase)) ≤ merges = omega (arith, base_most, h.merges_given) in
+    record {
+      waits = λ p more can. let most = no_further app dbase frames merges frames_all merges_all can.order can.end can.is_order in omega (arith, most.1, can.enough, more);
+      awaits = λ p more can. let most = no_further app dbase frames merges frames_all merges_all can.order can.end can.is_order in omega (arith, most.0, can.enough, more);
+    }
+
+halted_stuck : (app : List AppLine) (dbase : List BaseLine) (app_left dbase_left : List Mark) (frames merges : ℕ) → Halted app dbase app_left dbase_left frames merges → 0 < length app_left + length dbase_left → IsStuck app dbase
+halted_stuck app dbase app_left dbase_left frames merges h some = which (length app_left) refl
+  where
+    bars : AreBarred app dbase frames merges
+    bars = barred app dbase app_left dbase_left frames merges h
+
+    which : (n : ℕ) → length app_left ≡ n → IsStuck app dbase
+    which zero e =
+        let base_some : 0 < length dbase_left = omega (arith, e, some) in
+        let behind = barred_behind (CanPassAwait app dbase) h.base_done dbase_left (stands_barred (CanPassAwait app dbase) frames dbase_left base_some h.base_stands bars.awaits) in
+        inr (subst (λ (ms : List Mark). IsSomeBarred (CanPassAwait app dbase) (pauses_of ms)) (sym h.base_parts) behind)
+    which (suc n) e =
+        let app_some : 0 < length app_left = omega (arith, e) in
+        let behind = barred_behind (CanPassWait app dbase) h.app_done app_left (stands_barred (CanPassWait app dbase) merges app_left app_some h.app_stands bars.waits) in
+        inl (subst (λ (ms : List Mark). IsSomeBarred (CanPassWait app dbase) (pauses_of ms)) (sym h.app_parts) behind)
+
+pub app_length : (lines : List AppLine) → length (app_marks lines) ≡ length lines
+app_length lines = length-map lines _
+
+pub base_length : (lines : List BaseLine) → length (base_marks lines) ≡ length lines
+base_length lines = length-map lines _
+
+-- Where both callers wait, or one waits and the other is over, the play is stuck.
+pub waiting : WaitingLaw
+waiting app_passed app_left dbase_passed dbase_left frames merges frames_given merges_given app_stands base_stands some =
+    let left : 0 < length (app_marks app_left) + length (base_marks dbase_left) = omega (arith, app_length app_left, base_length dbase_left, some) in
+    halted_stuck (app_passed ++ app_left) (dbase_passed ++ dbase_left) (app_marks app_left) (base_marks dbase_left) frames merges
+    (record {
+      app_done = app_marks app_passed;
+      base_done = base_marks dbase_passed;
+      app_parts = map-append _ app_passed app_left;
+      base_parts = map-append _ dbase_passed dbase_left;
+      frames_given = frames_given;
+      merges_given = merges_given;
+      app_stands = app_stands;
+      base_stands = base_stands;
+    })
+    left
 
 -- What holds where both callers of the greedy order stand.
-pub record Ended (app : List AppLine) (dbase : List BaseLine) (app_left : List AppLine) (dbase_left : List BaseLine) : Type 0 where
-  pub lines : AreStuckLines app dbase (line_at app_left) (base_line_at dbase_left)
+pub record Ended (app : List AppLine) (dbase : List BaseLine) (app_left dbase_left : List Mark) : Type 0 where
+  pub lines : AreStuckLines app dbase (line_at app_left) (line_at dbase_left)
   pub stuck : 0 < length app_left + length dbase_left → IsStuck app dbase
   pub passes : length app_left ≡ 0 → length dbase_left ≡ 0 → IsStuck app dbase → ⊥
 
-no_pause : (CanPass : Pause → Type 0) (lines : List AppLine) → length lines ≡ 0 → IsSomeBarred CanPass (waits_of lines) → ⊥
-no_pause CanPass [] none h = h
-no_pause CanPass (l ∷ ls) none h = absurd (omega (arith, none))
-
-no_base_pause : (CanPass : Pause → Type 0) (lines : List BaseLine) → length lines ≡ 0 → IsSomeBarred CanPass (awaits_of lines) → ⊥
-no_base_pause CanPass [] none h = h
-no_base_pause CanPass (l ∷ ls) none h = absurd (omega (arith, none))
-
-pub ended : (app : List AppLine) (dbase : List BaseLine) (app_left : List AppLine) (dbase_left : List BaseLine) (frames merges : ℕ) → WalkedLines app dbase app_left dbase_left frames merges → Stands merges app_left → BaseStands frames dbase_left → Ended app dbase app_left dbase_left
+pub ended : (app : List AppLine) (dbase : List BaseLine) (app_left dbase_left : List Mark) (frames merges : ℕ) → Walked app dbase app_left dbase_left frames merges → Stands merges app_left → Stands frames dbase_left → Ended app dbase app_left dbase_left
 ended app dbase app_left dbase_left frames merges w stands base_stands =
-    let no_frames = stands_frames merges w.need w.synced app_left stands in
-    let no_merges = stands_merges frames w.base_need w.since dbase_left base_stands in
-    let frames_all : frames_within merges (asked_app app) ≤ frames = omega (arith, w.reached.frames_bound merges, no_frames) in
-    let merges_all : merges_within frames (asked_dbase dbase) ≤ merges = omega (arith, w.reached.merges_bound frames, no_merges) in
-    let wait_barred : (p : Pause) → merges < p.count → ¬ CanPassWait app dbase p =
-    λ p more can. let most = no_further app dbase frames merges frames_all merges_all can.order can.end can.is_order in omega (arith, most.1, can.enough, more) in
-    let await_barred : (p : Pause) → frames < p.count → ¬ CanPassAwait app dbase p =
-    λ p more can. let most = no_further app dbase frames merges frames_all merges_all can.order can.end can.is_order in omega (arith, most.0, can.enough, more) in
+    let h : Halted app dbase app_left dbase_left frames merges = record {
+      app_done = w.app_side.done;
+      base_done = w.base_side.done;
+      app_parts = w.app_side.parts;
+      base_parts = w.base_side.parts;
+      frames_given = omega (arith, w.app_side.given);
+      merges_given = omega (arith, w.base_side.given);
+      app_stands = stands;
+      base_stands = base_stands;
+    } in
+    let bars = barred app dbase app_left dbase_left frames merges h in
     record {
       lines = record {
-        wait = w.waits_passed.first (line_at app_left) (stands_first (CanPassWait app dbase) merges app_left stands wait_barred);
-        await = w.awaits_passed.first (base_line_at dbase_left) (base_stands_first (CanPassAwait app dbase) frames dbase_left base_stands await_barred);
+        wait = w.app_side.pauses.first (line_at app_left) (stands_first (CanPassWait app dbase) merges app_left stands bars.waits);
+        await = w.base_side.pauses.first (line_at dbase_left) (stands_first (CanPassAwait app dbase) frames dbase_left base_stands bars.awaits);
       };
-      stuck = λ some. which (length app_left) refl some wait_barred await_barred;
+      stuck = halted_stuck app dbase app_left dbase_left frames merges h;
       passes = λ none base_none stuck. elim stuck [
-        | inl at ↦ no_pause (CanPassWait app dbase) app_left none (w.waits_passed.left_barred at)
-        | inr at ↦ no_base_pause (CanPassAwait app dbase) dbase_left base_none (w.awaits_passed.left_barred at)
+        | inl at ↦ no_pause (CanPassWait app dbase) app_left none (w.app_side.pauses.left_barred at)
+        | inr at ↦ no_pause (CanPassAwait app dbase) dbase_left base_none (w.base_side.pauses.left_barred at)
       ];
     }
-  where
-    which : (n : ℕ) → length app_left ≡ n → 0 < length app_left + length dbase_left → ((p : Pause) → merges < p.count → ¬ CanPassWait app dbase p) → ((p : Pause) → frames < p.count → ¬ CanPassAwait app dbase p) → IsStuck app dbase
-    which zero e some wait_barred await_barred =
-        let base_some : 0 < length dbase_left = omega (arith, e, some) in
-        inr (w.awaits_passed.barred (base_stands_barred (CanPassAwait app dbase) frames dbase_left base_some base_stands await_barred))
-    which (suc n) e some wait_barred await_barred =
-        let app_some : 0 < length app_left = omega (arith, e) in
-        inl (w.waits_passed.barred (stands_barred (CanPassWait app dbase) merges app_left app_some stands wait_barred))
-
--- Room for the counts
-
-pub app_room : (merges begun : ℕ) (lines rest : List AppLine) → GoesOn merges lines begun rest → begun + length rest ≤ length lines
-app_room merges begun [] rest h = absurd h
-app_room merges begun (l ∷ ls) rest h =
-    let few : begun ≤ 1 = by l.step h.0 in
-    omega (arith, few, ap length h.1)
-  where
-    by : (step : AppStep) → frames_begun merges step ≡ Some begun → begun ≤ 1
-    by (app_step.Wait n) e = omega (arith, (cond_some (nat_le n merges) 0 begun e).1)
-    by (app_step.Edit _) e = omega (arith, same_Some 0 begun e)
-    by (app_step.View _ _) e = omega (arith, same_Some 0 begun e)
-    by app_step.Sync e = omega (arith, same_Some 0 begun e)
-    by app_step.Frame e = omega (arith, same_Some 1 begun e)
-
-pub base_room : (frames made : ℕ) (lines rest : List BaseLine) → BaseGoesOn frames lines made rest → made + length rest ≤ length lines
-base_room frames made [] rest h = absurd h
-base_room frames made (l ∷ ls) rest h =
-    let few : made ≤ 1 = by l.step h.0 in
-    omega (arith, few, ap length h.1)
-  where
-    by : (step : BaseStep) → merges_made frames step ≡ Some made → made ≤ 1
-    by (base_step.Await k) e = omega (arith, (cond_some (nat_le k frames) 0 made e).1)
-    by (base_step.Edit _) e = omega (arith, same_Some 0 made e)
-    by (base_step.Ask _) e = omega (arith, same_Some 0 made e)
-    by base_step.Buffer e = omega (arith, same_Some 0 made e)
-    by base_step.Merge e = omega (arith, same_Some 1 made e)
-
--- a line that is passed is one line less
-pub app_fewer : (merges begun : ℕ) (lines rest : List AppLine) → GoesOn merges lines begun rest → length rest < length lines
-app_fewer merges begun [] rest h = absurd h
-app_fewer merges begun (l ∷ ls) rest h = omega (arith, ap length h.1)
-
-pub base_fewer : (frames made : ℕ) (lines rest : List BaseLine) → BaseGoesOn frames lines made rest → length rest < length lines
-base_fewer frames made [] rest h = absurd h
-base_fewer frames made (l ∷ ls) rest h = omega (arith, ap length h.1)
 
 pub positive : (n : ℕ) → (n == 0) ≡ false → 0 < n
 positive zero e = absurd (cc)

@@ -1,3 +1,5 @@
+pub mod Dues
 pub mod Orders
 pub mod Walks
 pub mod Ends
+pub mod Histories

@@ -1,212 +1,199 @@
--- The greedy order: each line that is passed, and where both callers stand.
-use Rattle.std.proofs.Common.{◌≡◌, ℕ, ◌+◌, ◌≤◌, nat_le, max, Bool, true, false, inl, inr, List, [], ◌∷◌, ◌++◌, map, Some, subst, arith}
+-- The greedy order: each line that is passed.
+use Rattle.std.proofs.Common.{◌≡◌, ℕ, ◌+◌, ◌≤◌, nat_le, max, false, inl, inr, List, [], ◌∷◌, ◌++◌, Option, Some, refl, sym, ◌∙◌, ap, subst, append_assoc, arith}
+use Rattle.std.specs.List.{AllByRecursion}
 use Rattle.std.proofs.lemmas.Bool.{leb-true}
 use Rattle.std.proofs.lemmas.Option.{same_Some, cond_some}
-use Rattle.pf_model.specs.declared.lines.AppStep.{AppStep}
-use Rattle.pf_model.specs.declared.lines.AppStep.TheVariants as app_step
 use Rattle.pf_model.specs.declared.lines.AppLine.{AppLine}
-use Rattle.pf_model.specs.declared.lines.BaseStep.{BaseStep}
-use Rattle.pf_model.specs.declared.lines.BaseStep.TheVariants as base_step
 use Rattle.pf_model.specs.declared.lines.BaseLine.{BaseLine}
-use Rattle.pf_history.specs.Asks.{Ask, BaseAsk, asked_from, asked_base_from}
-use Rattle.play_check.specs.Stuck.{Pause, wait_before, waits_of, await_before, awaits_of, CanPassWait, CanPassAwait, IsSomeBarred, IsFirstBarred}
-use Rattle.play_check.specs.Turns.{frames_begun, merges_made, GoesOn, BaseGoesOn}
-use Rattle.play_check.proofs.Orders.{Reached, reached_opening, reached_app, reached_merge}
+use Rattle.pf_history.specs.Asks.{asked_app, asked_dbase}
+use Rattle.play_check.specs.Lines.{Given, Gives, Waits, Mark, app_marks, base_marks, given_by, total, passed, GoesOn}
+use Rattle.play_check.specs.Orders.{Due, Standing, app_dues, base_dues, opening}
+use Rattle.play_check.specs.Stuck.{Pause, pause_before, pauses_of, CanPass, CanPassWait, CanPassAwait, IsSomeBarred, IsFirstBarred}
+use Rattle.play_check.proofs.Dues.{added, givens, Yields, app_yields, base_yields}
+use Rattle.play_check.proofs.Orders.{Reached, reached_opening, reached_app, reached_base}
 
 -- Of these pauses all but the last ones, which are left, can be passed.
-pub record Passed (CanPass : Pause → Type 0) (whole left : List Pause) : Type 0 where
-  pub first : (line : ℕ) → IsFirstBarred CanPass left line → IsFirstBarred CanPass whole line
-  pub barred : IsSomeBarred CanPass left → IsSomeBarred CanPass whole
-  pub left_barred : IsSomeBarred CanPass whole → IsSomeBarred CanPass left
+pub record Passed (Passable : Pause → Type 0) (whole left : List Pause) : Type 0 where
+  pub first : (line : ℕ) → IsFirstBarred Passable left line → IsFirstBarred Passable whole line
+  pub barred : IsSomeBarred Passable left → IsSomeBarred Passable whole
+  pub left_barred : IsSomeBarred Passable whole → IsSomeBarred Passable left
 
-pass_none : (CanPass : Pause → Type 0) (whole : List Pause) → Passed CanPass whole whole
-pass_none CanPass whole = record { first = λ line h. h; barred = λ h. h; left_barred = λ h. h }
+pass_none : (Passable : Pause → Type 0) (whole : List Pause) → Passed Passable whole whole
+pass_none Passable whole = record { first = λ line h. h; barred = λ h. h; left_barred = λ h. h }
 
-pass_one : (CanPass : Pause → Type 0) (whole left : List Pause) (p : Pause) → Passed CanPass whole (p ∷ left) → CanPass p → Passed CanPass whole left
-pass_one CanPass whole left p h can =
+pass_one : (Passable : Pause → Type 0) (whole left : List Pause) (p : Pause) → Passed Passable whole (p ∷ left) → Passable p → Passed Passable whole left
+pass_one Passable whole left p h can =
     record {
       first = λ line rest. h.first line (inl (can, rest));
       barred = λ rest. h.barred (inr rest);
       left_barred = λ all. elim (h.left_barred all) [ inl barred ↦ absurd (barred can) | inr rest ↦ rest ];
     }
 
--- What the greedy order keeps: what is left of the two sections, and how many Frames and Merges were made.
-pub record Walked (app : List AppLine) (dbase : List BaseLine) (steps : List AppStep) (waits : List Pause) (base_steps : List BaseStep) (awaits : List Pause) (frames merges : ℕ) : Type 0 where
+-- What the greedy order keeps of one section: what its lines that are left ask for, what the waits so far wait for, and
+-- the lines passed, which gave `count`, where the other caller has come to `reached`.
+pub record Side (whole left : List Mark) (Passable : Pause → Type 0) (due : List Due) (count reached : ℕ) : Type 0 where
   pub need : ℕ
-  pub synced : Bool
-  pub base_need : ℕ
-  pub since : List BaseStep
-  pub reached : Reached app dbase (asked_from need synced steps) (asked_base_from base_need since base_steps) frames merges
-  pub waited : need ≤ merges
-  pub awaited : base_need ≤ frames
-  pub waits_passed : Passed (CanPassWait app dbase) (waits_of app) waits
-  pub awaits_passed : Passed (CanPassAwait app dbase) (awaits_of dbase) awaits
+  pub yields : Yields need (givens left) due
+  pub waited : need ≤ reached
+  pub done : List Mark
+  pub parts : whole ≡ done ++ left
+  pub given : total done ≡ count
+  pub pauses : Passed Passable (pauses_of whole) (pauses_of left)
 
-pub walked_opening : (app : List AppLine) (dbase : List BaseLine) → Walked app dbase (map (λ l. l.step) app) (waits_of app) (map (λ l. l.step) dbase) (awaits_of dbase) 0 0
-walked_opening app dbase =
-    record {
-      need = 0;
-      synced = false;
-      base_need = 0;
-      since = [];
-      reached = reached_opening app dbase;
-      waited = omega arith;
-      awaited = omega arith;
-      waits_passed = pass_none (CanPassWait app dbase) (waits_of app);
-      awaits_passed = pass_none (CanPassAwait app dbase) (awaits_of dbase);
-    }
+-- What the greedy order keeps.
+pub record Walked (app : List AppLine) (dbase : List BaseLine) (app_left dbase_left : List Mark) (frames merges : ℕ) : Type 0 where
+  pub due : List Due
+  pub base_due : List Due
+  pub reached : Reached app dbase (record { app = due; dbase = base_due; frames = frames; merges = merges })
+  pub app_side : Side (app_marks app) app_left (CanPassWait app dbase) due frames merges
+  pub base_side : Side (base_marks dbase) dbase_left (CanPassAwait app dbase) base_due merges frames
 
--- the order that has come so far passes a pause
-passes_wait : (app : List AppLine) (dbase : List BaseLine) (asks : List Ask) (base_asks : List BaseAsk) (frames merges : ℕ) (pause : Pause) → Reached app dbase asks base_asks frames merges → pause.count ≤ merges → CanPassWait app dbase pause
-passes_wait app dbase asks base_asks frames merges pause h enough =
-    record { order = h.order; end = record { app = asks; dbase = base_asks; frames = frames; merges = merges }; is_order = h.is_order; enough = enough }
+pub walked_opening : (app : List AppLine) (dbase : List BaseLine) → Walked app dbase (app_marks app) (base_marks dbase) 0 0
+walked_opening app dbase = record {
+  due = app_dues (asked_app app);
+  base_due = base_dues (asked_dbase dbase);
+  reached = reached_opening app dbase;
+  app_side = record {
+    need = 0;
+    yields = app_yields 0 false app;
+    waited = omega arith;
+    done = [];
+    parts = refl;
+    given = refl;
+    pauses = pass_none (CanPassWait app dbase) (pauses_of (app_marks app));
+  };
+  base_side = record {
+    need = 0;
+    yields = base_yields 0 [] dbase;
+    waited = omega arith;
+    done = [];
+    parts = refl;
+    given = refl;
+    pauses = pass_none (CanPassAwait app dbase) (pauses_of (base_marks dbase));
+  };
+}
 
-passes_await : (app : List AppLine) (dbase : List BaseLine) (asks : List Ask) (base_asks : List BaseAsk) (frames merges : ℕ) (pause : Pause) → Reached app dbase asks base_asks frames merges → pause.count ≤ frames → CanPassAwait app dbase pause
-passes_await app dbase asks base_asks frames merges pause h enough =
-    record { order = h.order; end = record { app = asks; dbase = base_asks; frames = frames; merges = merges }; is_order = h.is_order; enough = enough }
+-- One line
 
--- A line of the application is passed
+total_more : (ms : List Mark) (m : Mark) → total (ms ++ m ∷ []) ≡ total ms + given_by m.given
+total_more [] m = omega arith
+total_more (k ∷ ms) m = omega (arith, total_more ms m)
 
--- what is left behind a step that is no wait
-walk_ask : (app : List AppLine) (dbase : List BaseLine) (steps : List AppStep) (waits : List Pause) (base_steps : List BaseStep) (awaits : List Pause) (frames merges begun : ℕ) (need : ℕ) (synced : Bool) (base_need : ℕ) (since : List BaseStep) →
-    Reached app dbase (asked_from need synced steps) (asked_base_from base_need since base_steps) (frames + begun) merges → need ≤ merges → base_need ≤ frames → Passed (CanPassWait app dbase) (waits_of app) waits → Passed (CanPassAwait app dbase) (awaits_of dbase) awaits →
-    Walked app dbase steps waits base_steps awaits (frames + begun) merges
-walk_ask app dbase steps waits base_steps awaits frames merges begun need synced base_need since reached waited awaited waits_passed awaits_passed =
-    record {
-      need = need;
-      synced = synced;
-      base_need = base_need;
-      since = since;
-      reached = reached;
+gives : (count n : ℕ) (g : Given) → passed count g ≡ Some n → given_by g ≡ n
+gives count n (Gives k) e = same_Some k n e
+gives count n (Waits k) e = (cond_some (nat_le k count) 0 n e).1
+
+-- What a line asks for that gives n: its front, of which all waits for no more than the other caller has come to.
+record Taken (need : ℕ) (m : Mark) (ms : List Mark) (due : List Due) (n reached : ℕ) : Type 0 where
+  front : List Due
+  rest : List Due
+  front_need : ℕ
+  whole : due ≡ front ++ rest
+  needs : AllByRecursion (λ d. d.need ≡ front_need) front
+  early : front_need ≤ reached
+  adds : added front ≡ n
+  next_need : ℕ
+  yields : Yields next_need (givens ms) rest
+  waited : next_need ≤ reached
+
+taken : (need : ℕ) (m : Mark) (ms : List Mark) (due : List Due) (n reached : ℕ) → Yields need (m.given ∷ givens ms) due → need ≤ reached → passed reached m.given ≡ Some n → Taken need m ms due n reached
+taken need m ms due n reached y waited e = by m.given y e
+  where
+    by : (g : Given) → Yields need (g ∷ givens ms) due → passed reached g ≡ Some n → Taken need m ms due n reached
+    by (Gives k) y e = record {
+      front = y.1.front;
+      rest = y.0;
+      front_need = need;
+      whole = y.1.whole;
+      needs = y.1.needs;
+      early = waited;
+      adds = y.1.adds ∙ same_Some k n e;
+      next_need = need;
+      yields = y.2;
       waited = waited;
-      awaited = omega (arith, awaited);
-      waits_passed = waits_passed;
-      awaits_passed = awaits_passed;
     }
+    by (Waits k) y e =
+        let p = cond_some (nat_le k reached) 0 n e in
+        let enough : k ≤ reached = leb-true k reached p.0 in
+        record {
+          front = [];
+          rest = due;
+          front_need = 0;
+          whole = refl;
+          needs = tt;
+          early = omega arith;
+          adds = p.1;
+          next_need = max need k;
+          yields = y;
+          waited = omega (arith, enough, waited);
+        }
 
-walk_frame : (app : List AppLine) (dbase : List BaseLine) (synced : Bool) (need : ℕ) (steps : List AppStep) (base_asks : List BaseAsk) (frames merges : ℕ) → need ≤ merges → Reached app dbase (asked_from need synced (app_step.Frame ∷ steps)) base_asks frames merges → Reached app dbase (asked_from need false steps) base_asks (frames + 1) merges
-walk_frame app dbase true need steps base_asks frames merges waited h =
-    reached_app app dbase _ (asked_from need false steps) base_asks frames merges h waited
-walk_frame app dbase false need steps base_asks frames merges waited h =
-    let sync = reached_app app dbase _ _ base_asks frames merges h waited in
-    let same : frames + 0 + 1 ≡ frames + 1 = omega arith in
-    subst (λ (n : ℕ). Reached app dbase (asked_from need false steps) base_asks n merges) same
-    (reached_app app dbase _ (asked_from need false steps) base_asks (frames + 0) merges sync waited)
+-- its pause, if it is one, can be passed
+pass_line : (Passable : Pause → Type 0) (whole : List Pause) (m : Mark) (left : List Pause) (n reached : ℕ) → Passed Passable whole (pause_before m.line m.given left) → passed reached m.given ≡ Some n → ((p : Pause) → p.count ≤ reached → Passable p) → Passed Passable whole left
+pass_line Passable whole m left n reached h e can = by m.given h e
+  where
+    by : (g : Given) → Passed Passable whole (pause_before m.line g left) → passed reached g ≡ Some n → Passed Passable whole left
+    by (Gives k) h e = h
+    by (Waits k) h e =
+        let p = cond_some (nat_le k reached) 0 n e in
+        pass_one Passable whole left (record { line = m.line; count = k }) h (can (record { line = m.line; count = k }) (leb-true k reached p.0))
 
-walk_app : (app : List AppLine) (dbase : List BaseLine) (line : ℕ) (step : AppStep) (steps : List AppStep) (waits : List Pause) (base_steps : List BaseStep) (awaits : List Pause) (frames merges begun : ℕ) →
-    Walked app dbase (step ∷ steps) (wait_before line step waits) base_steps awaits frames merges → frames_begun merges step ≡ Some begun → Walked app dbase steps waits base_steps awaits (frames + begun) merges
-walk_app app dbase line (app_step.Edit e) steps waits base_steps awaits frames merges begun w begins =
-    subst (λ (n : ℕ). Walked app dbase steps waits base_steps awaits (frames + n) merges) (same_Some 0 begun begins)
-    (walk_ask app dbase steps waits base_steps awaits frames merges 0 w.need w.synced w.base_need w.since
-    (reached_app app dbase _ _ _ frames merges w.reached w.waited) w.waited w.awaited w.waits_passed w.awaits_passed)
-walk_app app dbase line (app_step.View channel v) steps waits base_steps awaits frames merges begun w begins =
-    subst (λ (n : ℕ). Walked app dbase steps waits base_steps awaits (frames + n) merges) (same_Some 0 begun begins)
-    (walk_ask app dbase steps waits base_steps awaits frames merges 0 w.need w.synced w.base_need w.since
-    (reached_app app dbase _ _ _ frames merges w.reached w.waited) w.waited w.awaited w.waits_passed w.awaits_passed)
-walk_app app dbase line app_step.Sync steps waits base_steps awaits frames merges begun w begins =
-    subst (λ (n : ℕ). Walked app dbase steps waits base_steps awaits (frames + n) merges) (same_Some 0 begun begins)
-    (walk_ask app dbase steps waits base_steps awaits frames merges 0 w.need true w.base_need w.since
-    (reached_app app dbase _ _ _ frames merges w.reached w.waited) w.waited w.awaited w.waits_passed w.awaits_passed)
-walk_app app dbase line app_step.Frame steps waits base_steps awaits frames merges begun w begins =
-    subst (λ (n : ℕ). Walked app dbase steps waits base_steps awaits (frames + n) merges) (same_Some 1 begun begins)
-    (walk_ask app dbase steps waits base_steps awaits frames merges 1 w.need false w.base_need w.since
-    (walk_frame app dbase w.synced w.need steps _ frames merges w.waited w.reached) w.waited w.awaited w.waits_passed w.awaits_passed)
-walk_app app dbase line (app_step.Wait n) steps waits base_steps awaits frames merges begun w begins =
-    let p = cond_some (nat_le n merges) 0 begun begins in
-    let enough : n ≤ merges = leb-true n merges p.0 in
-    let met : max w.need n ≤ merges = omega (arith, enough, w.waited) in
-    let same : frames ≡ frames + begun = omega (arith, p.1) in
-    let can = passes_wait app dbase _ _ frames merges (record { line = line; count = n }) w.reached enough in
-    subst (λ (k : ℕ). Walked app dbase steps waits base_steps awaits k merges) same
+-- the section behind the line
+side_on : (whole : List Mark) (m : Mark) (ms : List Mark) (Passable : Pause → Type 0) (due : List Due) (count n reached : ℕ) (s : Side whole (m ∷ ms) Passable due count reached) (t : Taken s.need m ms due n reached) → passed reached m.given ≡ Some n → ((p : Pause) → p.count ≤ reached → Passable p) → Side whole ms Passable t.rest (count + n) reached
+side_on whole m ms Passable due count n reached s t e can = record {
+  need = t.next_need;
+  yields = t.yields;
+  waited = t.waited;
+  done = s.done ++ m ∷ [];
+  parts = s.parts ∙ sym (append_assoc s.done (m ∷ []) ms);
+  given = omega (arith, total_more s.done m, s.given, gives reached n m.given e);
+  pauses = pass_line Passable (pauses_of whole) m (pauses_of ms) n reached s.pauses e can;
+}
+
+-- the other section, where the caller has come to more
+other_side : (whole left : List Mark) (Passable : Pause → Type 0) (due : List Due) (count reached n : ℕ) → Side whole left Passable due count reached → Side whole left Passable due count (reached + n)
+other_side whole left Passable due count reached n s = record {
+  need = s.need;
+  yields = s.yields;
+  waited = omega (arith, s.waited);
+  done = s.done;
+  parts = s.parts;
+  given = s.given;
+  pauses = s.pauses;
+}
+
+pub app_goes_on : (app : List AppLine) (dbase : List BaseLine) (app_left dbase_left : List Mark) (frames merges n : ℕ) (rest : List Mark) → Walked app dbase app_left dbase_left frames merges → GoesOn merges app_left n rest → Walked app dbase rest dbase_left (frames + n) merges
+app_goes_on app dbase [] dbase_left frames merges n rest w goes = absurd goes
+app_goes_on app dbase (m ∷ ms) dbase_left frames merges n rest w goes =
+    let s = w.app_side in
+    let t = taken s.need m ms w.due n merges s.yields s.waited goes.0 in
+    let standing : Standing = record { app = w.due; dbase = w.base_due; frames = frames; merges = merges } in
+    let reached = reached_app app dbase t.front t.rest standing t.front_need t.whole t.needs t.early w.reached in
+    let can : (p : Pause) → p.count ≤ merges → CanPassWait app dbase p =
+    λ p enough. record { order = w.reached.order; end = standing; is_order = w.reached.is_order; enough = enough } in
+    subst (λ (x : List Mark). Walked app dbase x dbase_left (frames + n) merges) goes.1
     (record {
-      need = max w.need n;
-      synced = w.synced;
-      base_need = w.base_need;
-      since = w.since;
-      reached = w.reached;
-      waited = met;
-      awaited = w.awaited;
-      waits_passed = pass_one (CanPassWait app dbase) (waits_of app) waits (record { line = line; count = n }) w.waits_passed can;
-      awaits_passed = w.awaits_passed;
+      due = t.rest;
+      base_due = w.base_due;
+      reached = subst (λ (k : ℕ). Reached app dbase (record { app = t.rest; dbase = w.base_due; frames = frames + k; merges = merges })) t.adds reached;
+      app_side = side_on (app_marks app) m ms (CanPassWait app dbase) w.due frames n merges s t goes.0 can;
+      base_side = other_side (base_marks dbase) dbase_left (CanPassAwait app dbase) w.base_due merges frames n w.base_side;
     })
 
--- A line of the database process is passed
-
--- what is left behind a step that is no await
-walk_quiet : (app : List AppLine) (dbase : List BaseLine) (steps : List AppStep) (waits : List Pause) (base_steps : List BaseStep) (awaits : List Pause) (frames merges made : ℕ) (need : ℕ) (synced : Bool) (base_need : ℕ) (since : List BaseStep) →
-    Reached app dbase (asked_from need synced steps) (asked_base_from base_need since base_steps) frames (merges + made) → need ≤ merges → base_need ≤ frames → Passed (CanPassWait app dbase) (waits_of app) waits → Passed (CanPassAwait app dbase) (awaits_of dbase) awaits →
-    Walked app dbase steps waits base_steps awaits frames (merges + made)
-walk_quiet app dbase steps waits base_steps awaits frames merges made need synced base_need since reached waited awaited waits_passed awaits_passed =
-    record {
-      need = need;
-      synced = synced;
-      base_need = base_need;
-      since = since;
-      reached = reached;
-      waited = omega (arith, waited);
-      awaited = awaited;
-      waits_passed = waits_passed;
-      awaits_passed = awaits_passed;
-    }
-
--- so many merges, and none more
-none_more : (app : List AppLine) (dbase : List BaseLine) (asks : List Ask) (base_asks : List BaseAsk) (frames merges : ℕ) → Reached app dbase asks base_asks frames merges → Reached app dbase asks base_asks frames (merges + 0)
-none_more app dbase asks base_asks frames merges h =
-    let same : merges ≡ merges + 0 = omega arith in
-    subst (λ (n : ℕ). Reached app dbase asks base_asks frames n) same h
-
-walk_base : (app : List AppLine) (dbase : List BaseLine) (line : ℕ) (step : BaseStep) (steps : List AppStep) (waits : List Pause) (base_steps : List BaseStep) (awaits : List Pause) (frames merges made : ℕ) →
-    Walked app dbase steps waits (step ∷ base_steps) (await_before line step awaits) frames merges → merges_made frames step ≡ Some made → Walked app dbase steps waits base_steps awaits frames (merges + made)
-walk_base app dbase line base_step.Buffer steps waits base_steps awaits frames merges made w makes =
-    subst (λ (n : ℕ). Walked app dbase steps waits base_steps awaits frames (merges + n)) (same_Some 0 made makes)
-    (walk_quiet app dbase steps waits base_steps awaits frames merges 0 w.need w.synced w.base_need []
-    (none_more app dbase _ _ frames merges w.reached) w.waited w.awaited w.waits_passed w.awaits_passed)
-walk_base app dbase line (base_step.Edit e) steps waits base_steps awaits frames merges made w makes =
-    subst (λ (n : ℕ). Walked app dbase steps waits base_steps awaits frames (merges + n)) (same_Some 0 made makes)
-    (walk_quiet app dbase steps waits base_steps awaits frames merges 0 w.need w.synced w.base_need (w.since ++ base_step.Edit e ∷ [])
-    (none_more app dbase _ _ frames merges w.reached) w.waited w.awaited w.waits_passed w.awaits_passed)
-walk_base app dbase line (base_step.Ask e) steps waits base_steps awaits frames merges made w makes =
-    subst (λ (n : ℕ). Walked app dbase steps waits base_steps awaits frames (merges + n)) (same_Some 0 made makes)
-    (walk_quiet app dbase steps waits base_steps awaits frames merges 0 w.need w.synced w.base_need (w.since ++ base_step.Ask e ∷ [])
-    (none_more app dbase _ _ frames merges w.reached) w.waited w.awaited w.waits_passed w.awaits_passed)
-walk_base app dbase line base_step.Merge steps waits base_steps awaits frames merges made w makes =
-    subst (λ (n : ℕ). Walked app dbase steps waits base_steps awaits frames (merges + n)) (same_Some 1 made makes)
-    (walk_quiet app dbase steps waits base_steps awaits frames merges 1 w.need w.synced w.base_need []
-    (reached_merge app dbase _ _ _ frames merges w.reached w.awaited) w.waited w.awaited w.waits_passed w.awaits_passed)
-walk_base app dbase line (base_step.Await k) steps waits base_steps awaits frames merges made w makes =
-    let p = cond_some (nat_le k frames) 0 made makes in
-    let enough : k ≤ frames = leb-true k frames p.0 in
-    let met : max w.base_need k ≤ frames = omega (arith, enough, w.awaited) in
-    let same : merges ≡ merges + made = omega (arith, p.1) in
-    let can = passes_await app dbase _ _ frames merges (record { line = line; count = k }) w.reached enough in
-    subst (λ (n : ℕ). Walked app dbase steps waits base_steps awaits frames n) same
+pub base_goes_on : (app : List AppLine) (dbase : List BaseLine) (app_left dbase_left : List Mark) (frames merges n : ℕ) (rest : List Mark) → Walked app dbase app_left dbase_left frames merges → GoesOn frames dbase_left n rest → Walked app dbase app_left rest frames (merges + n)
+base_goes_on app dbase app_left [] frames merges n rest w goes = absurd goes
+base_goes_on app dbase app_left (m ∷ ms) frames merges n rest w goes =
+    let s = w.base_side in
+    let t = taken s.need m ms w.base_due n frames s.yields s.waited goes.0 in
+    let standing : Standing = record { app = w.due; dbase = w.base_due; frames = frames; merges = merges } in
+    let reached = reached_base app dbase t.front t.rest standing t.front_need t.whole t.needs t.early w.reached in
+    let can : (p : Pause) → p.count ≤ frames → CanPassAwait app dbase p =
+    λ p enough. record { order = w.reached.order; end = standing; is_order = w.reached.is_order; enough = enough } in
+    subst (λ (x : List Mark). Walked app dbase app_left x frames (merges + n)) goes.1
     (record {
-      need = w.need;
-      synced = w.synced;
-      base_need = max w.base_need k;
-      since = w.since;
-      reached = w.reached;
-      waited = w.waited;
-      awaited = met;
-      waits_passed = w.waits_passed;
-      awaits_passed = pass_one (CanPassAwait app dbase) (awaits_of dbase) awaits (record { line = line; count = k }) w.awaits_passed can;
+      due = w.due;
+      base_due = t.rest;
+      reached = subst (λ (k : ℕ). Reached app dbase (record { app = w.due; dbase = t.rest; frames = frames; merges = merges + k })) t.adds reached;
+      app_side = other_side (app_marks app) app_left (CanPassWait app dbase) w.due frames merges n w.app_side;
+      base_side = side_on (base_marks dbase) m ms (CanPassAwait app dbase) w.base_due merges n frames s t goes.0 can;
     })
-
--- The walk over lines
-
--- what the greedy order keeps, by the lines that are left
-abbrev pub WalkedLines : List AppLine → List BaseLine → List AppLine → List BaseLine → ℕ → ℕ → Type 0
-WalkedLines app dbase app_left dbase_left frames merges =
-    Walked app dbase (map (λ l. l.step) app_left) (waits_of app_left) (map (λ l. l.step) dbase_left) (awaits_of dbase_left) frames merges
-
-pub app_goes_on : (app : List AppLine) (dbase : List BaseLine) (app_left : List AppLine) (dbase_left : List BaseLine) (frames merges begun : ℕ) (rest : List AppLine) → WalkedLines app dbase app_left dbase_left frames merges → GoesOn merges app_left begun rest → WalkedLines app dbase rest dbase_left (frames + begun) merges
-app_goes_on app dbase [] dbase_left frames merges begun rest w goes = absurd goes
-app_goes_on app dbase (l ∷ ls) dbase_left frames merges begun rest w goes =
-    subst (λ (x : List AppLine). WalkedLines app dbase x dbase_left (frames + begun) merges) goes.1
-    (walk_app app dbase l.line l.step (map (λ l. l.step) ls) (waits_of ls) (map (λ l. l.step) dbase_left) (awaits_of dbase_left) frames merges begun w goes.0)
-
-pub base_goes_on : (app : List AppLine) (dbase : List BaseLine) (app_left : List AppLine) (dbase_left : List BaseLine) (frames merges made : ℕ) (rest : List BaseLine) → WalkedLines app dbase app_left dbase_left frames merges → BaseGoesOn frames dbase_left made rest → WalkedLines app dbase app_left rest frames (merges + made)
-base_goes_on app dbase app_left [] frames merges made rest w goes = absurd goes
-base_goes_on app dbase app_left (l ∷ ls) frames merges made rest w goes =
-    subst (λ (x : List BaseLine). WalkedLines app dbase app_left x frames (merges + made)) goes.1
-    (walk_base app dbase l.line l.step (map (λ l. l.step) app_left) (waits_of app_left) (map (λ l. l.step) ls) (awaits_of ls) frames merges made w goes.0)

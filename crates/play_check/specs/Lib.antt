@@ -1,4 +1,4 @@
+pub mod Lines
 pub mod Orders
 pub mod Stuck
-pub mod Turns
 pub mod Laws

@@ -1,13 +1,13 @@
 //! The greedy order of a play: each caller goes on until it is over or has to wait.
 ghost use Rattle.std.specs.Prelude.{◌≡◌, ◌↔◌, IsSome, IfSome, MatchOption};
 ghost use Rattle.play_check.specs.Stuck.{IsStuck, AreStuckLines};
-ghost use Rattle.play_check.specs.Turns.{frames_begun, merges_made, GoesOn, Stands, BaseGoesOn, BaseStands, line_at, base_line_at};
+ghost use Rattle.play_check.specs.Lines.{app_given, base_given, app_marks, base_marks, passed, GoesOn, Stands, line_at};
 
 use pf_model::{AppLine, AppStep, BaseLine, BaseStep};
 
 /// The frames that a step of the application begins where so many merges were made; none where it waits for more.
 fn frames_begun(step: &AppStep, merges: usize) -> Option<usize>
-    ensures { result ≡ frames_begun merges step.now }
+    ensures { result ≡ passed merges (app_given step.now) }
 {
     match step {
         AppStep::Wait(count) if *count as usize > merges => None,
@@ -18,7 +18,7 @@ fn frames_begun(step: &AppStep, merges: usize) -> Option<usize>
 
 /// The merges that a step of the database process makes where so many frames were begun; none where it waits for more.
 fn merges_made(step: &BaseStep, frames: usize) -> Option<usize>
-    ensures { result ≡ merges_made frames step.now }
+    ensures { result ≡ passed frames (base_given step.now) }
 {
     match step {
         BaseStep::Await(count) if *count as usize > frames => None,
@@ -29,7 +29,8 @@ fn merges_made(step: &BaseStep, frames: usize) -> Option<usize>
 
 /// The frames that the application's next line begins and the lines behind it; none where it is over or waits.
 fn next_app(lines: &[AppLine], merges: usize) -> Option<(usize, &[AppLine])>
-    ensures { MatchOption result (Stands merges lines.now) (λ p. GoesOn merges lines.now p.0 p.1.now) }
+    ensures { MatchOption result (Stands merges (app_marks lines.now))
+        (λ p. GoesOn merges (app_marks lines.now) p.0 (app_marks p.1.now)) }
 {
     let (line, rest) = lines.split_first()?;
     let begun = frames_begun(&line.step, merges)?;
@@ -38,7 +39,8 @@ fn next_app(lines: &[AppLine], merges: usize) -> Option<(usize, &[AppLine])>
 
 /// The merges that the next line of the database process makes and the lines behind it; none where it is over or waits.
 fn next_dbase(lines: &[BaseLine], frames: usize) -> Option<(usize, &[BaseLine])>
-    ensures { MatchOption result (BaseStands frames lines.now) (λ p. BaseGoesOn frames lines.now p.0 p.1.now) }
+    ensures { MatchOption result (Stands frames (base_marks lines.now))
+        (λ p. GoesOn frames (base_marks lines.now) p.0 (base_marks p.1.now)) }
 {
     let (line, rest) = lines.split_first()?;
     let made = merges_made(&line.step, frames)?;
@@ -47,7 +49,7 @@ fn next_dbase(lines: &[BaseLine], frames: usize) -> Option<(usize, &[BaseLine])>
 
 /// The line of the application's next step, or 0 where it is over.
 fn line_at(app_left: &[AppLine]) -> u32
-    ensures { result ≡ line_at app_left.now }
+    ensures { result ≡ line_at (app_marks app_left.now) }
 {
     match app_left.first() {
         Some(next) => next.line,
@@ -57,7 +59,7 @@ fn line_at(app_left: &[AppLine]) -> u32
 
 /// The line of the database process's next step, or 0 where it is over.
 fn base_line_at(dbase_left: &[BaseLine]) -> u32
-    ensures { result ≡ base_line_at dbase_left.now }
+    ensures { result ≡ line_at (base_marks dbase_left.now) }
 {
     match dbase_left.first() {
         Some(next) => next.line,

@@ -6,7 +6,7 @@ mod greedy;
 mod laws;
 
 pub use check::stuck;
-pub use laws::orders_go_no_further;
+pub use laws::{callers_that_wait_are_stuck, histories_are_orders, orders_go_no_further};
 
 #[cfg(test)]
 mod tests;

@@ -24,11 +24,12 @@ use Rattle.play_format.specs.declared.commands.Command.TheVariants as command
 use Rattle.play_format.specs.Commands.{form_limits, limits_of, view_limits}
 use Rattle.play_format.specs.Commands as commands
 use Rattle.play_format.specs.Places.{IsWithin, AreWithin, announced_by, announced}
-use Rattle.play_format.specs.Making.{below, vector, affine, affine_at, view_at, tri_of, edit_of, app_step_of, base_step_of, origin, new_pose}
+use Rattle.play_format.specs.Making.{below, vector, affine, affine_at, view_at, tri_of, edit_of, app_step_of, base_step_of}
 use Rattle.play_format.specs.Spelling.{point_numbers, matrix_numbers, view_numbers, corner_numbers, kind_form, kind_numbers, edit_form, edit_numbers, edit_triangles, app_entry, app_triangles, base_entry, base_triangles}
-use Rattle.play_format.specs.Written.{IsSquare, AreColours, channel, IsNew, IsWritten, IsAppStep, IsBaseStep}
+use Rattle.play_format.specs.Written.{IsSquare, AreColours, channel, IsNew, IsWritten, IsAppStep, IsBaseStep, new_pose}
 use Rattle.play_format.proofs.SameLemmas.{same_tri, vector_is, affine_is}
 use Rattle.play_format.proofs.BackLemmas.{angle_back}
+use Rattle.fx_math.specs.Constants.{origin_vector}
 
 below_again : (bound n : ℕ) → n < bound → below bound (pos n) ≡ n
 below_again bound n h = rw (lt-ltb n bound h) refl
@@ -58,7 +59,7 @@ new_again id kind.Group h w = ap (λ (i : ℕ). edit.Make i kind.Group) (half id
 new_again id (kind.Switch p) h w = rw h (ap (λ (i : ℕ). edit.Make i (kind.Switch pick.Off)) (half id (pos 0) w.0.high))
 new_again id (kind.Scs m) h w = rw (affine_again (pos id) m h) (ap (λ (i : ℕ). edit.Make i (kind.Scs m)) (half id (pos 0) w.0.high))
 new_again id (kind.Dcs p) h w = rw h (ap (λ (i : ℕ). edit.Make i (kind.Dcs (pose.Euler new_pose))) (half id (pos 0) w.0.high))
-new_again id (kind.Lod c rs) h w = rw (h.0, h.1) (ap (λ (i : ℕ). edit.Make i (kind.Lod origin [])) (half id (pos 0) w.0.high))
+new_again id (kind.Lod c rs) h w = rw (h.0, h.1) (ap (λ (i : ℕ). edit.Make i (kind.Lod origin_vector [])) (half id (pos 0) w.0.high))
 new_again id (kind.Seq ts r) h w = rw (h.0, h.1) (ap (λ (i : ℕ). edit.Make i (kind.Seq [] (run.Held 0))) (half id (pos 0) w.0.high))
 new_again id kind.Layer h w = ap (λ (i : ℕ). edit.Make i kind.Layer) (half id (pos 0) w.0.high)
 new_again id (kind.Geode s ts) h w = ap (λ (i : ℕ). edit.Make i (kind.Geode (below 65536 (pos s)) ts)) (half id (pos 0) w.0.high) ∙ ap (λ (i : ℕ). edit.Make id (kind.Geode i ts)) (half s (pos 0) w.1.0.high)

@@ -18,10 +18,10 @@ use Rattle.play_format.specs.declared.places.Place.TheVariants as place
 use Rattle.play_format.specs.declared.places.Spot.{Spot}
 use Rattle.play_format.specs.Numbers.{number_at, is_number, value_of}
 use Rattle.play_format.specs.Words.{words}
-use Rattle.play_format.specs.Commands.{text_of, limits_of, words_in, all_commands}
-use Rattle.play_format.specs.Places.{may_stand, stands_at, is_known, is_ordered, has_room, IsWithin, AreWithin, IsSound, channels_after}
-use Rattle.play_format.specs.Grammar.{◌>>=◌, Entry, numbers_at, switch_form, picked, named, command_at, fields_at, judged, entry_at}
-use Rattle.play_format.specs.Steps.{Fits}
+use Rattle.play_format.specs.Commands.{text_of, limits_of, words_in, all_commands, Entry}
+use Rattle.play_format.specs.Places.{may_stand, stands_at, is_known, is_ordered, has_room, IsWithin, AreWithin, channels_after, Fits}
+use Rattle.play_format.specs.Grammar.{◌>>=◌, numbers_at, switch_form, picked, named, command_at, fields_at, judged, entry_at}
+use Rattle.play_format.specs.Rests.{IsSound}
 
 abbrev entry : Entry → Result Entry Why
 entry e = Ok e

@@ -11,9 +11,10 @@ use Rattle.std.proofs.lemmas.List.Sums.{prefix_len_is, prefix_len-le-length, pre
 use Rattle.std.proofs.lemmas.List.Splits.{slice_split_none, slice_split_first, slice_split-cons_no}
 use Rattle.std.proofs.lemmas.Int.{ints, clamps}
 use Rattle.std.specs.Borrow.{Bor}
-use Rattle.play_format.specs.Words.{words, front_word, front_len, IsBehind}
+use Rattle.play_format.specs.Words.{words}
 use Rattle.play_format.proofs.SpellLemmas.{both_true}
-use Rattle.play_format.specs.Numbers.{is_natural, is_number, is_signed, value_of, minus, held}
+use Rattle.play_format.specs.Numbers.{is_natural, is_number, is_signed, value_of, minus}
+use Rattle.play_format.specs.Rests.{front_word, front_len, IsBehind, held}
 
 abbrev digits_len : List ℕ → ℕ
 digits_len text = prefix_len is_ascii_digit text

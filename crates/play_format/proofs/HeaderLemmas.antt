@@ -17,17 +17,18 @@ use Rattle.play_format.specs.declared.places.Place.{Place}
 use Rattle.play_format.specs.declared.places.Place.TheVariants as place
 use Rattle.play_format.specs.declared.places.Spot.{Spot}
 use Rattle.play_format.specs.Outcomes.{Refuses}
-use Rattle.play_format.specs.Commands.{limits_of, size, focal_length, colour_limits, channel_count}
+use Rattle.play_format.specs.Commands.{limits_of, size, focal_length, colour_limits, channel_count, Entry}
 use Rattle.play_format.specs.Words.{pieces}
 use Rattle.play_format.specs.Places.{IsWithin, AreWithin, number, channels_after, due_after, place_after, may_end, is_closed, is_size, is_lens, is_back, is_app, is_ordered, next_spot, stands_at, start}
-use Rattle.play_format.specs.Grammar.{◌>>=◌, Entry, at_line, judged_version, with_version, lines_at, reading}
-use Rattle.play_format.specs.Steps.{unread, with_front}
-use Rattle.play_format.specs.Making.{below, id_at, byte_at}
-use Rattle.play_format.specs.Sections.{Stand, Passes, LineRead, IsAt, IsSize, StartRead, HeaderRead, channels_entries}
+use Rattle.play_format.specs.Grammar.{◌>>=◌, at_line, judged_version, with_version, lines_at, reading}
+use Rattle.play_format.specs.Rests.{unread, with_front, Stand}
+use Rattle.play_format.specs.Making.{below, u16_at, u8_at}
+use Rattle.play_format.specs.Sections.{Passes, LineRead, IsAt, IsSize, StartRead, HeaderRead}
 use Rattle.play_format.proofs.BackLemmas.{colour_back}
 use Rattle.play_format.proofs.ReaderLemmas.{some_pieces}
 use Rattle.play_format.proofs.MadeLemmas.{no_number}
 use Rattle.play_format.proofs.SectionLemmas.{stands_settled, passes_then, front_front}
+use Rattle.play_format.specs.Spelling.{channels_entries}
 
 -- a play may not end in its header
 pub no_end : (p : Place) (a : Stand) → IsAt p a → is_closed p ≡ false → may_end a.spot ≡ false
@@ -53,7 +54,7 @@ id_size (pos n) w =
     rw (lt-ltb n 65536 (omega arith)) (refl, low, high)
 id_size (negsuc n) w = absurd (omega (arith, ints, w.low))
 
-two_sizes : (zs : List ℤ) → AreWithin (size ∷ size ∷ []) zs → (zs ≡ pos (id_at zs 0) ∷ pos (id_at zs 1) ∷ []) × IsSize (id_at zs 0) (id_at zs 1)
+two_sizes : (zs : List ℤ) → AreWithin (size ∷ size ∷ []) zs → (zs ≡ pos (u16_at zs 0) ∷ pos (u16_at zs 1) ∷ []) × IsSize (u16_at zs 0) (u16_at zs 1)
 two_sizes (x ∷ y ∷ []) w =
     let a = id_size x w.0 in
     let b = id_size y w.1.0 in
@@ -79,12 +80,12 @@ only_app command.App e = refl
 only_app c e = absurd cc
 
 pub size_read : (a b : Stand) (c : Command) (zs : List ℤ) → IsAt place.Size a → LineRead a b c zs
-    → Passes a b ((command.Size, pos (id_at zs 0) ∷ pos (id_at zs 1) ∷ []) ∷ []) × IsAt place.Lens b × IsSize (id_at zs 0) (id_at zs 1)
+    → Passes a b ((command.Size, pos (u16_at zs 0) ∷ pos (u16_at zs 1) ∷ []) ∷ []) × IsAt place.Lens b × IsSize (u16_at zs 0) (u16_at zs 1)
 size_read a b c zs at r =
-    let P : Command → Type 0 = λ c. LineRead a b c zs → Passes a b ((command.Size, pos (id_at zs 0) ∷ pos (id_at zs 1) ∷ []) ∷ []) × IsAt place.Lens b × IsSize (id_at zs 0) (id_at zs 1) in
+    let P : Command → Type 0 = λ c. LineRead a b c zs → Passes a b ((command.Size, pos (u16_at zs 0) ∷ pos (u16_at zs 1) ∷ []) ∷ []) × IsAt place.Lens b × IsSize (u16_at zs 0) (u16_at zs 1) in
     subst P (sym (only_size c (stands_settled place.Size a c at r.fits.stands))) (λ r.
     let t = two_sizes zs r.fits.within in
-    (one_passes a b command.Size zs (pos (id_at zs 0) ∷ pos (id_at zs 1) ∷ []) r refl t.0, at_behind place.Size a b command.Size zs at r refl, t.1)) r
+    (one_passes a b command.Size zs (pos (u16_at zs 0) ∷ pos (u16_at zs 1) ∷ []) r refl t.0, at_behind place.Size a b command.Size zs at r refl, t.1)) r
 
 id_focus : (z : ℤ) → IsWithin focal_length z → (pos (below 65536 z) ≡ z) × (1 ≤ below 65536 z) × (below 65536 z ≤ 65535)
 id_focus (pos n) w =
@@ -94,7 +95,7 @@ id_focus (pos n) w =
 id_focus (negsuc n) w = absurd (omega (arith, ints, w.low))
 
 lens_numbers : (w h : ℕ) (zs : List ℤ) → IsSize w h → AreWithin (limits_of 0 command.Lens) zs → is_ordered command.Lens zs ≡ true
-    → (zs ≡ pos (id_at zs 0) ∷ number zs 1 ∷ number zs 2 ∷ []) × IsLens w h (id_at zs 0) (number zs 1) (number zs 2)
+    → (zs ≡ pos (u16_at zs 0) ∷ number zs 1 ∷ number zs 2 ∷ []) × IsLens w h (u16_at zs 0) (number zs 1) (number zs 2)
 lens_numbers w h (f ∷ near ∷ far ∷ []) s k o =
     let a = id_focus f k.0 in (
       sym (rw a.0 refl),
@@ -116,14 +117,14 @@ lens_numbers w h (f ∷ near ∷ []) s k o = absurd k.1.1
 lens_numbers w h (f ∷ near ∷ far ∷ z ∷ zs) s k o = absurd k.1.1.1
 
 pub lens_read : (a b : Stand) (c : Command) (zs : List ℤ) (w h : ℕ) → IsAt place.Lens a → IsSize w h → LineRead a b c zs
-    → Passes a b ((command.Lens, pos (id_at zs 0) ∷ number zs 1 ∷ number zs 2 ∷ []) ∷ []) × IsAt place.Back b × IsLens w h (id_at zs 0) (number zs 1) (number zs 2)
+    → Passes a b ((command.Lens, pos (u16_at zs 0) ∷ number zs 1 ∷ number zs 2 ∷ []) ∷ []) × IsAt place.Back b × IsLens w h (u16_at zs 0) (number zs 1) (number zs 2)
 lens_read a b c zs w h at s r =
-    let P : Command → Type 0 = λ c. LineRead a b c zs → Passes a b ((command.Lens, pos (id_at zs 0) ∷ number zs 1 ∷ number zs 2 ∷ []) ∷ []) × IsAt place.Back b × IsLens w h (id_at zs 0) (number zs 1) (number zs 2) in
+    let P : Command → Type 0 = λ c. LineRead a b c zs → Passes a b ((command.Lens, pos (u16_at zs 0) ∷ number zs 1 ∷ number zs 2 ∷ []) ∷ []) × IsAt place.Back b × IsLens w h (u16_at zs 0) (number zs 1) (number zs 2) in
     subst P (sym (only_lens c (stands_settled place.Lens a c at r.fits.stands))) (λ r.
     let t = lens_numbers w h zs s r.fits.within r.fits.ordered in
-    (one_passes a b command.Lens zs (pos (id_at zs 0) ∷ number zs 1 ∷ number zs 2 ∷ []) r refl t.0, at_behind place.Lens a b command.Lens zs at r refl, t.1)) r
+    (one_passes a b command.Lens zs (pos (u16_at zs 0) ∷ number zs 1 ∷ number zs 2 ∷ []) r refl t.0, at_behind place.Lens a b command.Lens zs at r refl, t.1)) r
 
-three_colours : (zs : List ℤ) → AreWithin colour_limits zs → zs ≡ pos (byte_at zs 0) ∷ pos (byte_at zs 1) ∷ pos (byte_at zs 2) ∷ []
+three_colours : (zs : List ℤ) → AreWithin colour_limits zs → zs ≡ pos (u8_at zs 0) ∷ pos (u8_at zs 1) ∷ pos (u8_at zs 2) ∷ []
 three_colours (x ∷ y ∷ z ∷ []) w = sym (rw (colour_back x w.0, colour_back y w.1.0, colour_back z w.1.1.0) refl)
 three_colours [] w = absurd w
 three_colours (x ∷ []) w = absurd w.1
@@ -131,11 +132,11 @@ three_colours (x ∷ y ∷ []) w = absurd w.1.1
 three_colours (x ∷ y ∷ z ∷ u ∷ zs) w = absurd w.1.1.1
 
 pub back_read : (a b : Stand) (c : Command) (zs : List ℤ) → IsAt place.Back a → LineRead a b c zs
-    → Passes a b ((command.Back, pos (byte_at zs 0) ∷ pos (byte_at zs 1) ∷ pos (byte_at zs 2) ∷ []) ∷ []) × IsAt place.Start b
+    → Passes a b ((command.Back, pos (u8_at zs 0) ∷ pos (u8_at zs 1) ∷ pos (u8_at zs 2) ∷ []) ∷ []) × IsAt place.Start b
 back_read a b c zs at r =
-    let P : Command → Type 0 = λ c. LineRead a b c zs → Passes a b ((command.Back, pos (byte_at zs 0) ∷ pos (byte_at zs 1) ∷ pos (byte_at zs 2) ∷ []) ∷ []) × IsAt place.Start b in
+    let P : Command → Type 0 = λ c. LineRead a b c zs → Passes a b ((command.Back, pos (u8_at zs 0) ∷ pos (u8_at zs 1) ∷ pos (u8_at zs 2) ∷ []) ∷ []) × IsAt place.Start b in
     subst P (sym (only_back c (stands_settled place.Back a c at r.fits.stands))) (λ r.
-    (one_passes a b command.Back zs (pos (byte_at zs 0) ∷ pos (byte_at zs 1) ∷ pos (byte_at zs 2) ∷ []) r refl (three_colours zs r.fits.within), at_behind place.Back a b command.Back zs at r refl)) r
+    (one_passes a b command.Back zs (pos (u8_at zs 0) ∷ pos (u8_at zs 1) ∷ pos (u8_at zs 2) ∷ []) r refl (three_colours zs r.fits.within), at_behind place.Back a b command.Back zs at r refl)) r
 
 -- `app` as the fifth line
 pub app_read : (a b : Stand) (zs : List ℤ) → IsAt place.Start a → LineRead a b command.App zs → StartRead a b

@@ -22,9 +22,9 @@ use Rattle.play_format.specs.declared.commands.Command.TheVariants as command
 use Rattle.play_format.specs.declared.places.Version.{Version}
 use Rattle.play_format.specs.declared.places.Spot.{Spot}
 use Rattle.play_format.specs.Words.{words}
-use Rattle.play_format.specs.Commands.{form_text, text_of, tail_of, form_limits, limits_of, words_in, all_commands}
+use Rattle.play_format.specs.Commands.{form_text, text_of, tail_of, form_limits, limits_of, words_in, all_commands, Entry}
 use Rattle.play_format.specs.Places.{AreWithin, may_stand, may_end, is_known, next_spot, channels_after}
-use Rattle.play_format.specs.Grammar.{◌>>=◌, Entry, numbers_at, switch_form, picked, named, command_at, entry_at, line_at, read_from}
+use Rattle.play_format.specs.Grammar.{◌>>=◌, numbers_at, switch_form, picked, named, command_at, entry_at, line_at, read_from}
 use Rattle.play_format.specs.Spelling.{words_of, line_of, text_of_lines}
 use Rattle.play_format.specs.Reads.{Follow}
 use Rattle.play_format.proofs.ReadingLemmas.{bytes_yes}

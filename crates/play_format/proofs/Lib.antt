@@ -17,3 +17,4 @@ pub mod AgainLemmas
 pub mod OneLemmas
 pub mod WholeLemmas
 pub mod ParseLemmas
+mod WriterLemmas

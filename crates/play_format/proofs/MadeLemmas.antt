@@ -15,7 +15,7 @@ use Rattle.play_format.specs.declared.places.Version.{Version}
 use Rattle.play_format.specs.declared.places.Place.TheVariants as place
 use Rattle.play_format.specs.Commands.{between, form_limits, limits_of, id, count, view_limits, channel_view_limits}
 use Rattle.play_format.specs.Places.{number, IsWithin, AreWithin, announced_by, announced, stands_in_app, stands_in_dbase, stands_in_buffer, place_after, channels_after, due_after}
-use Rattle.play_format.specs.Making.{below, byte_at, id_at, count_at, vector, view_at, edit_of, app_step_of, base_step_of}
+use Rattle.play_format.specs.Making.{below, u8_at, u16_at, u32_at, vector, view_at, edit_of, app_step_of, base_step_of}
 use Rattle.play_format.specs.Spelling.{edit_entry, edit_triangles, tri_entry, view_numbers, view_entry, app_lines, base_lines}
 use Rattle.play_format.specs.Written.{AreTriangles, IsSquare, IsWritten, IsAppStep, IsBaseStep}
 use Rattle.play_format.specs.Plays.{app_fits, base_fits, opened}
@@ -51,7 +51,7 @@ kept_id (pos n) = kept_of n (ltb n 65536) refl
 kept_id (negsuc n) = refl
 
 -- a new node of a line fits where its kind does
-new_fits : (zs : List ℤ) (b : Bool) → b ≡ true → (ltb (id_at zs 0) 65536 && b) ≡ true
+new_fits : (zs : List ℤ) (b : Bool) → b ≡ true → (ltb (u16_at zs 0) 65536 && b) ≡ true
 new_fits zs b e = let P : Bool → Type 0 = λ a. (a && b) ≡ true in subst P (sym (kept_id (number zs 0))) e
 
 -- an edit that a line makes is in its ranges
@@ -236,7 +236,7 @@ channel_entry : (n : ℕ) (z : ℤ) (v : _) → pos n ≡ z → 0 < n → view_e
 channel_entry zero z v e lt = absurd (omega arith)
 channel_entry (suc n) z v e lt = ap (λ (y : ℤ). (command.ChannelView, y ∷ view_numbers v)) e
 
-channel_line : (n : ℕ) (zs : List ℤ) → n ≤ 4 → AreWithin (channel_view_limits n) zs → (view_entry (byte_at zs 0) (view_at zs 1) ≡ (command.ChannelView, zs)) × (ltb (byte_at zs 0) n ≡ true)
+channel_line : (n : ℕ) (zs : List ℤ) → n ≤ 4 → AreWithin (channel_view_limits n) zs → (view_entry (u8_at zs 0) (view_at zs 1) ≡ (command.ChannelView, zs)) × (ltb (u8_at zs 0) n ≡ true)
 channel_line n (z0 ∷ z1 ∷ z2 ∷ z3 ∷ z4 ∷ z5 ∷ z6 ∷ []) few w = let e = channel_back n z0 few w.0 in (channel_entry (below 256 z0) z0 _ e.0 e.1 ∙ ap (λ (ys : List ℤ). (command.ChannelView, z0 ∷ ys)) (view_back z1 z2 z3 z4 z5 z6 w.1.0 w.1.1.0 w.1.1.1.0 w.1.1.1.1.0 w.1.1.1.1.1.0 w.1.1.1.1.1.1.0), e.2)
 channel_line n ([]) few w = absurd w
 channel_line n (z0 ∷ []) few w = absurd w.1
@@ -248,13 +248,13 @@ channel_line n (z0 ∷ z1 ∷ z2 ∷ z3 ∷ z4 ∷ z5 ∷ []) few w = absurd w.1
 channel_line n (z0 ∷ z1 ∷ z2 ∷ z3 ∷ z4 ∷ z5 ∷ z6 ∷ z ∷ zs) few w = absurd w.1.1.1.1.1.1.1
 
 -- a count
-count_line : (zs : List ℤ) → AreWithin (count ∷ []) zs → pos (count_at zs 0) ∷ [] ≡ zs
+count_line : (zs : List ℤ) → AreWithin (count ∷ []) zs → pos (u32_at zs 0) ∷ [] ≡ zs
 count_line (z0 ∷ []) w = rw (count_back z0 w.0) refl
 count_line ([]) w = absurd w
 count_line (z0 ∷ z ∷ zs) w = absurd w.1
 
 -- two ids
-pair_line : (zs : List ℤ) → AreWithin (id ∷ id ∷ []) zs → pos (id_at zs 0) ∷ pos (id_at zs 1) ∷ [] ≡ zs
+pair_line : (zs : List ℤ) → AreWithin (id ∷ id ∷ []) zs → pos (u16_at zs 0) ∷ pos (u16_at zs 1) ∷ [] ≡ zs
 pair_line (z0 ∷ z1 ∷ []) w = rw (id_back z0 w.0, id_back z1 w.1.0) refl
 pair_line ([]) w = absurd w
 pair_line (z0 ∷ []) w = absurd w.1

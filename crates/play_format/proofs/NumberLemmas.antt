@@ -7,7 +7,8 @@ use Rattle.std.proofs.lemmas.Int.{ints, clamps}
 use Rattle.play_format.specs.declared.refusal.Why.{Why}
 use Rattle.play_format.specs.declared.refusal.Why.TheVariants as whys
 use Rattle.play_format.specs.declared.numbers.Limits.{Limits}
-use Rattle.play_format.specs.Numbers.{held, number_at, is_number, value_of}
+use Rattle.play_format.specs.Numbers.{number_at, is_number, value_of}
+use Rattle.play_format.specs.Rests.{held}
 
 -- a digit more, of a number that is held at a bound
 pub min_more : (a d : ℕ) → min (min a 1099511627776 * 10 + d) 1099511627776 ≡ min (a * 10 + d) 1099511627776

@@ -19,15 +19,15 @@ use Rattle.play_format.specs.declared.refusal.Refusal.{Refusal}
 use Rattle.play_format.specs.declared.commands.Command.TheVariants as command
 use Rattle.play_format.specs.declared.places.Version.{Version}
 use Rattle.play_format.specs.declared.places.Spot.{Spot}
-use Rattle.play_format.specs.Commands.{limits_of}
+use Rattle.play_format.specs.Commands.{limits_of, Entry}
 use Rattle.play_format.specs.Places.{AreWithin, announced, next_spot, start}
-use Rattle.play_format.specs.Grammar.{Entry, reading}
+use Rattle.play_format.specs.Grammar.{reading}
 use Rattle.play_format.specs.Making.{tri_of, app_step_of, base_step_of}
-use Rattle.play_format.specs.Spelling.{tri_entry, edit_triangles, app_entry, app_triangles, app_lines, base_entry, base_triangles, base_lines}
+use Rattle.play_format.specs.Spelling.{tri_entry, edit_triangles, app_entry, app_triangles, app_lines, base_entry, base_triangles, base_lines, header_entries, channels_entries, app_entries, base_entries, AreAppNumbered, AreBaseNumbered}
 use Rattle.play_format.specs.Written.{AreTriangles, IsAppStep, IsBaseStep, IsWritten}
 use Rattle.play_format.specs.Plays.{Script}
-use Rattle.play_format.specs.Sections.{header_entries, channels_entries, app_entries, base_entries, AreAppNumbered, AreBaseNumbered}
-use Rattle.play_format.specs.Reads.{Layout, entries_of, dbase_entries, first_line, IsLaidOut, Follow, Reads, ReadAs}
+use Rattle.play_format.specs.Outcomes.{ReadAs}
+use Rattle.play_format.specs.Reads.{Layout, entries_of, dbase_entries, first_line, IsLaidOut, Follow, Reads}
 use Rattle.play_format.proofs.EntryLemmas.{channels_within}
 use Rattle.play_format.proofs.LawLemmas.{some_channels, few_channels}
 use Rattle.play_format.proofs.TextLemmas.{reading_spelled, reading_again}

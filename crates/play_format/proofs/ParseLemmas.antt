@@ -6,9 +6,9 @@ use Rattle.play_format.specs.declared.refusal.Refusal.{Refusal}
 use Rattle.play_format.specs.declared.refusal.ParseError.{ParseError}
 use Rattle.play_format.specs.declared.refusal.ParseError.TheVariants as parse_error
 use Rattle.play_format.specs.Grammar.{reading}
-use Rattle.play_format.specs.Outcomes.{Refuses}
+use Rattle.play_format.specs.Outcomes.{Refuses, ReadAs}
 use Rattle.play_format.specs.Plays.{Script}
-use Rattle.play_format.specs.Reads.{Reads, ReadAs, HasReading, first_refusal, Gives, IsRefusal}
+use Rattle.play_format.specs.Reads.{Reads, HasReading, first_refusal, Gives, IsRefusal}
 use Rattle.play_format.proofs.OneLemmas.{one_play, read_of_spelling, spelling_of_read}
 
 abbrev Answers : List ℕ → Result Script ParseError → Type 0

@@ -8,16 +8,17 @@ use Rattle.play_format.specs.declared.refusal.Refusal.{Refusal}
 use Rattle.play_format.specs.declared.refusal.ParseError.{ParseError}
 use Rattle.play_format.specs.declared.commands.Command.TheVariants as command
 use Rattle.play_format.specs.declared.places.Version.{Version}
-use Rattle.play_format.specs.Outcomes.{Refuses}
-use Rattle.play_format.specs.Places.{start, IsSound}
-use Rattle.play_format.specs.Grammar.{Entry, reading, with_version}
-use Rattle.play_format.specs.Steps.{unread, with_front}
-use Rattle.play_format.specs.Spelling.{app_lines, base_lines}
+use Rattle.play_format.specs.Outcomes.{Refuses, ReadAs}
+use Rattle.play_format.specs.Places.{start}
+use Rattle.play_format.specs.Grammar.{reading, with_version}
+use Rattle.play_format.specs.Rests.{IsSound, unread, with_front, Stand, stand}
+use Rattle.play_format.specs.Spelling.{app_lines, base_lines, header_entries, app_entries, base_entries}
 use Rattle.play_format.specs.Plays.{Script, IsPlay}
-use Rattle.play_format.specs.Sections.{Stand, stand, HeaderRead, AppSection, BaseSection, header_entries, app_entries, base_entries}
-use Rattle.play_format.specs.Reads.{ReadAs, first_line}
+use Rattle.play_format.specs.Sections.{HeaderRead, AppSection, BaseSection}
+use Rattle.play_format.specs.Reads.{first_line}
 use Rattle.play_format.proofs.SectionLemmas.{refused_behind}
 use Rattle.play_format.proofs.HeaderLemmas.{refused_version}
+use Rattle.play_format.specs.Commands.{Entry}
 
 abbrev pub script : Lens → List ℕ → ℕ → List AppLine → List BaseLine → Script
 script lens back channels app dbase = record { lens = lens; back = back; channels = channels; app = app; dbase = dbase }

@@ -14,7 +14,7 @@ use Rattle.play_format.specs.Grammar.{◌>>=◌, entry_at, at_line, line_at, end
 use Rattle.play_format.specs.declared.refusal.ParseError.{ParseError}
 use Rattle.play_format.specs.declared.refusal.ParseError.TheVariants as parse_error
 use Rattle.play_format.specs.Outcomes.{Refuses}
-use Rattle.play_format.specs.Steps.{unread, with_front}
+use Rattle.play_format.specs.Rests.{unread, with_front}
 
 not_zero : (n : ℕ) → 0 < n → eqb n 0 ≡ false
 not_zero n h = grind (arith, nat_tests)

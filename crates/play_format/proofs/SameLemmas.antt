@@ -7,7 +7,8 @@ use Rattle.fx_math.specs.declared.vectors.Vec3.{Vec3}
 use Rattle.fx_math.specs.declared.matrices.Affine.{Affine}
 use Rattle.pf_model.specs.Three.{AreThree}
 use Rattle.pf_model.specs.declared.geometry.Tri.{Tri}
-use Rattle.play_format.specs.Making.{vector, vector_if, are_coordinates, coordinates, origin, affine, affine_if, are_entries, identity, is_row}
+use Rattle.play_format.specs.Making.{vector, vector_if, are_coordinates, coordinates, affine, affine_if, are_entries, is_row}
+use Rattle.fx_math.specs.Constants.{origin_vector, identity_step}
 
 are_coordinates_once : (x y z : ℤ) → IsProp (AreCoordinates x y z)
 are_coordinates_once x y z = hlevel props
@@ -77,13 +78,13 @@ vector_is v x y z e f g =
     let k = vector_has x y z h in
     same_point v (vector x y z) (e ∙ sym k.0) (f ∙ sym k.1) (g ∙ sym k.2)
 
-unmade : (x y z : ℤ) (b : Bool) (e : are_coordinates x y z ≡ b) → (AreCoordinates x y z → ⊥) → origin ≡ vector_if x y z b e
+unmade : (x y z : ℤ) (b : Bool) (e : are_coordinates x y z ≡ b) → (AreCoordinates x y z → ⊥) → origin_vector ≡ vector_if x y z b e
 unfolding vector_if
 unmade x y z true e h = absurd (h (coordinates x y z e))
 unmade x y z false e h = refl
 
--- numbers that are no coordinates make the origin
-pub vector_none : (x y z : ℤ) → (AreCoordinates x y z → ⊥) → origin ≡ vector x y z
+-- numbers that are no coordinates make the point 0
+pub vector_none : (x y z : ℤ) → (AreCoordinates x y z → ⊥) → origin_vector ≡ vector x y z
 unfolding vector
 vector_none x y z h = unmade x y z (are_coordinates x y z) refl h
 
@@ -107,11 +108,11 @@ affine_has a t h = step_of a t (are_entries a) refl h
 pub affine_is : (m : Affine) → m ≡ affine m.a m.t
 affine_is m = let k = affine_has m.a m.t m.entries in same_affine m (affine m.a m.t) (sym k.0) (sym k.1)
 
-no_step : (a : List (List ℤ)) (t : Vec3) (b : Bool) (e : are_entries a ≡ b) → b ≡ false → identity ≡ affine_if a t b e
+no_step : (a : List (List ℤ)) (t : Vec3) (b : Bool) (e : are_entries a ≡ b) → b ≡ false → identity_step ≡ affine_if a t b e
 unfolding affine_if
 no_step a t true e h = absurd cc
 no_step a t false e h = refl
 
-pub affine_none : (a : List (List ℤ)) (t : Vec3) → are_entries a ≡ false → identity ≡ affine a t
+pub affine_none : (a : List (List ℤ)) (t : Vec3) → are_entries a ≡ false → identity_step ≡ affine a t
 unfolding affine
 affine_none a t h = no_step a t (are_entries a) refl h

@@ -21,15 +21,14 @@ use Rattle.pf_model.specs.declared.lines.AppLine.{AppLine}
 use Rattle.pf_model.specs.declared.lines.BaseStep.{BaseStep}
 use Rattle.pf_model.specs.declared.lines.BaseLine.{BaseLine}
 use Rattle.play_format.specs.Outcomes.{Refuses}
-use Rattle.play_format.specs.Commands.{limits_of}
-use Rattle.play_format.specs.Places.{is_buffer, channels_after, due_after, place_after, announced, stands_in_app, may_stand, may_end, is_closed, is_triangle, next_spot, stands_at, AreWithin}
-use Rattle.play_format.specs.Grammar.{Entry}
-use Rattle.play_format.specs.Steps.{unread, with_front}
+use Rattle.play_format.specs.Commands.{limits_of, Entry}
+use Rattle.play_format.specs.Places.{channels_after, due_after, place_after, announced, stands_in_app, may_stand, may_end, is_closed, is_triangle, next_spot, stands_at, AreWithin}
+use Rattle.play_format.specs.Rests.{unread, with_front, Stand}
 use Rattle.play_format.specs.Making.{tri_of, app_step_of, base_step_of}
-use Rattle.play_format.specs.Spelling.{tri_entry, app_lines, base_lines}
+use Rattle.play_format.specs.Spelling.{tri_entry, app_lines, base_lines, AreAppNumbered, app_entries, AreBaseNumbered, base_entries}
 use Rattle.play_format.specs.Written.{AreTriangles, IsAppStep, IsBaseStep}
 use Rattle.play_format.specs.Plays.{app_fits, base_fits, opened, open_after}
-use Rattle.play_format.specs.Sections.{Stand, Passes, LineRead, IsAt, TrianglesRead, AppStepRead, AppRead, AreAppNumbered, app_entries, AppSection, IsInBase, place_of, BaseStepRead, BaseRead, AreBaseNumbered, base_entries, BaseSection}
+use Rattle.play_format.specs.Sections.{Passes, LineRead, IsAt, TrianglesRead, AppStepRead, AppRead, AppSection, IsInBase, place_of, BaseStepRead, BaseRead, BaseSection, is_buffer}
 use Rattle.play_format.proofs.BackLemmas.{tri_back}
 use Rattle.play_format.proofs.EntryLemmas.{both}
 use Rattle.play_format.proofs.MadeLemmas.{AppBack, app_back, app_none, no_triangle, no_number, few_announced, BaseBack, base_back, base_some, stands_in_base}

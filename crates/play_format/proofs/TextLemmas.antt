@@ -22,11 +22,10 @@ use Rattle.play_format.specs.declared.places.Version.{Version}
 use Rattle.play_format.specs.declared.places.Version.TheVariants as version
 use Rattle.play_format.specs.declared.places.Spot.{Spot}
 use Rattle.play_format.specs.Words.{pieces, words}
-use Rattle.play_format.specs.Commands.{form_text, text_of, form_tail, tail_of, form_limits, limits_of, words_in}
+use Rattle.play_format.specs.Commands.{form_text, text_of, form_tail, tail_of, form_limits, limits_of, words_in, Entry}
 use Rattle.play_format.specs.Numbers.{is_number}
-use Rattle.play_format.specs.Places.{AreWithin, next_spot, start}
-use Rattle.play_format.specs.Grammar.{◌>>=◌, Entry, switched, picked, named, command_at, entry_at, at_line, read_from, version_at, judged_version, with_version, lines_at, reading}
-use Rattle.play_format.specs.Steps.{Fits}
+use Rattle.play_format.specs.Places.{AreWithin, next_spot, start, Fits}
+use Rattle.play_format.specs.Grammar.{◌>>=◌, switched, picked, named, command_at, entry_at, at_line, read_from, version_at, judged_version, with_version, lines_at, reading}
 use Rattle.play_format.specs.Spelling.{words_of, line_of, text_of_lines, version_line}
 use Rattle.play_format.specs.Reads.{Follow}
 use Rattle.play_format.proofs.ReadingLemmas.{bytes_yes}

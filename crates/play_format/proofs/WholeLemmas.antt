@@ -23,12 +23,12 @@ use Rattle.play_format.specs.declared.places.Place.TheVariants as place
 use Rattle.play_format.specs.declared.places.Spot.{Spot}
 use Rattle.play_format.specs.Words.{pieces}
 use Rattle.play_format.specs.Places.{number, may_end, is_closed, next_spot, start}
-use Rattle.play_format.specs.Grammar.{◌>>=◌, Entry, entry_at, line_at, judged_version, with_version, reading}
-use Rattle.play_format.specs.Steps.{unread}
-use Rattle.play_format.specs.Making.{id_at, byte_at, tri_of, app_step_of, base_step_of}
+use Rattle.play_format.specs.Grammar.{◌>>=◌, entry_at, line_at, judged_version, with_version, reading}
+use Rattle.play_format.specs.Commands.{Entry}
+use Rattle.play_format.specs.Making.{u16_at, u8_at, tri_of, app_step_of, base_step_of}
 use Rattle.play_format.specs.Plays.{Script}
-use Rattle.play_format.specs.Sections.{Stand, stand, LineRead, IsAt, TrianglesRead, StartRead, HeaderRead, AppSection, BaseSection}
-use Rattle.play_format.specs.Reads.{ReadAs, HasReading, first_refusal}
+use Rattle.play_format.specs.Sections.{LineRead, IsAt, TrianglesRead, StartRead, HeaderRead, AppSection, BaseSection}
+use Rattle.play_format.specs.Reads.{HasReading, first_refusal}
 use Rattle.play_format.proofs.EntryLemmas.{bind_ok, fits_of, channels_within}
 use Rattle.play_format.proofs.ReaderLemmas.{unread_end, unread_line, unread_more, line_read}
 use Rattle.play_format.proofs.SectionLemmas.{TrianglesSoFar, no_triangles, triangle_more, triangles_done, AppSoFar, no_steps, app_step_read, app_section_read, app_more, app_ends, app_stops, BaseSoFar, no_base_steps, base_step_read, base_no_step, base_more, base_stops, closed_end}
@@ -36,6 +36,8 @@ use Rattle.play_format.proofs.HeaderLemmas.{no_end, at_behind, size_read, lens_r
 use Rattle.play_format.proofs.LawLemmas.{some_channels, few_channels}
 use Rattle.play_format.proofs.PlayLemmas.{read_app, read_both}
 use Rattle.play_format.proofs.OneLemmas.{spelling_of_read}
+use Rattle.play_format.specs.Rests.{unread, Stand, stand}
+use Rattle.play_format.specs.Outcomes.{ReadAs}
 
 -- Lines
 
@@ -274,13 +276,13 @@ whole_header a es at one l =
     let s = next_line place.Size a es at refl l in
     let size = size_read a s.taken.after s.entry.0 s.entry.1 at s.taken.line in
     let f = next_line place.Lens s.taken.after s.more size.1 refl s.taken.left in
-    let w = id_at s.entry.1 0 in
-    let h = id_at s.entry.1 1 in
+    let w = u16_at s.entry.1 0 in
+    let h = u16_at s.entry.1 1 in
     let view = lens_read s.taken.after f.taken.after f.entry.0 f.entry.1 w h size.1 size.2 f.taken.line in
-    let lens : Lens = record { w = w; h = h; f = id_at f.entry.1 0; near = number f.entry.1 1; far = number f.entry.1 2; in_range = view.2 } in
+    let lens : Lens = record { w = w; h = h; f = u16_at f.entry.1 0; near = number f.entry.1 1; far = number f.entry.1 2; in_range = view.2 } in
     let b = next_line place.Back f.taken.after f.more view.1 refl f.taken.left in
     let colours = back_read f.taken.after b.taken.after b.entry.0 b.entry.1 view.1 b.taken.line in
-    let back : List ℕ = byte_at b.entry.1 0 ∷ byte_at b.entry.1 1 ∷ byte_at b.entry.1 2 ∷ [] in
+    let back : List ℕ = u8_at b.entry.1 0 ∷ u8_at b.entry.1 1 ∷ u8_at b.entry.1 2 ∷ [] in
     let start = start_line b.taken.after b.more colours.1 b.taken.left in
     record {
       after = start.after;

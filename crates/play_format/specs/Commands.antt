@@ -220,11 +220,16 @@ words_in channels c = 1 + (length (limits_of channels c) + length (tail_of c))
 abbrev pub all_commands : List Command
 all_commands =
     command.Triangle ∷ command.Edit form.Trans ∷ command.Edit form.Rot ∷ command.Frame ∷ command.View
-    ∷ command.Edit form.Add ∷ command.Edit form.SwitchTo ∷ command.Edit form.Scale ∷ command.Edit form.Remove ∷ command.Edit form.Mat
-    ∷ command.Sync ∷ command.Wait ∷ command.Edit form.Dcs ∷ command.Edit form.Geode ∷ command.Edit form.Range
-    ∷ command.Edit form.Group ∷ command.Edit form.Verts ∷ command.Await ∷ command.Buffer ∷ command.Merge
-    ∷ command.BufferAdd ∷ command.BufferRemove ∷ command.Edit form.Delete ∷ command.Edit form.Insert ∷ command.Edit form.Replace
-    ∷ command.Edit form.Glass ∷ command.ChannelView ∷ command.Edit form.Centre ∷ command.Edit form.Times ∷ command.Edit form.Run
-    ∷ command.Edit form.Stop ∷ command.Edit form.Lod ∷ command.Edit form.Seq ∷ command.Edit form.Switch ∷ command.Edit form.Layer
-    ∷ command.Edit form.Scs ∷ command.Size ∷ command.Lens ∷ command.Back ∷ command.Channels
-    ∷ command.App ∷ command.Dbase ∷ []
+    ∷ command.Edit form.Add ∷ command.Edit form.SwitchTo ∷ command.Edit form.Scale ∷ command.Edit form.Remove
+    ∷ command.Edit form.Mat ∷ command.Sync ∷ command.Wait ∷ command.Edit form.Dcs ∷ command.Edit form.Geode
+    ∷ command.Edit form.Range ∷ command.Edit form.Group ∷ command.Edit form.Verts ∷ command.Await
+    ∷ command.Buffer ∷ command.Merge ∷ command.BufferAdd ∷ command.BufferRemove ∷ command.Edit form.Delete
+    ∷ command.Edit form.Insert ∷ command.Edit form.Replace ∷ command.Edit form.Glass ∷ command.ChannelView
+    ∷ command.Edit form.Centre ∷ command.Edit form.Times ∷ command.Edit form.Run ∷ command.Edit form.Stop
+    ∷ command.Edit form.Lod ∷ command.Edit form.Seq ∷ command.Edit form.Switch ∷ command.Edit form.Layer
+    ∷ command.Edit form.Scs ∷ command.Size ∷ command.Lens ∷ command.Back ∷ command.Channels ∷ command.App
+    ∷ command.Dbase ∷ []
+
+-- a line behind the first: its command and its numbers
+abbrev pub Entry : Type 0
+Entry = Command × List ℤ

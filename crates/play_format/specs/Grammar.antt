@@ -16,12 +16,8 @@ use Rattle.play_format.specs.declared.places.Version.TheVariants as version
 use Rattle.play_format.specs.declared.places.Spot.{Spot}
 use Rattle.play_format.specs.Numbers.{number_at}
 use Rattle.play_format.specs.Words.{words, pieces}
-use Rattle.play_format.specs.Commands.{text_of, limits_of, words_in, all_commands}
+use Rattle.play_format.specs.Commands.{Entry, text_of, limits_of, words_in, all_commands}
 use Rattle.play_format.specs.Places.{may_stand, may_end, is_ordered, has_room, next_spot, start}
-
--- a line behind the first: its command and its numbers
-abbrev pub Entry : Type 0
-Entry = Command × List ℤ
 
 infixl 10 ◌>>=◌
 abbrev pub ◌>>=◌ : {A B E : Type 0} → Result A E → (A → Result B E) → Result B E
@@ -85,7 +81,8 @@ at_line n (Err why) = Err (record { line = n; why = why })
 -- line number n: it may not be the 262,145th, nor have more than 1,024 bytes
 abbrev pub line_at : {A : Type 0} → ℕ → List ℕ → Result A Why → Result A Refusal
 line_at n line read =
-    at_line n (if nat_lt 262144 n then Err whys.Count else (if nat_lt 1024 (length line) then Err whys.Length else read))
+    at_line n (if nat_lt 262144 n then Err whys.Count
+    else (if nat_lt 1024 (length line) then Err whys.Length else read))
 
 -- what stands behind the last line feed: nothing, where the play may end there
 abbrev pub end_at : Bool → ℕ → List ℕ → Result (List Entry) Refusal

@@ -1,6 +1,5 @@
 -- Numbers as a play spells them: `0`, or digits of which the first is not 0, with `-` before them for a negative one.
 use Rattle.std.specs.Prelude.{ℕ, ◌-◌, Bool, ◌&&◌, ◌||◌, ◌==◌, not, nat_lt, if◌then◌else◌, List, length, drop, ℤ, pos, negsuc, int_le, Result, Ok, Err, slice_index}
-use Rattle.std.specs.Int.{int_min, int_max}
 use Rattle.std.specs.List.{list_all}
 use Rattle.std.specs.Char.{is_ascii_digit}
 use Rattle.std.specs.Str.Parse.{digits_value}
@@ -34,7 +33,3 @@ number_at r w =
     if is_number w then
     (if int_le r.low (value_of w) && int_le (value_of w) r.high then Ok (value_of w) else Err whys.Range)
     else Err whys.Number
-
--- a number as it is read: held within 2 ^ 40 of 0
-abbrev pub held : ℤ → ℤ
-held z = int_max (negsuc 1099511627775) (int_min z (pos 1099511627776))

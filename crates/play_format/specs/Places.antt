@@ -1,5 +1,5 @@
 -- Which line may stand at which place of a play.
-use Rattle.std.specs.Prelude.{ℕ, ◌+◌, ◌-◌, ◌≤◌, ◌==◌, ◌&&◌, Bool, true, false, if◌then◌else◌, nat_lt, nat_le, List, ℤ, pos, ◌≤ℤ◌, int_le, unsigned_abs, slice_index_or, [], ◌∷◌}
+use Rattle.std.specs.Prelude.{ℕ, ◌+◌, ◌-◌, ◌==◌, ◌&&◌, Bool, true, false, IsTrue, if◌then◌else◌, nat_lt, nat_le, List, ℤ, pos, ◌≤ℤ◌, int_le, unsigned_abs, slice_index_or, [], ◌∷◌}
 use Rattle.play_format.specs.declared.numbers.Limits.{Limits}
 use Rattle.play_format.specs.declared.commands.Form.{Form}
 use Rattle.play_format.specs.declared.commands.Form.TheVariants as form
@@ -10,6 +10,7 @@ use Rattle.play_format.specs.declared.places.Version.TheVariants as version
 use Rattle.play_format.specs.declared.places.Place.{Place}
 use Rattle.play_format.specs.declared.places.Place.TheVariants as place
 use Rattle.play_format.specs.declared.places.Spot.{Spot}
+use Rattle.play_format.specs.Commands.{limits_of}
 
 -- number k of a line
 abbrev pub number : List ℤ → ℕ → ℤ
@@ -163,13 +164,9 @@ AreWithin [] [] = Unit {0}
 AreWithin (r ∷ rs) (z ∷ zs) = IsWithin r z × AreWithin rs zs
 AreWithin _ _ = ⊥
 
--- what holds at every spot of a play
-pub record IsSound (s : Spot) : Type 0 where
-  pub some_channel : 1 ≤ s.channels
-  pub channels : s.channels ≤ 4
-  pub triangles : s.triangles ≤ 65536
-  pub due : s.due ≤ 65536
-
-abbrev pub is_buffer : Place → Bool
-is_buffer place.Buffer = true
-is_buffer _ = false
+-- a line may stand at a spot
+pub record Fits (s : Spot) (c : Command) (zs : List ℤ) : Type 0 where
+  pub stands : IsTrue (may_stand s c)
+  pub within : AreWithin (limits_of s.channels c) zs
+  pub ordered : IsTrue (is_ordered c zs)
+  pub room : IsTrue (has_room s c zs)

@@ -9,13 +9,12 @@ use Rattle.play_format.specs.declared.refusal.ParseError.TheVariants as parse_er
 use Rattle.play_format.specs.declared.commands.Command.TheVariants as command
 use Rattle.play_format.specs.declared.places.Version.{Version}
 use Rattle.play_format.specs.declared.places.Spot.{Spot}
-use Rattle.play_format.specs.Places.{may_end, next_spot, start}
-use Rattle.play_format.specs.Grammar.{Entry, reading}
-use Rattle.play_format.specs.Steps.{Fits}
-use Rattle.play_format.specs.Spelling.{line_of, text_of_lines, version_line}
+use Rattle.play_format.specs.Places.{may_end, next_spot, start, Fits}
+use Rattle.play_format.specs.Grammar.{reading}
+use Rattle.play_format.specs.Commands.{Entry}
+use Rattle.play_format.specs.Spelling.{line_of, text_of_lines, version_line, header_entries, app_entries, base_entries, AreAppNumbered, AreBaseNumbered}
 use Rattle.play_format.specs.Written.{IsAppStep, IsBaseStep}
 use Rattle.play_format.specs.Plays.{Script}
-use Rattle.play_format.specs.Sections.{header_entries, app_entries, base_entries, AreAppNumbered, AreBaseNumbered}
 
 -- What a play's text may choose: the version, whether the number of channels has a line, and whether the database process
 -- has a section.
@@ -32,7 +31,8 @@ dbase_entries true ls = (command.Dbase, []) ∷ base_entries ls
 -- all lines of a play behind the first
 abbrev pub entries_of : Layout → Script → List Entry
 entries_of layout p =
-    header_entries layout.says_channels p.lens p.back p.channels ++ (app_entries p.app ++ dbase_entries layout.has_dbase p.dbase)
+    header_entries layout.says_channels p.lens p.back p.channels
+    ++ (app_entries p.app ++ dbase_entries layout.has_dbase p.dbase)
 
 -- the number of the first line behind the header
 abbrev pub first_line : Bool → ℕ
@@ -62,12 +62,6 @@ pub record Reads (text : List ℕ) (p : Script) : Type 0 where
   pub lines : length (entries_of layout p) < 262144
   pub few : length text ≤ 16777216
   pub spelled : text ≡ text_of_lines (version_line layout.version ∷ map line_of (entries_of layout p))
-
--- the reading of the text is the lines of the play
-pub record ReadAs (text : List ℕ) (p : Script) : Type 0 where
-  pub layout : Layout
-  pub laid_out : IsLaidOut layout p
-  pub read : reading text ≡ Ok (layout.version, entries_of layout p)
 
 abbrev pub HasReading : List ℕ → Type 0
 HasReading text = (p : Script) × Reads text p

@@ -1,32 +1,32 @@
 -- What is read of a section, one step after the other.
-use Rattle.std.specs.Prelude.{◌≡◌, ℕ, ◌+◌, ◌<◌, ◌≤◌, Bool, true, false, List, [], ◌∷◌, ◌++◌, length, map, ℤ, pos, if◌then◌else◌, Option, Some, None, Ok}
-use Rattle.std.specs.List.{flat_map, list_all, AllByRecursion}
+use Rattle.std.specs.Prelude.{◌≡◌, ℕ, ◌+◌, ◌<◌, ◌≤◌, Bool, true, false, List, [], ◌∷◌, ◌++◌, length, map, ℤ, if◌then◌else◌, Option, Some, None, Result, Ok}
+use Rattle.std.specs.List.{list_all, AllByRecursion}
 use Rattle.fx_math.specs.declared.lenses.Lens.{Lens}
 use Rattle.pf_model.specs.declared.geometry.Tri.{Tri}
 use Rattle.pf_model.specs.declared.lines.AppLine.{AppLine}
 use Rattle.pf_model.specs.declared.lines.BaseLine.{BaseLine}
+use Rattle.play_format.specs.declared.refusal.Refusal.{Refusal}
 use Rattle.play_format.specs.declared.commands.Command.{Command}
 use Rattle.play_format.specs.declared.commands.Command.TheVariants as command
 use Rattle.play_format.specs.declared.places.Place.{Place}
 use Rattle.play_format.specs.declared.places.Place.TheVariants as place
-use Rattle.play_format.specs.declared.places.Spot.{Spot}
 use Rattle.play_format.specs.declared.sections.Turn.{Turn}
 use Rattle.play_format.specs.declared.sections.Turn.TheVariants as turn
-use Rattle.play_format.specs.Places.{is_buffer, next_spot}
-use Rattle.play_format.specs.Grammar.{Entry}
-use Rattle.play_format.specs.Steps.{unread, with_front, Fits}
-use Rattle.play_format.specs.Spelling.{app_lines, base_lines, tri_entry}
+use Rattle.play_format.specs.Places.{next_spot, Fits}
+use Rattle.play_format.specs.Commands.{Entry}
+use Rattle.play_format.specs.declared.reader.Reader.{Reader}
+use Rattle.play_format.specs.Rests.{Stand, stand, unread, with_front}
+use Rattle.play_format.specs.Spelling.{app_lines, base_lines, tri_entry, app_entries, base_entries, AreAppNumbered, AreBaseNumbered, channels_entries, header_entries}
 use Rattle.play_format.specs.Written.{AreTriangles, IsAppStep, IsBaseStep}
 use Rattle.play_format.specs.Plays.{app_fits, base_fits, opened, open_after}
 
--- where a text is read: the spot, the number of the next line, and the text that is left
-pub record Stand : Type 0 where
-  pub spot : Spot
-  pub line : ℕ
-  pub text : List ℕ
+-- where a reader stands
+abbrev pub stand_of : Reader → Stand
+stand_of r = stand r.spot r.line r.rest.now
 
-abbrev pub stand : Spot → ℕ → List ℕ → Stand
-stand s n text = record { spot = s; line = n; text = text }
+-- what is read of the text that it has left
+abbrev pub unread_by : Reader → Result (List Entry) Refusal
+unread_by r = unread r.spot r.line r.rest.now
 
 -- lines were read between two stands
 pub record Passes (a b : Stand) (es : List Entry) : Type 0 where
@@ -72,14 +72,6 @@ AppTurn a b (turn.Step l) = AppStepRead a b l
 AppTurn a b turn.Section = Passes a b ((command.Dbase, []) ∷ []) × IsAt place.Dbase b
 AppTurn a b turn.End = (unread a.spot a.line a.text ≡ Ok []) × (b.line ≡ a.line)
 
-abbrev pub app_entries : List AppLine → List Entry
-app_entries ls = flat_map (λ l. app_lines l.step) ls
-
--- the line of a step is that of its command
-abbrev pub AreAppNumbered : ℕ → List AppLine → Type 0
-AreAppNumbered n [] = Unit {0}
-AreAppNumbered n (l ∷ ls) = (l.line ≡ n) × AreAppNumbered (n + length (app_lines l.step)) ls
-
 -- steps of the application
 pub record AppRead (channels n : ℕ) (ls : List AppLine) : Type 0 where
   pub numbered : AreAppNumbered n ls
@@ -88,8 +80,15 @@ pub record AppRead (channels n : ℕ) (ls : List AppLine) : Type 0 where
 
 -- the section of the application, up to the line `dbase` or to the end
 abbrev pub AppSection : Stand → Stand → List AppLine → Bool → Type 0
-AppSection a b ls true = Passes a b (app_entries ls ++ (command.Dbase, []) ∷ []) × IsAt place.Dbase b × AppRead a.spot.channels a.line ls
-AppSection a b ls false = (unread a.spot a.line a.text ≡ Ok (app_entries ls)) × (b.line ≡ a.line + length (app_entries ls)) × AppRead a.spot.channels a.line ls
+AppSection a b ls true =
+    Passes a b (app_entries ls ++ (command.Dbase, []) ∷ []) × IsAt place.Dbase b × AppRead a.spot.channels a.line ls
+AppSection a b ls false =
+    (unread a.spot a.line a.text ≡ Ok (app_entries ls)) × (b.line ≡ a.line + length (app_entries ls))
+    × AppRead a.spot.channels a.line ls
+
+abbrev pub is_buffer : Place → Bool
+is_buffer place.Buffer = true
+is_buffer _ = false
 
 -- the place outside a buffer and inside
 abbrev pub place_of : Bool → Place
@@ -115,13 +114,6 @@ abbrev pub BaseTurn : Stand → Stand → Option BaseLine → Type 0
 BaseTurn a b (Some l) = BaseStepRead a b l
 BaseTurn a b None = (unread a.spot a.line a.text ≡ Ok []) × (b.line ≡ a.line) × (is_buffer a.spot.place ≡ false)
 
-abbrev pub base_entries : List BaseLine → List Entry
-base_entries ls = flat_map (λ l. base_lines l.step) ls
-
-abbrev pub AreBaseNumbered : ℕ → List BaseLine → Type 0
-AreBaseNumbered n [] = Unit {0}
-AreBaseNumbered n (l ∷ ls) = (l.line ≡ n) × AreBaseNumbered (n + length (base_lines l.step)) ls
-
 -- steps of the database process
 pub record BaseRead (n : ℕ) (ls : List BaseLine) : Type 0 where
   pub numbered : AreBaseNumbered n ls
@@ -130,19 +122,11 @@ pub record BaseRead (n : ℕ) (ls : List BaseLine) : Type 0 where
 
 -- the section of the database process
 abbrev pub BaseSection : Stand → Stand → List BaseLine → Type 0
-BaseSection a b ls = (unread a.spot a.line a.text ≡ Ok (base_entries ls)) × (b.line ≡ a.line + length (base_entries ls)) × BaseRead a.line ls × (open_after false ls ≡ Some false)
+BaseSection a b ls =
+    (unread a.spot a.line a.text ≡ Ok (base_entries ls)) × (b.line ≡ a.line + length (base_entries ls))
+    × BaseRead a.line ls × (open_after false ls ≡ Some false)
 
 -- The header
-
-abbrev pub channels_entries : Bool → ℕ → List Entry
-channels_entries false n = []
-channels_entries true n = (command.Channels, pos n ∷ []) ∷ []
-
--- the lines of the header behind the first
-abbrev pub header_entries : Bool → Lens → List ℕ → ℕ → List Entry
-header_entries says lens back channels =
-    (command.Size, pos lens.w ∷ pos lens.h ∷ []) ∷ (command.Lens, pos lens.f ∷ lens.near ∷ lens.far ∷ []) ∷ (command.Back, map pos back)
-    ∷ (channels_entries says channels ++ (command.App, []) ∷ [])
 
 -- a size of a picture
 pub record IsSize (w h : ℕ) : Type 0 where
@@ -154,7 +138,8 @@ pub record IsSize (w h : ℕ) : Type 0 where
 -- the lines from the fifth up to `app`
 pub record StartRead (a b : Stand) : Type 0 where
   pub says : Bool
-  pub told : unread a.spot a.line a.text ≡ with_front (channels_entries says b.spot.channels ++ (command.App, []) ∷ []) (unread b.spot b.line b.text)
+  pub told : unread a.spot a.line a.text
+      ≡ with_front (channels_entries says b.spot.channels ++ (command.App, []) ∷ []) (unread b.spot b.line b.text)
   pub line : b.line ≡ a.line + (if says then 2 else 1)
   pub version : b.spot.version ≡ a.spot.version
   pub one_channel : says ≡ false → b.spot.channels ≡ a.spot.channels
@@ -163,7 +148,8 @@ pub record StartRead (a b : Stand) : Type 0 where
 -- the header behind the first line
 pub record HeaderRead (a b : Stand) (lens : Lens) (back : List ℕ) : Type 0 where
   pub says : Bool
-  pub told : unread a.spot a.line a.text ≡ with_front (header_entries says lens back b.spot.channels) (unread b.spot b.line b.text)
+  pub told : unread a.spot a.line a.text
+      ≡ with_front (header_entries says lens back b.spot.channels) (unread b.spot b.line b.text)
   pub line : b.line ≡ a.line + (if says then 5 else 4)
   pub version : b.spot.version ≡ a.spot.version
   pub one_channel : says ≡ false → b.spot.channels ≡ 1

@@ -1,9 +1,10 @@
 -- The lines of a play's steps, and their spelling. Nothing here reads.
-use Rattle.std.specs.Prelude.{ℕ, zero, suc, List, [], ◌∷◌, ◌++◌, map, codes, ℤ, pos, length}
+use Rattle.std.specs.Prelude.{◌≡◌, ℕ, ◌+◌, Bool, true, false, zero, suc, List, [], ◌∷◌, ◌++◌, map, codes, ℤ, pos, length}
 use Rattle.std.specs.List.{flat_map, join_with_byte}
 use Rattle.std.specs.Fmt.{signed_decimal}
 use Rattle.fx_math.specs.declared.vectors.Vec3.{Vec3}
 use Rattle.fx_math.specs.declared.matrices.Affine.{Affine}
+use Rattle.fx_math.specs.declared.lenses.Lens.{Lens}
 use Rattle.pf_model.specs.Angles.{Viewpoint}
 use Rattle.pf_model.specs.declared.geometry.Tri.{Tri}
 use Rattle.pf_model.specs.declared.nodes.Kind.{Kind}
@@ -14,22 +15,23 @@ use Rattle.pf_model.specs.declared.edits.Edit.{Edit}
 use Rattle.pf_model.specs.declared.edits.Edit.TheVariants as edit
 use Rattle.pf_model.specs.declared.lines.AppStep.{AppStep}
 use Rattle.pf_model.specs.declared.lines.AppStep.TheVariants as app_step
+use Rattle.pf_model.specs.declared.lines.AppLine.{AppLine}
 use Rattle.pf_model.specs.declared.lines.BaseStep.{BaseStep}
 use Rattle.pf_model.specs.declared.lines.BaseStep.TheVariants as base_step
+use Rattle.pf_model.specs.declared.lines.BaseLine.{BaseLine}
 use Rattle.play_format.specs.declared.commands.Form.{Form}
 use Rattle.play_format.specs.declared.commands.Form.TheVariants as form
-use Rattle.play_format.specs.declared.commands.Command.{Command}
 use Rattle.play_format.specs.declared.commands.Command.TheVariants as command
 use Rattle.play_format.specs.declared.places.Version.{Version}
 use Rattle.play_format.specs.declared.places.Version.TheVariants as version
-use Rattle.play_format.specs.Commands.{text_of, tail_of}
+use Rattle.play_format.specs.Commands.{Entry, text_of, tail_of}
 
 -- the words of a line: those of its command round its numbers
-abbrev pub words_of : Command × List ℤ → List (List ℕ)
+abbrev pub words_of : Entry → List (List ℕ)
 words_of e = text_of e.0 ∷ (map signed_decimal e.1 ++ tail_of e.0)
 
 -- its text, without the line feed
-abbrev pub line_of : Command × List ℤ → List ℕ
+abbrev pub line_of : Entry → List ℕ
 line_of e = join_with_byte 32 (words_of e)
 
 -- each line ends with a line feed
@@ -56,7 +58,7 @@ abbrev pub corner_numbers : List Vec3 → List (List ℕ) → List ℤ
 corner_numbers (v ∷ vs) (c ∷ cs) = point_numbers v ++ (map pos c ++ corner_numbers vs cs)
 corner_numbers _ _ = []
 
-abbrev pub tri_entry : Tri → Command × List ℤ
+abbrev pub tri_entry : Tri → Entry
 tri_entry t = (command.Triangle, corner_numbers t.v t.c)
 
 -- Edits
@@ -133,7 +135,7 @@ edit_numbers (edit.Stop id) = pos id ∷ []
 edit_numbers (edit.Verts id ts) = pos id ∷ pos (length ts) ∷ []
 
 -- the line of an edit, and the triangles behind it
-abbrev pub edit_entry : Edit → Command × List ℤ
+abbrev pub edit_entry : Edit → Entry
 edit_entry e = (command.Edit (edit_form e), edit_numbers e)
 
 abbrev pub edit_triangles : Edit → List Tri
@@ -141,13 +143,17 @@ edit_triangles (edit.Make id k) = kind_triangles k
 edit_triangles (edit.Verts id ts) = ts
 edit_triangles _ = []
 
+-- the text of an edit, without its triangle lines
+abbrev pub edit_text : Edit → List ℕ
+edit_text e = line_of (edit_entry e)
+
 -- Steps
 
-abbrev pub view_entry : ℕ → Viewpoint → Command × List ℤ
+abbrev pub view_entry : ℕ → Viewpoint → Entry
 view_entry zero v = (command.View, view_numbers v)
 view_entry (suc c) v = (command.ChannelView, pos (suc c) ∷ view_numbers v)
 
-abbrev pub app_entry : AppStep → Command × List ℤ
+abbrev pub app_entry : AppStep → Entry
 app_entry (app_step.Edit e) = edit_entry e
 app_entry (app_step.View c v) = view_entry c v
 app_entry app_step.Sync = (command.Sync, [])
@@ -159,11 +165,11 @@ app_triangles (app_step.Edit e) = edit_triangles e
 app_triangles _ = []
 
 -- a link that is asked for: an Add or a Remove
-abbrev pub ask_entry : Edit → Command × List ℤ
+abbrev pub ask_entry : Edit → Entry
 ask_entry (edit.Remove p c) = (command.BufferRemove, pos p ∷ pos c ∷ [])
 ask_entry e = (command.BufferAdd, edit_numbers e)
 
-abbrev pub base_entry : BaseStep → Command × List ℤ
+abbrev pub base_entry : BaseStep → Entry
 base_entry base_step.Buffer = (command.Buffer, [])
 base_entry (base_step.Edit e) = edit_entry e
 base_entry (base_step.Ask e) = ask_entry e
@@ -175,8 +181,37 @@ base_triangles (base_step.Edit e) = edit_triangles e
 base_triangles _ = []
 
 -- the lines of a step: its own, and its triangle lines
-abbrev pub app_lines : AppStep → List (Command × List ℤ)
+abbrev pub app_lines : AppStep → List Entry
 app_lines s = app_entry s ∷ map tri_entry (app_triangles s)
 
-abbrev pub base_lines : BaseStep → List (Command × List ℤ)
+abbrev pub base_lines : BaseStep → List Entry
 base_lines s = base_entry s ∷ map tri_entry (base_triangles s)
+
+-- The lines of a section, and of the header
+
+abbrev pub app_entries : List AppLine → List Entry
+app_entries ls = flat_map (λ l. app_lines l.step) ls
+
+-- the line of a step is that of its command
+abbrev pub AreAppNumbered : ℕ → List AppLine → Type 0
+AreAppNumbered n [] = Unit {0}
+AreAppNumbered n (l ∷ ls) = (l.line ≡ n) × AreAppNumbered (n + length (app_lines l.step)) ls
+
+abbrev pub base_entries : List BaseLine → List Entry
+base_entries ls = flat_map (λ l. base_lines l.step) ls
+
+abbrev pub AreBaseNumbered : ℕ → List BaseLine → Type 0
+AreBaseNumbered n [] = Unit {0}
+AreBaseNumbered n (l ∷ ls) = (l.line ≡ n) × AreBaseNumbered (n + length (base_lines l.step)) ls
+
+abbrev pub channels_entries : Bool → ℕ → List Entry
+channels_entries false n = []
+channels_entries true n = (command.Channels, pos n ∷ []) ∷ []
+
+-- the lines of the header behind the first
+abbrev pub header_entries : Bool → Lens → List ℕ → ℕ → List Entry
+header_entries says lens back channels =
+    (command.Size, pos lens.w ∷ pos lens.h ∷ [])
+    ∷ (command.Lens, pos lens.f ∷ lens.near ∷ lens.far ∷ [])
+    ∷ (command.Back, map pos back)
+    ∷ (channels_entries says channels ++ (command.App, []) ∷ [])

@@ -1,7 +1,9 @@
 -- What the steps of a play are like: a line can make them.
-use Rattle.std.specs.Prelude.{◌≡◌, ℕ, List, [], ◌∷◌, ℤ, slice_index_or, slice_index}
+use Rattle.std.specs.Prelude.{◌≡◌, ℕ, List, [], ◌∷◌, ℤ, slice_index_or, slice_index, pos}
 use Rattle.std.specs.List.{AllByRecursion}
 use Rattle.fx_math.specs.Within.{entry, row_at}
+use Rattle.fx_math.specs.Constants.{origin_vector}
+use Rattle.pf_model.specs.Angles.{EulerPose}
 use Rattle.pf_model.specs.declared.geometry.Tri.{Tri}
 use Rattle.pf_model.specs.declared.nodes.Kind.{Kind}
 use Rattle.pf_model.specs.declared.nodes.Kind.TheVariants as kind
@@ -14,7 +16,6 @@ use Rattle.pf_model.specs.declared.lines.AppStep.{AppStep}
 use Rattle.pf_model.specs.declared.lines.AppStep.TheVariants as app_step
 use Rattle.pf_model.specs.declared.lines.BaseStep.{BaseStep}
 use Rattle.pf_model.specs.declared.lines.BaseStep.TheVariants as base_step
-use Rattle.play_format.specs.Making.{origin, new_pose}
 
 -- a matrix has three rows of three entries
 pub record IsSquare (a : List (List ℤ)) : Type 0 where
@@ -34,13 +35,17 @@ pub record AreColours (c : List (List ℕ)) : Type 0 where
 abbrev pub AreTriangles : List Tri → Type 0
 AreTriangles ts = AllByRecursion (λ t. AreColours t.c) ts
 
+-- the pose of a new dynamic coordinate system: the scale 1, and all else 0
+abbrev pub new_pose : EulerPose
+new_pose = record { scale = pos 65536; h = pos 0; p = pos 0; r = pos 0; t = origin_vector }
+
 -- A kind as a line makes it: a new switch is off, a new DCS has the pose of scale 1, a new LOD has the centre 0 and no
 -- ranges, and a new sequence has no times and is held at place 0.
 abbrev pub IsNew : Kind → Type 0
 IsNew (kind.Switch p) = p ≡ pick.Off
 IsNew (kind.Scs m) = IsSquare m.a
 IsNew (kind.Dcs p) = p ≡ pose.Euler new_pose
-IsNew (kind.Lod c rs) = (c ≡ origin) × (rs ≡ [])
+IsNew (kind.Lod c rs) = (c ≡ origin_vector) × (rs ≡ [])
 IsNew (kind.Seq ts r) = (ts ≡ []) × (r ≡ run.Held 0)
 IsNew (kind.Geode s ts) = AreTriangles ts
 IsNew (kind.Glass s a ts) = AreTriangles ts

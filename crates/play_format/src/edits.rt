@@ -1,14 +1,16 @@
 //! The edit of a line.
 ghost use Rattle.std.specs.Prelude.{◌≡◌, []};
 ghost use Rattle.play_format.specs.Places.{number};
-ghost use Rattle.play_format.specs.Making.{byte_at, id_at, count_at, vector_at, affine_at, new_pose, origin, edit_of};
+ghost use Rattle.play_format.specs.Making.{u8_at, u16_at, u32_at, vector_at, affine_at, edit_of};
 ghost use Rattle.pf_model.specs.declared.poses.Pose.TheVariants as pose;
 ghost use Rattle.pf_model.specs.declared.nodes.Kind.TheVariants as kind;
 ghost use Rattle.pf_model.specs.declared.nodes.Run.TheVariants as run;
 ghost use Rattle.pf_model.specs.declared.edits.Edit.TheVariants as edit;
+ghost use Rattle.play_format.specs.Written.{new_pose};
+ghost use Rattle.fx_math.specs.Constants.{origin_vector};
 
 use crate::commands::Form;
-use crate::making::{affine_at, byte_at, count_at, id_at, vector_at};
+use crate::making::{affine_at, u8_at, u16_at, u32_at, vector_at};
 use crate::places::number;
 use fx_math::{UNIT, Vec3};
 use pf_model::{Edit, Euler, Geom, Kind, Pick, Pose, Ranges, Run, Times};
@@ -28,7 +30,7 @@ fn new_pose() -> Pose
 }
 
 fn new_lod(alloc: Global) -> Kind
-    ensures { result ≡ kind.Lod origin [] }
+    ensures { result ≡ kind.Lod origin_vector [] }
 {
     Kind::Lod {
         centre: Vec3::ORIGIN,
@@ -47,21 +49,21 @@ fn new_seq(alloc: Global) -> Kind
 
 /// A new geode of the triangles behind its line.
 fn new_geode(numbers: &[i32], geom: Geom) -> Kind
-    ensures { result ≡ kind.Geode (id_at numbers.now 1) geom }
+    ensures { result ≡ kind.Geode (u16_at numbers.now 1) geom }
 {
     Kind::Geode {
-        state: id_at(numbers, 1),
+        state: u16_at(numbers, 1),
         geom,
     }
 }
 
 /// New glass of the triangles behind its line.
 fn new_glass(numbers: &[i32], geom: Geom) -> Kind
-    ensures { result ≡ kind.Glass (id_at numbers.now 1) (byte_at numbers.now 2) geom }
+    ensures { result ≡ kind.Glass (u16_at numbers.now 1) (u8_at numbers.now 2) geom }
 {
     Kind::Glass {
-        state: id_at(numbers, 1),
-        alpha: byte_at(numbers, 2),
+        state: u16_at(numbers, 1),
+        alpha: u8_at(numbers, 2),
         geom,
     }
 }
@@ -74,41 +76,41 @@ fn make(id: u16, kind: Kind) -> Edit
 
 /// The link of two nodes.
 pub fn add(numbers: &[i32]) -> Edit
-    ensures { result ≡ edit.Add (id_at numbers.now 0) (id_at numbers.now 1) }
+    ensures { result ≡ edit.Add (u16_at numbers.now 0) (u16_at numbers.now 1) }
 {
     Edit::Add {
-        parent: id_at(numbers, 0),
-        child: id_at(numbers, 1),
+        parent: u16_at(numbers, 0),
+        child: u16_at(numbers, 1),
     }
 }
 
 /// The end of a link of two nodes.
 pub fn remove(numbers: &[i32]) -> Edit
-    ensures { result ≡ edit.Remove (id_at numbers.now 0) (id_at numbers.now 1) }
+    ensures { result ≡ edit.Remove (u16_at numbers.now 0) (u16_at numbers.now 1) }
 {
     Edit::Remove {
-        parent: id_at(numbers, 0),
-        child: id_at(numbers, 1),
+        parent: u16_at(numbers, 0),
+        child: u16_at(numbers, 1),
     }
 }
 
 fn insert(numbers: &[i32]) -> Edit
-    ensures { result ≡ edit.Insert (id_at numbers.now 0) (id_at numbers.now 1) (id_at numbers.now 2) }
+    ensures { result ≡ edit.Insert (u16_at numbers.now 0) (u16_at numbers.now 1) (u16_at numbers.now 2) }
 {
     Edit::Insert {
-        parent: id_at(numbers, 0),
-        place: id_at(numbers, 1),
-        child: id_at(numbers, 2),
+        parent: u16_at(numbers, 0),
+        place: u16_at(numbers, 1),
+        child: u16_at(numbers, 2),
     }
 }
 
 fn replace(numbers: &[i32]) -> Edit
-    ensures { result ≡ edit.Replace (id_at numbers.now 0) (id_at numbers.now 1) (id_at numbers.now 2) }
+    ensures { result ≡ edit.Replace (u16_at numbers.now 0) (u16_at numbers.now 1) (u16_at numbers.now 2) }
 {
     Edit::Replace {
-        parent: id_at(numbers, 0),
-        child: id_at(numbers, 1),
-        by: id_at(numbers, 2),
+        parent: u16_at(numbers, 0),
+        child: u16_at(numbers, 1),
+        by: u16_at(numbers, 2),
     }
 }
 
@@ -119,28 +121,29 @@ fn set_switch(id: u16, pick: Pick) -> Edit
 }
 
 fn set_matrix(numbers: &[i32]) -> Edit
-    ensures { result ≡ edit.Mat (id_at numbers.now 0) (affine_at numbers.now 1) }
+    ensures { result ≡ edit.Mat (u16_at numbers.now 0) (affine_at numbers.now 1) }
 {
     Edit::Mat {
-        id: id_at(numbers, 0),
+        id: u16_at(numbers, 0),
         mat: affine_at(numbers, 1),
     }
 }
 
 fn set_translation(numbers: &[i32]) -> Edit
-    ensures { result ≡ edit.Trans (id_at numbers.now 0) (vector_at numbers.now 1) }
+    ensures { result ≡ edit.Trans (u16_at numbers.now 0) (vector_at numbers.now 1) }
 {
     Edit::Trans {
-        id: id_at(numbers, 0),
+        id: u16_at(numbers, 0),
         t: vector_at(numbers, 1),
     }
 }
 
 fn set_angles(numbers: &[i32]) -> Edit
-    ensures { result ≡ edit.Rot (id_at numbers.now 0) (number numbers.now 1) (number numbers.now 2) (number numbers.now 3) }
+    ensures { result
+        ≡ edit.Rot (u16_at numbers.now 0) (number numbers.now 1) (number numbers.now 2) (number numbers.now 3) }
 {
     Edit::Rot {
-        id: id_at(numbers, 0),
+        id: u16_at(numbers, 0),
         h: number(numbers, 1),
         p: number(numbers, 2),
         r: number(numbers, 3),
@@ -148,40 +151,40 @@ fn set_angles(numbers: &[i32]) -> Edit
 }
 
 fn set_scale(numbers: &[i32]) -> Edit
-    ensures { result ≡ edit.Scale (id_at numbers.now 0) (number numbers.now 1) }
+    ensures { result ≡ edit.Scale (u16_at numbers.now 0) (number numbers.now 1) }
 {
     Edit::Scale {
-        id: id_at(numbers, 0),
+        id: u16_at(numbers, 0),
         s: number(numbers, 1),
     }
 }
 
 fn set_centre(numbers: &[i32]) -> Edit
-    ensures { result ≡ edit.Centre (id_at numbers.now 0) (vector_at numbers.now 1) }
+    ensures { result ≡ edit.Centre (u16_at numbers.now 0) (vector_at numbers.now 1) }
 {
     Edit::Centre {
-        id: id_at(numbers, 0),
+        id: u16_at(numbers, 0),
         at: vector_at(numbers, 1),
     }
 }
 
 fn set_range(numbers: &[i32]) -> Edit
-    ensures { result ≡ edit.Range (id_at numbers.now 0) (id_at numbers.now 1) (count_at numbers.now 2) }
+    ensures { result ≡ edit.Range (u16_at numbers.now 0) (u16_at numbers.now 1) (u32_at numbers.now 2) }
 {
     Edit::Range {
-        id: id_at(numbers, 0),
-        place: id_at(numbers, 1),
-        value: count_at(numbers, 2),
+        id: u16_at(numbers, 0),
+        place: u16_at(numbers, 1),
+        value: u32_at(numbers, 2),
     }
 }
 
 fn set_time(numbers: &[i32]) -> Edit
-    ensures { result ≡ edit.Times (id_at numbers.now 0) (id_at numbers.now 1) (id_at numbers.now 2) }
+    ensures { result ≡ edit.Times (u16_at numbers.now 0) (u16_at numbers.now 1) (u16_at numbers.now 2) }
 {
     Edit::Times {
-        id: id_at(numbers, 0),
-        place: id_at(numbers, 1),
-        frames: id_at(numbers, 2),
+        id: u16_at(numbers, 0),
+        place: u16_at(numbers, 1),
+        frames: u16_at(numbers, 2),
     }
 }
 
@@ -189,7 +192,7 @@ fn set_time(numbers: &[i32]) -> Edit
 pub fn edit_of(alloc: Global, form: Form, numbers: &[i32], geom: Geom) -> Edit
     ensures { result ≡ edit_of form numbers.now geom }
 {
-    let id = id_at(numbers, 0);
+    let id = u16_at(numbers, 0);
     match form {
         Form::Group => make(id, Kind::Group),
         Form::Switch => make(id, Kind::Switch(Pick::Off)),
@@ -208,7 +211,7 @@ pub fn edit_of(alloc: Global, form: Form, numbers: &[i32], geom: Geom) -> Edit
         Form::Delete => Edit::Delete { id },
         Form::Run => Edit::Run { id },
         Form::Stop => Edit::Stop { id },
-        Form::SwitchTo => set_switch(id, Pick::One(id_at(numbers, 1))),
+        Form::SwitchTo => set_switch(id, Pick::One(u16_at(numbers, 1))),
         Form::SwitchOn => set_switch(id, Pick::On),
         Form::SwitchOff => set_switch(id, Pick::Off),
         Form::Mat => set_matrix(numbers),

@@ -13,12 +13,13 @@ mod reader;
 mod reading;
 mod refusal;
 mod sections;
+mod spelling;
 mod words;
 
 pub use parser::{one_reading, parse};
-pub use pf_model::{AppLine, AppStep, BaseLine, BaseStep};
 pub use play::Play;
 pub use refusal::{ParseError, Refusal, Why};
+pub use spelling::append_edit;
 
 #[cfg(test)]
 mod tests;

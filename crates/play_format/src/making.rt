@@ -1,6 +1,6 @@
 //! What the numbers of a line make.
 ghost use Rattle.std.specs.Prelude.{◌≡◌, ◌+◌, ◌<◌};
-ghost use Rattle.play_format.specs.Making.{below, byte_at, id_at, count_at, vector, vector_at, is_within, is_row, are_entries, affine, three_at, affine_at, angle_at, view_at, colour_at, tri_of, app_step_of, base_step_of};
+ghost use Rattle.play_format.specs.Making.{below, u8_at, u16_at, u32_at, vector, vector_at, is_within, is_row, are_entries, affine, three_at, affine_at, angle_at, view_at, colour_at, tri_of, app_step_of, base_step_of};
 ghost use Rattle.fx_math.specs.Within.{IsWithin};
 
 use crate::commands::Command;
@@ -11,22 +11,22 @@ use pf_model::{AppStep, BaseStep, Geom, Tri, View};
 use std::alloc::Global;
 
 /// Number `k` of a line as a number of 8 bits.
-pub fn byte_at(numbers: &[i32], k: usize) -> u8
-    ensures { result ≡ byte_at numbers.now k }
+pub fn u8_at(numbers: &[i32], k: usize) -> u8
+    ensures { result ≡ u8_at numbers.now k }
 {
     u8::try_from(number(numbers, k)).unwrap_or(0)
 }
 
 /// Number `k` of a line as a number of 16 bits.
-pub fn id_at(numbers: &[i32], k: usize) -> u16
-    ensures { result ≡ id_at numbers.now k }
+pub fn u16_at(numbers: &[i32], k: usize) -> u16
+    ensures { result ≡ u16_at numbers.now k }
 {
     u16::try_from(number(numbers, k)).unwrap_or(0)
 }
 
 /// Number `k` of a line as a number of 32 bits.
-pub fn count_at(numbers: &[i32], k: usize) -> u32
-    ensures { result ≡ count_at numbers.now k }
+pub fn u32_at(numbers: &[i32], k: usize) -> u32
+    ensures { result ≡ u32_at numbers.now k }
 {
     u32::try_from(number(numbers, k)).unwrap_or(0)
 }
@@ -138,9 +138,9 @@ fn colour_at(numbers: &[i32], k: usize) -> [u8; 3]
     ensures { result ≡ colour_at numbers.now k }
 {
     [
-        byte_at(numbers, k),
-        byte_at(numbers, k + 1),
-        byte_at(numbers, k + 2),
+        u8_at(numbers, k),
+        u8_at(numbers, k + 1),
+        u8_at(numbers, k + 2),
     ]
 }
 
@@ -168,10 +168,10 @@ pub fn app_step_of(alloc: Global, command: Command, numbers: &[i32], geom: Geom)
 {
     match command {
         Command::View => Some(AppStep::View(0, view_at(numbers, 0))),
-        Command::ChannelView => Some(AppStep::View(byte_at(numbers, 0), view_at(numbers, 1))),
+        Command::ChannelView => Some(AppStep::View(u8_at(numbers, 0), view_at(numbers, 1))),
         Command::Sync => Some(AppStep::Sync),
         Command::Frame => Some(AppStep::Frame),
-        Command::Wait => Some(AppStep::Wait(count_at(numbers, 0))),
+        Command::Wait => Some(AppStep::Wait(u32_at(numbers, 0))),
         Command::Edit(form) => Some(AppStep::Edit(edit_of(alloc, form, numbers, geom))),
         _ => None,
     }
@@ -187,7 +187,7 @@ pub fn base_step_of(
     ensures { result ≡ base_step_of command numbers.now geom }
 {
     match command {
-        Command::Await => Some(BaseStep::Await(count_at(numbers, 0))),
+        Command::Await => Some(BaseStep::Await(u32_at(numbers, 0))),
         Command::Buffer => Some(BaseStep::Buffer),
         Command::Merge => Some(BaseStep::Merge),
         Command::BufferAdd => Some(BaseStep::Ask(add(numbers))),

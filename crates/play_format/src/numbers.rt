@@ -4,8 +4,8 @@ ghost use Rattle.std.specs.List.{prefix_len, take_while, list_all};
 ghost use Rattle.std.specs.Char.{is_ascii_digit};
 ghost use Rattle.std.specs.Str.Parse.{digits_value};
 ghost use Rattle.play_format.specs.declared.refusal.Why.TheVariants as whys;
-ghost use Rattle.play_format.specs.Words.{front_word, front_len, IsBehind};
-ghost use Rattle.play_format.specs.Numbers.{is_natural, is_number, value_of, number_at, held, minus};
+ghost use Rattle.play_format.specs.Rests.{front_word, front_len, IsBehind, held};
+ghost use Rattle.play_format.specs.Numbers.{is_natural, is_number, value_of, number_at, minus};
 
 use crate::refusal::Why;
 
@@ -67,7 +67,8 @@ fn begins_with(text: &[u8], b: u8) -> bool
 /// space after it, where there is a space. It is `Err(Why::Number)` where the word is no such number.
 fn natural(text: &[u8]) -> Result<(u64, Option<&[u8]>), Why>
     ensures { MatchResult result
-        (λ r. (is_natural (front_word text.now) ≡ true) × (r.0 ≡ min (digits_value 10 (front_word text.now)) 1099511627776) × IsBehind text.now r.1)
+        (λ r. (is_natural (front_word text.now) ≡ true)
+        × (r.0 ≡ min (digits_value 10 (front_word text.now)) 1099511627776) × IsBehind text.now r.1)
         (λ why. (why ≡ whys.Number) × (is_natural (front_word text.now) ≡ false)) }
 {
     let (value, len) = digits(text);
@@ -90,7 +91,8 @@ fn with_sign(is_negative: bool, n: u64) -> i64
 /// space after it, where there is a space. It is `Err(Why::Number)` where the word is no number.
 fn signed(text: &[u8]) -> Result<(i64, Option<&[u8]>), Why>
     ensures { MatchResult result
-        (λ r. (is_number (front_word text.now) ≡ true) × (r.0 ≡ held (value_of (front_word text.now))) × IsBehind text.now r.1)
+        (λ r. (is_number (front_word text.now) ≡ true)
+        × (r.0 ≡ held (value_of (front_word text.now))) × IsBehind text.now r.1)
         (λ why. (why ≡ whys.Number) × (is_number (front_word text.now) ≡ false)) }
 {
     let is_negative = begins_with(text, b'-');

@@ -1,8 +1,8 @@
 //! Reading a play.
 ghost use Rattle.std.specs.Prelude.{◌≡◌, ℕ, List, None, IfOk, IfErr, MatchResult};
-ghost use Rattle.play_format.specs.Outcomes.{Refuses};
+ghost use Rattle.play_format.specs.Outcomes.{Refuses, ReadAs};
 ghost use Rattle.play_format.specs.Grammar.{reading};
-ghost use Rattle.play_format.specs.Reads.{ReadAs, Reads, HasReading, first_refusal, Gives, IsRefusal};
+ghost use Rattle.play_format.specs.Reads.{Reads, HasReading, first_refusal, Gives, IsRefusal};
 ghost use Rattle.play_format.specs.Plays.{Script};
 
 use crate::header::{header, version};

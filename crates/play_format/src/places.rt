@@ -1,6 +1,7 @@
 //! Which line may stand at which place of a play.
 ghost use Rattle.std.specs.Prelude.{◌≡◌, ◌+◌, ◌≤◌, ◌<◌, ◌-◌, if◌then◌else◌, IsTrue, unsigned_abs};
-ghost use Rattle.play_format.specs.Places.{number, is_known, may_stand, may_end, announced_by, announced, is_ordered, has_room, next_spot, start, place_after, channels_after, is_triangle, stands_at_start, stands_in_app, stands_in_buffer, IsSound};
+ghost use Rattle.play_format.specs.Places.{number, is_known, may_stand, may_end, announced_by, announced, is_ordered, has_room, next_spot, start, place_after, channels_after, is_triangle, stands_at_start, stands_in_app, stands_in_buffer};
+ghost use Rattle.play_format.specs.Rests.{IsSound};
 
 use crate::commands::{Command, Form};
 

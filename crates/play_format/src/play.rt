@@ -23,9 +23,21 @@ impl Model for Play {
 
     ghost Value = { Script };
 
-    ghost view = { λ p. record { lens = p.lens; back = p.back; channels = p.channels; app = p.app.items; dbase = p.dbase.items } };
+    ghost view = { λ p. record {
+      lens = p.lens;
+      back = p.back;
+      channels = p.channels;
+      app = p.app.items;
+      dbase = p.dbase.items;
+    } };
 
-    ghost invariant = { λ p. IsPlay (record { lens = p.lens; back = p.back; channels = p.channels; app = p.app.items; dbase = p.dbase.items }) };
+    ghost invariant = { λ p. IsPlay (record {
+      lens = p.lens;
+      back = p.back;
+      channels = p.channels;
+      app = p.app.items;
+      dbase = p.dbase.items;
+    }) };
 }
 
 impl Play {
@@ -37,8 +49,20 @@ impl Play {
         app: Vec<AppLine>,
         dbase: Vec<BaseLine>,
     ) -> Play
-        requires { IsPlay (record { lens = lens; back = back; channels = channels; app = app.items; dbase = dbase.items }) }
-        ensures { result ≡ record { lens = lens; back = back; channels = channels; app = app.items; dbase = dbase.items } }
+        requires { IsPlay (record {
+          lens = lens;
+          back = back;
+          channels = channels;
+          app = app.items;
+          dbase = dbase.items;
+        }) }
+        ensures { result ≡ record {
+          lens = lens;
+          back = back;
+          channels = channels;
+          app = app.items;
+          dbase = dbase.items;
+        } }
     {
         Play {
             lens,

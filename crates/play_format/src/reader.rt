@@ -1,9 +1,9 @@
 //! The lines of a play, one after the other.
 ghost use Rattle.std.specs.Prelude.{◌≡◌, ◌+◌, ◌<◌, ◌≤◌, [], ◌∷◌, length, Ok, IfOk, IfSome, IfNone, IsTrue, OnOk, MatchResult, MatchOption};
 ghost use Rattle.play_format.specs.Outcomes.{Refuses};
-ghost use Rattle.play_format.specs.Places.{IsSound, may_end, next_spot};
+ghost use Rattle.play_format.specs.Places.{may_end, next_spot, Fits};
 ghost use Rattle.play_format.specs.Grammar.{entry_at, line_at, end_at};
-ghost use Rattle.play_format.specs.Steps.{unread, with_front, Fits};
+ghost use Rattle.play_format.specs.Rests.{IsSound, with_front};
 
 use crate::commands::Command;
 use crate::places::Spot;
@@ -36,20 +36,23 @@ fn refused<T>(line: u32, why: Why) -> Result<T, ParseError>
 }
 
 impl Reader<'_> {
+    ghost use Rattle.play_format.specs.Sections.{unread_by};
+
     /// Reads the next line, with its numbers in place of what `numbers` holds; None where the play ends.
     pub fn next(&mut self, numbers: &mut Vec<i32>) -> Result<Option<Command>, ParseError>
         ensures read { MatchResult result
             (λ found. MatchOption found
-            (unread self.old.spot self.old.line self.old.rest.now ≡ Ok [])
-            (λ c. unread self.old.spot self.old.line self.old.rest.now
-            ≡ with_front ((c, numbers.new.items) ∷ []) (unread self.new.spot self.new.line self.new.rest.now)))
-            (λ e. Refuses e (unread self.old.spot self.old.line self.old.rest.now)) }
+            (unread_by self.old ≡ Ok [])
+            (λ c. unread_by self.old ≡ with_front ((c, numbers.new.items) ∷ []) (unread_by self.new)))
+            (λ e. Refuses e (unread_by self.old)) }
         ensures ends { IfOk result (λ found. IfNone found (IsTrue (may_end self.old.spot))) }
         ensures stays { IfOk result (λ found. IfNone found (self.new.line ≡ self.old.line)) }
         ensures fits { IfOk result (λ found. IfSome found (λ c. Fits self.old.spot c numbers.new.items)) }
-        ensures spot { IfOk result (λ found. IfSome found (λ c. self.new.spot ≡ next_spot self.old.spot c numbers.new.items)) }
+        ensures spot { IfOk result (λ found. IfSome found (λ c.
+            self.new.spot ≡ next_spot self.old.spot c numbers.new.items)) }
         ensures line { IfOk result (λ found. IfSome found (λ c. self.new.line ≡ self.old.line + 1)) }
-        ensures shorter { IfOk result (λ found. IfSome found (λ c. length self.new.rest.now < length self.old.rest.now)) }
+        ensures shorter { IfOk result (λ found. IfSome found (λ c.
+            length self.new.rest.now < length self.old.rest.now)) }
     {
         let Some((line, rest)) = cut(self.rest, b'\n') else {
             return match self.end() {
@@ -85,7 +88,9 @@ impl Reader<'_> {
     /// Whether the play may end before what is left, in which no line feed stands.
     fn end(&self) -> Result<(), ParseError>
         ensures ends { OnOk result (IsTrue (may_end self.now.spot)) }
-        ensures read { MatchResult result (λ _. end_at (may_end self.now.spot) self.now.line self.now.rest.now ≡ Ok []) (λ e. Refuses e (end_at (may_end self.now.spot) self.now.line self.now.rest.now)) }
+        ensures read { MatchResult result
+            (λ _. end_at (may_end self.now.spot) self.now.line self.now.rest.now ≡ Ok [])
+            (λ e. Refuses e (end_at (may_end self.now.spot) self.now.line self.now.rest.now)) }
     {
         if !self.rest.is_empty() {
             return refused(

@@ -3,11 +3,12 @@ ghost use Rattle.std.specs.Prelude.{◌≡◌, ◌≤◌, ◌+◌, ◌&&◌, Ok,
 ghost use Rattle.std.specs.List.{find};
 ghost use Rattle.std.specs.Option.{option_map};
 ghost use Rattle.std.specs.Str.{bytes_eq};
-ghost use Rattle.play_format.specs.Words.{words, left_words};
-ghost use Rattle.play_format.specs.Commands.{text_of, tail_of, words_in, all_commands};
-ghost use Rattle.play_format.specs.Places.{may_stand, IsSound};
-ghost use Rattle.play_format.specs.Grammar.{Entry, numbers_at, switched, switch_form, picked, named, entry_at, fields_at};
+ghost use Rattle.play_format.specs.Words.{words};
+ghost use Rattle.play_format.specs.Commands.{text_of, tail_of, words_in, all_commands, Entry};
+ghost use Rattle.play_format.specs.Places.{may_stand};
+ghost use Rattle.play_format.specs.Grammar.{numbers_at, switched, switch_form, picked, named, entry_at, fields_at};
 ghost use Rattle.play_format.specs.Outcomes.{Fails};
+ghost use Rattle.play_format.specs.Rests.{left_words, IsSound};
 
 use crate::commands::{ALL, Command, Form};
 use crate::numbers::{Limits, number};
@@ -74,7 +75,9 @@ fn read_numbers<'a>(
     rest: Option<&'a [u8]>,
     limits: &[Limits],
 ) -> Result<Option<&'a [u8]>, LineError>
-    ensures read { MatchResult result (λ _. numbers_at limits.now (left_words rest.entry) ≡ Ok numbers.new.items) (λ e. Fails e (numbers_at limits.now (left_words rest.entry))) }
+    ensures read { MatchResult result
+        (λ _. numbers_at limits.now (left_words rest.entry) ≡ Ok numbers.new.items)
+        (λ e. Fails e (numbers_at limits.now (left_words rest.entry))) }
     ensures left { IfOk result (λ left. length limits.now + length (left_words left) ≡ length (left_words rest.entry)) }
 {
     numbers.clear();
@@ -110,7 +113,9 @@ fn read_fields(
 ) -> Result<(), LineError>
     requires spot { IsSound spot }
     requires rest { drop 1 (words line.now) ≡ left_words rest }
-    ensures { MatchResult result (λ _. fields_at spot command (words line.now) ≡ Ok numbers.new.items) (λ e. Fails e (fields_at spot command (words line.now))) }
+    ensures { MatchResult result
+        (λ _. fields_at spot command (words line.now) ≡ Ok numbers.new.items)
+        (λ e. Fails e (fields_at spot command (words line.now))) }
 {
     match read_numbers(numbers, rest, command.limits(spot.channels)) {
         Ok(left) => {
@@ -135,7 +140,9 @@ fn read_fields(
 #[tactic(auto, unfolding(crate::specs::Grammar::entry_at))]
 pub fn read_line(numbers: &mut Vec<i32>, spot: Spot, line: &[u8]) -> Result<Command, LineError>
     requires { IsSound spot }
-    ensures { MatchResult result (λ c. entry_at spot line.now ≡ Ok (c, numbers.new.items)) (λ e. Fails e (entry_at spot line.now)) }
+    ensures { MatchResult result
+        (λ c. entry_at spot line.now ≡ Ok (c, numbers.new.items))
+        (λ e. Fails e (entry_at spot line.now)) }
 {
     let (word, rest) = first_word(line);
     let Some(command) = named(spot, word) else {

@@ -2,9 +2,12 @@
 
 ghost use Rattle.std.specs.Prelude.{◌≡◌};
 ghost use Rattle.play_format.specs.Outcomes.{located};
-ghost use Rattle.play_format.specs.declared.refusal.ParseError.TheVariants.{NoMemory};
+ghost use Rattle.play_format.specs.declared.refusal.ParseError.TheVariants.{NoMemory as ParseNoMemory};
 
+use pf_io::NoMemory;
 use std::alloc::{AllocError, AllocFailed};
+use std::error::Error;
+use std::fmt;
 
 /// What is wrong with a line. In a line the causes are tried in the order Count (too many lines), Length, Version,
 /// Command, Fields, Number or Range of each word, Count (too many triangles).
@@ -26,12 +29,46 @@ pub enum Why {
     Length,
 }
 
+impl fmt::Display for Why {
+    ghost use Rattle.std.specs.Prelude.{Some};
+    ghost use Rattle.play_format.specs.Messages.{cause_text};
+
+    ghost output = { λ why. Some (cause_text why) };
+
+    fn fmt<W: fmt::Write>(&self, f: &mut fmt::Formatter<W>) -> fmt::Result {
+        match self {
+            Why::Version => write!(f, "Version"),
+            Why::Command => write!(f, "Command"),
+            Why::Fields => write!(f, "Fields"),
+            Why::Number => write!(f, "Number"),
+            Why::Range => write!(f, "Range"),
+            Why::Count => write!(f, "Count"),
+            Why::Length => write!(f, "Length"),
+        }
+    }
+}
+
+impl Error for Why {}
+
 /// The first wrong line of a text, counted from 1, and what is wrong with it. Line 0 stands for the whole input.
 #[derive(Clone, Copy, Debug, PartialEq, Eq)]
 pub struct Refusal {
     pub line: u32,
     pub why: Why,
 }
+
+impl fmt::Display for Refusal {
+    ghost use Rattle.std.specs.Prelude.{Some};
+    ghost use Rattle.play_format.specs.Messages.{refusal_text};
+
+    ghost output = { λ refusal. Some (refusal_text refusal) };
+
+    fn fmt<W: fmt::Write>(&self, f: &mut fmt::Formatter<W>) -> fmt::Result {
+        write!(f, "line {}: {}", self.line, self.why)
+    }
+}
+
+impl Error for Refusal {}
 
 /// Why `parse` gives no play.
 #[derive(Debug, Drop)]
@@ -42,8 +79,24 @@ pub enum ParseError {
     NoMemory,
 }
 
+impl fmt::Display for ParseError {
+    ghost use Rattle.std.specs.Prelude.{Some};
+    ghost use Rattle.play_format.specs.Messages.{parse_error_text};
+
+    ghost output = { λ error. Some (parse_error_text error) };
+
+    fn fmt<W: fmt::Write>(&self, f: &mut fmt::Formatter<W>) -> fmt::Result {
+        match self {
+            ParseError::Refused(refusal) => write!(f, "{refusal}"),
+            ParseError::NoMemory => write!(f, "{NoMemory}"),
+        }
+    }
+}
+
+impl Error for ParseError {}
+
 impl From<AllocError> for ParseError {
-    ghost from_gives = { λ _ e. e ≡ NoMemory };
+    ghost from_gives = { λ _ e. e ≡ ParseNoMemory };
 
     fn from(_e: AllocError) -> ParseError {
         ParseError::NoMemory
@@ -51,17 +104,17 @@ impl From<AllocError> for ParseError {
 }
 
 impl<T: Drop> From<AllocFailed<T>> for ParseError {
-    ghost from_gives = { λ _ e. e ≡ NoMemory };
+    ghost from_gives = { λ _ e. e ≡ ParseNoMemory };
 
     fn from(_e: AllocFailed<T>) -> ParseError {
         ParseError::NoMemory
     }
 }
 
-impl From<pf_io::NoMemory> for ParseError {
-    ghost from_gives = { λ _ e. e ≡ NoMemory };
+impl From<NoMemory> for ParseError {
+    ghost from_gives = { λ _ e. e ≡ ParseNoMemory };
 
-    fn from(_e: pf_io::NoMemory) -> ParseError {
+    fn from(_e: NoMemory) -> ParseError {
         ParseError::NoMemory
     }
 }

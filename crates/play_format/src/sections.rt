@@ -1,8 +1,7 @@
 //! The two sections of a play, step by step.
 ghost use Rattle.std.specs.Prelude.{◌≡◌, ◌+◌, ◌≤◌, Bool, MatchResult, length};
 ghost use Rattle.play_format.specs.Outcomes.{Refuses};
-ghost use Rattle.play_format.specs.Steps.{unread};
-ghost use Rattle.play_format.specs.Sections.{stand, TrianglesRead, IsAt, IsInBase, AppTurn, AppSection, BaseTurn, BaseSection};
+ghost use Rattle.play_format.specs.Sections.{stand_of, unread_by, TrianglesRead, IsAt, IsInBase, AppTurn, AppSection, BaseTurn, BaseSection};
 ghost use Rattle.play_format.specs.declared.places.Place.TheVariants as place;
 
 use crate::making::{app_step_of, base_step_of, tri_of};
@@ -29,8 +28,8 @@ fn triangles(
     corners: &mut Vec<i32>,
 ) -> Result<Vec<Tri>, ParseError>
     ensures { MatchResult result
-        (λ ts. TrianglesRead (stand reader.old.spot reader.old.line reader.old.rest.now) (stand reader.new.spot reader.new.line reader.new.rest.now) ts.items)
-        (λ e. Refuses e (unread reader.old.spot reader.old.line reader.old.rest.now)) }
+        (λ ts. TrianglesRead (stand_of reader.old) (stand_of reader.new) ts.items)
+        (λ e. Refuses e (unread_by reader.old)) }
 {
     let mut tris = Vec::new(alloc);
     while reader.spot.due > 0 {
@@ -49,10 +48,10 @@ fn app_line(
     numbers: &mut Vec<i32>,
     corners: &mut Vec<i32>,
 ) -> Result<Turn<AppLine>, ParseError>
-    requires { IsAt place.App (stand reader.old.spot reader.old.line reader.old.rest.now) }
+    requires { IsAt place.App (stand_of reader.old) }
     ensures { MatchResult result
-        (λ next. AppTurn (stand reader.old.spot reader.old.line reader.old.rest.now) (stand reader.new.spot reader.new.line reader.new.rest.now) next)
-        (λ e. Refuses e (unread reader.old.spot reader.old.line reader.old.rest.now)) }
+        (λ next. AppTurn (stand_of reader.old) (stand_of reader.new) next)
+        (λ e. Refuses e (unread_by reader.old)) }
 {
     let line = reader.line;
     let Some(command) = reader.next(numbers)? else {
@@ -73,10 +72,10 @@ pub fn app_section(
     numbers: &mut Vec<i32>,
     corners: &mut Vec<i32>,
 ) -> Result<(Vec<AppLine>, bool), ParseError>
-    requires { IsAt place.App (stand reader.old.spot reader.old.line reader.old.rest.now) }
+    requires { IsAt place.App (stand_of reader.old) }
     ensures { MatchResult result
-        (λ read. AppSection (stand reader.old.spot reader.old.line reader.old.rest.now) (stand reader.new.spot reader.new.line reader.new.rest.now) read.0.items read.1)
-        (λ e. Refuses e (unread reader.old.spot reader.old.line reader.old.rest.now)) }
+        (λ read. AppSection (stand_of reader.old) (stand_of reader.new) read.0.items read.1)
+        (λ e. Refuses e (unread_by reader.old)) }
 {
     let mut lines = Vec::new(alloc);
     'steps: loop {
@@ -95,10 +94,10 @@ fn base_line(
     numbers: &mut Vec<i32>,
     corners: &mut Vec<i32>,
 ) -> Result<Option<BaseLine>, ParseError>
-    requires { IsInBase (stand reader.old.spot reader.old.line reader.old.rest.now) }
+    requires { IsInBase (stand_of reader.old) }
     ensures { MatchResult result
-        (λ next. BaseTurn (stand reader.old.spot reader.old.line reader.old.rest.now) (stand reader.new.spot reader.new.line reader.new.rest.now) next)
-        (λ e. Refuses e (unread reader.old.spot reader.old.line reader.old.rest.now)) }
+        (λ next. BaseTurn (stand_of reader.old) (stand_of reader.new) next)
+        (λ e. Refuses e (unread_by reader.old)) }
 {
     let line = reader.line;
     let Some(command) = reader.next(numbers)? else {
@@ -119,10 +118,10 @@ pub fn base_section(
     numbers: &mut Vec<i32>,
     corners: &mut Vec<i32>,
 ) -> Result<Vec<BaseLine>, ParseError>
-    requires { IsAt place.Dbase (stand reader.old.spot reader.old.line reader.old.rest.now) }
+    requires { IsAt place.Dbase (stand_of reader.old) }
     ensures { MatchResult result
-        (λ lines. BaseSection (stand reader.old.spot reader.old.line reader.old.rest.now) (stand reader.new.spot reader.new.line reader.new.rest.now) lines.items)
-        (λ e. Refuses e (unread reader.old.spot reader.old.line reader.old.rest.now)) }
+        (λ lines. BaseSection (stand_of reader.old) (stand_of reader.new) lines.items)
+        (λ e. Refuses e (unread_by reader.old)) }
 {
     let mut lines = Vec::new(alloc);
     while let Some(line) = base_line(alloc, reader, numbers, corners)? {

@@ -2,7 +2,7 @@ mod flight;
 
 use super::*;
 use fx_math::Vec3;
-use pf_model::{Edit, Kind};
+use pf_model::{AppLine, AppStep, BaseStep, Edit, Kind};
 use std::alloc::{AllocError, Global};
 use std::process::Abort;
 use std::test::Fail;
@@ -133,8 +133,14 @@ fn each_cause_at_each_kind_of_line(rt: HostRuntime) -> Result<(), Fail> {
     }
     for line in &NEW_LINES {
         check(&rt, alloc, SECOND, 7, line)?;
-        let unknown = refused(alloc, FIRST, line.split(' ').next().unwrap_or(""))?;
-        assert!(rt; unknown.is_some());
+        let whole = format!(in alloc; "{line}\n")?;
+        assert_eq!(rt;
+            refused(alloc, FIRST, whole.as_str())?,
+            Some(Refusal {
+                line: 6,
+                why: Why::Command
+            })
+        );
     }
     let geode = format!(in alloc; "{FIRST}geode 1 0 1\n")?;
     check(
@@ -298,6 +304,39 @@ fn the_flight(rt: HostRuntime) -> Result<(), Fail> {
     assert_eq!(rt; nodes, 36);
     assert_eq!(rt; frames, 24);
     assert_eq!(rt; merges, 3);
+    Ok(())
+}
+
+#[test]
+fn a_refusal_is_shown_as_its_line_and_its_cause(rt: HostRuntime) -> Result<(), Fail> {
+    let alloc = rt.alloc();
+    let refusal = Refusal {
+        line: 6,
+        why: Why::Number,
+    };
+    assert_eq!(rt; format!(in alloc; "{refusal}")?.as_str(), "line 6: Number");
+    let error = ParseError::Refused(refusal);
+    assert_eq!(rt; format!(in alloc; "{error}")?.as_str(), "line 6: Number");
+    Ok(())
+}
+
+#[test]
+fn edits_are_spelled_as_their_lines(rt: HostRuntime) -> Result<(), Fail> {
+    let alloc = rt.alloc();
+    let play = parse(alloc, EACH_FORM).ok().ok_or("it is a play")?;
+    let mut text = Vec::new(alloc);
+    for at in play.app() {
+        if let AppStep::Edit(edit) = &at.step {
+            append_edit(alloc, &mut text, edit)?;
+            text.push(b'\n')?;
+        }
+    }
+    let expected = b"group 1\nswitch 2\ndcs 3\nlod 4\nseq 5\nlayer 6\n\
+scs 7 65536 0 0 0 65536 0 0 0 65536 1 -2 3\ngeode 8 4 1\nglass 9 4 128 0\nverts 8 1\nadd 0 1\nremove 0 1\n\
+insert 0 0 2\nreplace 0 2 3\ndelete 2\nrun 5\nstop 5\nsw 2 3\nsw 2 on\nsw 2 off\n\
+mat 3 65536 0 0 0 65536 0 0 0 65536 0 0 0\ntrans 3 1 2 3\ncentre 4 1 2 3\nrot 3 -3600 0 3600\n\
+scale 3 -1048576\nrange 4 0 2147483647\ntimes 5 0 65535\n";
+    assert_eq!(rt; text.as_slice(), expected.as_slice());
     Ok(())
 }
 

@@ -1,13 +1,16 @@
 //! Lines of a text, and words of a line.
 ghost use Rattle.std.specs.Prelude.{◌≡◌, ◌+◌, ◌<◌, ◌^◌, ◌==◌, [], ◌∷◌, length, count_by, MatchOption, IfSome};
 ghost use Rattle.std.specs.List.{slice_split, position};
-ghost use Rattle.play_format.specs.Words.{words, left_words};
+ghost use Rattle.play_format.specs.Words.{words};
+ghost use Rattle.play_format.specs.Rests.{left_words};
 
 use memchr::memchr;
 
 /// What stands before the first `byte` and what stands after it; None where the text has none.
 pub fn cut(text: &[u8], byte: u8) -> Option<(&[u8], &[u8])>
-    ensures parts { MatchOption result (slice_split (λ b. b == byte) text.now ≡ text.now ∷ []) (λ x. slice_split (λ b. b == byte) text.now ≡ x.0.now ∷ slice_split (λ b. b == byte) x.1.now) }
+    ensures parts { MatchOption result
+        (slice_split (λ b. b == byte) text.now ≡ text.now ∷ [])
+        (λ x. slice_split (λ b. b == byte) text.now ≡ x.0.now ∷ slice_split (λ b. b == byte) x.1.now) }
     ensures shorter { IfSome result (λ x. length x.0.now + length x.1.now + 1 ≡ length text.now) }
 {
     match place_of(text, byte) {

@@ -11,9 +11,6 @@ one_same k x e = grind (arith, nat_tests)
 pub one_is : (k x : ℕ) → 0 < one k x → k ≡ x
 one_is k x h = grind (arith, nat_tests)
 
-pub one_le : (k x : ℕ) → one k x ≤ 1
-one_le k x = grind (arith, nat_tests)
-
 pub below_le : (k n : ℕ) → below k n ≤ 1
 below_le k n = grind (arith, nat_tests)
 

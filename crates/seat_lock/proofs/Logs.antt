@@ -12,8 +12,11 @@ nothing_more xs (y ∷ ys) e = let n : length (xs ++ y ∷ ys) ≡ length xs = a
 pub prefix_self : {A : Type 0} (xs : List A) → IsPrefix xs xs
 prefix_self xs = ([], append-nil xs)
 
+pub prefix_trans : {A : Type 0} (xs ys zs : List A) → IsPrefix xs ys → IsPrefix ys zs → IsPrefix xs zs
+prefix_trans xs ys zs p q = (p.0 ++ q.0, sym (append_assoc xs p.0 q.0) ∙ (ap (λ w. w ++ q.0) p.1 ∙ q.1))
+
 pub prefix_more : {A : Type 0} (xs ys zs : List A) → IsPrefix xs ys → IsPrefix xs (ys ++ zs)
-prefix_more xs ys zs p = (p.0 ++ zs, sym (append_assoc xs p.0 zs) ∙ ap (λ w. w ++ zs) p.1)
+prefix_more xs ys zs p = prefix_trans xs ys (ys ++ zs) p (zs, refl)
 
 -- of two fronts of one list the shorter is a front of the longer
 pub prefix_shorter : {A : Type 0} (xs ys zs : List A) → IsPrefix xs zs → IsPrefix ys zs → length xs ≤ length ys → IsPrefix xs ys
@@ -34,18 +37,16 @@ module _ {E : Type 0} where
   of-append k [] ys = refl
   of-append k (x ∷ xs) ys = joined (eqb x.0 k) x.1 (of k xs) (of k ys) (of k (xs ++ ys)) (of-append k xs ys)
 
-  pub of_same : (k : ℕ) (e : E) → of k ((k, e) ∷ []) ≡ e ∷ []
-  of_same k e = ap (λ b. cond b (e ∷ []) []) (eq-eqb k k refl)
-
   pub of_other : (k j : ℕ) (e : E) → j ≢ k → of k ((j, e) ∷ []) ≡ []
   of_other k j e n = ap (λ b. cond b (e ∷ []) []) (ne_eqb j k n)
 
-  -- the log and one entry more
-  pub of_more : (k : ℕ) (xs : List (ℕ × E)) (e : E) → of k (xs ++ (k, e) ∷ []) ≡ of k xs ++ e ∷ []
-  of_more k xs e = of-append k xs ((k, e) ∷ []) ∙ ap (λ w. of k xs ++ w) (of_same k e)
-
+  -- an entry of another number more
   pub of_kept : (k j : ℕ) (xs : List (ℕ × E)) (e : E) → j ≢ k → of k (xs ++ (j, e) ∷ []) ≡ of k xs
   of_kept k j xs e n = of-append k xs ((j, e) ∷ []) ∙ (ap (λ w. of k xs ++ w) (of_other k j e n) ∙ append-nil (of k xs))
+
+  -- two logs with the same entries of i have the same after one entry more
+  pub same_more : (i k : ℕ) (e : E) (xs ys : List (ℕ × E)) → of i xs ≡ of i ys → of i (xs ++ (k, e) ∷ []) ≡ of i (ys ++ (k, e) ∷ [])
+  same_more i k e xs ys h = of-append i xs ((k, e) ∷ []) ∙ (ap (λ w. w ++ of i ((k, e) ∷ [])) h ∙ sym (of-append i ys ((k, e) ∷ [])))
 
   -- a longer log with the same entries of k has no further entry of k
   pub found_same : (k : ℕ) (seen log : List (ℕ × E)) → IsPrefix seen log → of k seen ≡ of k log → Found k seen log

@@ -10,12 +10,12 @@ use Rattle.atomic_table.specs.Table.{State, Splits, Joins, opening}
 use Rattle.atomic_table.proofs.Lists.{at_set, at_snoc, set_else}
 use Rattle.seat_lock.specs.declared.view.View.{View}
 use Rattle.seat_lock.specs.declared.view.Phase.TheVariants.{Idle}
-use Rattle.seat_lock.specs.Log.{of}
+use Rattle.seat_lock.specs.Log.{of, Found}
 use Rattle.seat_lock.specs.Sums.{one, below, inside, total, times, numbers_from}
-use Rattle.seat_lock.specs.View.{answering, weight, IsSound, opener, gives_one, given_one, longer, united, spent}
+use Rattle.seat_lock.specs.View.{answering, weight, IsSound, opener, gives_one, given_one, longer, shorter, united, spent}
 use Rattle.seat_lock.specs.LockRule.{has_ticket, has_some, is_served, holding, in_line, serving, Fits, Seated, AtHome, Out, LockRule}
 use Rattle.seat_lock.proofs.Counts.{one_same, one_is, below_le, inside_yes, inside_none, inside_first, total_set, total_two, total_snoc, total-append, times_numbers, length-numbers}
-use Rattle.seat_lock.proofs.Logs.{prefix_self, prefix_shorter, of-append, squeezed}
+use Rattle.seat_lock.proofs.Logs.{prefix_self, prefix_shorter, of-append, found_same, squeezed}
 use Rattle.seat_lock.proofs.Turning.{once}
 
 module _ {E : Type 0} where
@@ -54,6 +54,23 @@ module _ {E : Type 0} where
   right_front : (xs ys zs : List (ℕ × E)) → IsPrefix xs zs → IsPrefix ys zs → IsPrefix ys (longer xs ys)
   right_front xs ys zs p q = longer_is (IsPrefix ys) xs ys (λ h. prefix_shorter ys xs zs q p h) (λ h. prefix_self ys)
 
+  -- either of two fronts of one log is a front of the longer, so the shorter is
+  shorter_is : (b : Bool) (xs ys zs : List (ℕ × E)) → IsPrefix xs zs → IsPrefix ys zs → IsPrefix (cond b ys xs) zs
+  shorter_is true xs ys zs p q = q
+  shorter_is false xs ys zs p q = p
+
+  shorter_front : (xs ys zs : List (ℕ × E)) → IsPrefix xs zs → IsPrefix ys zs → IsPrefix (shorter xs ys) (longer xs ys)
+  shorter_front xs ys zs p q = shorter_is (leb (length ys) (length xs)) xs ys (longer xs ys) (left_front xs ys zs p q) (right_front xs ys zs p q)
+
+  -- where the shorter of two logs is a front of the longer, both are
+  left_of_both : (b : Bool) (xs ys : List (ℕ × E)) → IsPrefix (cond b ys xs) (cond b xs ys) → IsPrefix xs (cond b xs ys)
+  left_of_both true xs ys p = prefix_self xs
+  left_of_both false xs ys p = p
+
+  right_of_both : (b : Bool) (xs ys : List (ℕ × E)) → IsPrefix (cond b ys xs) (cond b xs ys) → IsPrefix ys (cond b xs ys)
+  right_of_both true xs ys p = p
+  right_of_both false xs ys p = prefix_self ys
+
   -- what the two keep of a number that the first answers for, or the second, or neither
   pub kept_left : (k : ℕ) (v w : View E) → of k w.kept ≡ [] → of k (united v w).kept ≡ of k v.kept
   kept_left k v w empty = of-append k v.kept w.kept ∙ (ap (λ l. of k v.kept ++ l) empty ∙ append-nil (of k v.kept))
@@ -61,19 +78,32 @@ module _ {E : Type 0} where
   pub kept_right : (k : ℕ) (v w : View E) → of k v.kept ≡ [] → of k (united v w).kept ≡ of k w.kept
   kept_right k v w empty = of-append k v.kept w.kept ∙ ap (λ l. l ++ of k w.kept) empty
 
-  -- u answers for what v and w answer for, and keeps of each number what it kept before
+  -- u answers for what v and w answer for, keeps of each number what it kept before, and goes on from what each has seen
   pub record Unites (v w u : View E) : Type 0 where
     pub numbers : (k : ℕ) → answering k u ≡ answering k v + answering k w
     pub kept : (k : ℕ) → 0 < answering k v → of k u.kept ≡ of k v.kept
     pub gained : (k : ℕ) → 0 < answering k w → of k u.kept ≡ of k w.kept
+    pub front : IsPrefix v.seen u.seen
+    pub other_front : IsPrefix w.seen u.seen
+    pub found : (k : ℕ) → 0 < answering k v → Found k v.seen u.seen
+    pub other_found : (k : ℕ) → 0 < answering k w → Found k w.seen u.seen
 
   union : (v w : View E) → IsSound v → IsSound w → IsSound (united v w) → Unites v w (united v w)
   union v w f g u =
       let both : (k : ℕ) → answering k (united v w) ≡ answering k v + answering k w = λ k. answering-united k v w g.range in
+      let kept : (k : ℕ) → 0 < answering k v → of k (united v w).kept ≡ of k v.kept = λ k h. kept_left k v w (g.only k (omega (arith, u.once k, both k))) in
+      let gained : (k : ℕ) → 0 < answering k w → of k (united v w).kept ≡ of k w.kept = λ k h. kept_right k v w (f.only k (omega (arith, u.once k, both k))) in
+      let first_longer : Bool = leb (length w.seen) (length v.seen) in
+      let front : IsPrefix v.seen (longer v.seen w.seen) = left_of_both first_longer v.seen w.seen u.front in
+      let other_front : IsPrefix w.seen (longer v.seen w.seen) = right_of_both first_longer v.seen w.seen u.front in
       record {
         numbers = both;
-        kept = λ k h. kept_left k v w (g.only k (omega (arith, u.once k, both k)));
-        gained = λ k h. kept_right k v w (f.only k (omega (arith, u.once k, both k)));
+        kept = kept;
+        gained = gained;
+        front = front;
+        other_front = other_front;
+        found = λ k h. found_same k v.seen (longer v.seen w.seen) front (sym (f.same k h) ∙ (sym (kept k h) ∙ u.same k (omega (arith, both k))));
+        other_found = λ k h. found_same k w.seen (longer v.seen w.seen) other_front (sym (g.same k h) ∙ (sym (gained k h) ∙ u.same k (omega (arith, both k))));
       }
 
   -- the views after a join, where each was found to be sound
@@ -102,6 +132,7 @@ module _ {T E : Type 0} (log : T → List (ℕ × E)) where
         true_of = (f.true_of.0, λ k a. f.true_of.1 k (still k a));
         true_of_seen = λ k a. f.true_of_seen k (still k a);
         only = f.only;
+        front = f.front;
         now = f.now;
       }
 
@@ -119,6 +150,7 @@ module _ {T E : Type 0} (log : T → List (ℕ × E)) where
         true_of = (f.true_of.0, λ k a. subst (λ (n : ℕ). of n [] ≡ of n noted) (sym (its k a)) (sym unused ∙ f.true_of.1 v.next (omega arith)));
         true_of_seen = λ k a. subst (λ (n : ℕ). of n [] ≡ of n v.seen) (sym (its k a)) (sym unused ∙ f.true_of_seen v.next (omega arith));
         only = λ k unheld. refl;
+        front = (v.seen, refl);
         now = λ t e. absurd (cc e);
       }
 
@@ -180,6 +212,7 @@ module _ {T E : Type 0} (log : T → List (ℕ × E)) where
         true_of = (longer_front xs ys noted f.true_of.0 g.true_of.0, λ k a. (truth k a).0);
         true_of_seen = λ k a. (truth k a).0 ∙ sym (truth k a).1;
         only = λ k unheld. kept_left k v w (g.only k (omega (arith, times_is k, unheld))) ∙ f.only k (omega (arith, times_is k, unheld));
+        front = shorter_front xs ys noted f.true_of.0 g.true_of.0;
         now = λ t e. absurd (cc (idle, e));
       }
 
@@ -228,6 +261,7 @@ module _ {T E : Type 0} (log : T → List (ℕ × E)) where
           true_of = (prefix_self [], λ k b. refl);
           true_of_seen = λ k b. refl;
           only = λ k unheld. refl;
+          front = prefix_self [];
           now = λ t e. absurd (cc e);
         };
       } in

@@ -11,7 +11,7 @@ use Rattle.seat_lock.specs.View.{in_phase, having_seen, noting, stand_of}
 use Rattle.seat_lock.specs.Desk.{Stand}
 use Rattle.seat_lock.specs.Steps.{Finds, served_to}
 use Rattle.seat_lock.specs.Calls.{TurnedBy, LookedBy}
-use Rattle.seat_lock.proofs.Logs.{prefix_self, of-append, of_found, without_more}
+use Rattle.seat_lock.proofs.Logs.{prefix_self, same_more, of_found, without_more}
 
 module _ {T E : Type 0} (log : T → List (ℕ × E)) where
   -- the view in its turn
@@ -27,11 +27,6 @@ module _ {T E : Type 0} (log : T → List (ℕ × E)) where
   unmoved before after k (inl same) long = same
   unmoved before after k (inr more) long = absurd (omega (arith, ap length more.1, length-append before ((k, more.0) ∷ [])))
 
-  -- a view is as true of the log with its own entry as it was of the log
-  true_of_more : (k : ℕ) (e : E) (found left kept : List (ℕ × E)) (i : ℕ) → left ≡ found ++ (k, e) ∷ [] → of i kept ≡ of i found → of i (kept ++ (k, e) ∷ []) ≡ of i left
-  true_of_more k e found left kept i is h =
-      of-append i kept ((k, e) ∷ []) ∙ (ap (λ w. w ++ of i ((k, e) ∷ [])) h ∙ (sym (of-append i found ((k, e) ∷ [])) ∙ ap (of i) (sym is)))
-
   module _ {R : Type 0} (does : T → T → R → Type 0) where
     gains : (v : View E) (t : ℕ) (x y : T) (r : R) (e : E) → v.phase ≡ Idle → Finds log v x → does x y r → log y ≡ log x ++ (v.number, e) ∷ []
         → TurnedBy log does v r (in_phase (noting (in_turn v t x) e) Idle)
@@ -40,7 +35,7 @@ module _ {T E : Type 0} (log : T → List (ℕ × E)) where
       y,
       found.goes_on,
       did,
-      (subst (λ l. IsPrefix l (log y)) more (prefix_self (log y)), λ k h. true_of_more v.number e (log x) (log y) v.kept k more (found.true_of.1 k h)),
+      (subst (λ l. IsPrefix l (log y)) more (prefix_self (log y)), λ k h. same_more k v.number e v.kept (log x) (found.true_of.1 k h) ∙ ap (of k) (sym more)),
       inr (e, more, ap (in_phase (noting (having_seen v (log x)) e)) (sym idle)),
     )
 
@@ -78,7 +73,7 @@ module _ {T E : Type 0} (log : T → List (ℕ × E)) where
         ⊎_elim
         (λ (h : (log y ≡ log x) × (w ≡ having_seen v (log y))). subst KeepsOwn (sym h.1) (same ∙ ap (of v.number) (sym h.0)))
         (λ (h : (e : E) × (log y ≡ log x ++ (v.number, e) ∷ []) × (w ≡ noting (having_seen v (log x)) e)).
-        subst KeepsOwn (sym h.2) (true_of_more v.number h.0 (log x) (log x ++ (v.number, h.0) ∷ []) v.kept v.number refl same))
+        subst KeepsOwn (sym h.2) (same_more v.number v.number h.0 v.kept (log x) same))
         grew
 
     -- what the desk stands on stays

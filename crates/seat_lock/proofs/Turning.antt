@@ -13,13 +13,13 @@ use Rattle.atomic_table.proofs.Lists.{at_set, set_again, one_turn}
 use Rattle.seat_lock.specs.declared.view.View.{View}
 use Rattle.seat_lock.specs.declared.view.Phase.{Phase}
 use Rattle.seat_lock.specs.declared.view.Phase.TheVariants.{Idle, Waiting, Serving}
-use Rattle.seat_lock.specs.Log.{of}
+use Rattle.seat_lock.specs.Log.{of, Found}
 use Rattle.seat_lock.specs.Sums.{one, below, inside, total, times}
 use Rattle.seat_lock.specs.View.{answering, weight, IsTrueOf, IsSound, in_phase, having_seen, noting}
 use Rattle.seat_lock.specs.LockRule.{has_ticket, has_some, is_served, holding, in_line, serving, Fits, Seated, AtHome, Out, LockRule}
 use Rattle.seat_lock.specs.Steps.{Draws, Polls, Notes, Leaves, Recalls, Finds, served_to, Holds, HoldsMore}
 use Rattle.seat_lock.proofs.Counts.{below_le, below_no, below_yes, below_is, below_more, one_same, inside_yes, total_set, total_has, total_two, total_le}
-use Rattle.seat_lock.proofs.Logs.{prefix_self, prefix_more, of-append, of_kept, found_same}
+use Rattle.seat_lock.proofs.Logs.{prefix_self, prefix_trans, prefix_more, of_kept, same_more, found_same}
 
 -- a seat whose ticket is served holds it
 served_holds : (p : Phase) (t : ℕ) → ((u : ℕ) → p ≡ Serving u → u ≡ t) → is_served p ≤ has_ticket t p
@@ -52,13 +52,13 @@ module _ {T E : Type 0} (log : T → List (ℕ × E)) where
   once s r id v k at = omega (arith, total_has (answering k) s.views id v at, r.answered k, below_le k r.seats)
 
   rephased : (seats served : ℕ) (noted : List (ℕ × E)) (v : V) (phase : Phase) → Fits seats served noted v → ((t : ℕ) → phase ≡ Serving t → (t ≡ served) × (v.seen ≡ noted)) → Fits seats served noted (in_phase v phase)
-  rephased seats served noted v phase f now = record { seats_is = f.seats_is; own = f.own; range = f.range; true_of = f.true_of; true_of_seen = f.true_of_seen; only = f.only; now = now }
+  rephased seats served noted v phase f now = record { seats_is = f.seats_is; own = f.own; range = f.range; true_of = f.true_of; true_of_seen = f.true_of_seen; only = f.only; front = f.front; now = now }
 
   -- another ticket is served, and the view is of a seat whose ticket is not
   waits_on : (seats served served' : ℕ) (noted : List (ℕ × E)) (v : V) → serving v ≡ 0 → Seated seats served noted v → Seated seats served' noted v
   waits_on seats served served' noted v off d = record {
     awake = d.awake;
-    fits = λ h. let f = d.fits h in record { seats_is = f.seats_is; own = f.own; range = f.range; true_of = f.true_of; true_of_seen = f.true_of_seen; only = f.only; now = λ t e. let x : serving v ≡ 1 = ap is_served e in absurd (omega arith) };
+    fits = λ h. let f = d.fits h in record { seats_is = f.seats_is; own = f.own; range = f.range; true_of = f.true_of; true_of_seen = f.true_of_seen; only = f.only; front = f.front; now = λ t e. let x : serving v ≡ 1 = ap is_served e in absurd (omega arith) };
   }
 
   -- a step of one seat, which answers for the same numbers before and after
@@ -156,8 +156,10 @@ module _ {T E : Type 0} (log : T → List (ℕ × E)) where
   finds s r id v x at f is =
       let true_of : IsTrueOf (log x) v = subst (λ (l : List (ℕ × E)). IsTrueOf l v) (sym is) f.true_of in
       let own : 0 < answering v.number v = let h : 0 < times v.number v.answers = f.own in omega arith in
+      let found : (k : ℕ) → 0 < answering k v → Found k v.seen (log x) = λ k h. found_same k v.seen (log x) true_of.0 (sym (f.true_of_seen k h) ∙ true_of.1 k h) in
       record {
-        goes_on = found_same v.number v.seen (log x) true_of.0 (sym (f.true_of_seen v.number own) ∙ true_of.1 v.number own);
+        goes_on = found v.number own;
+        found = found;
         true_of = true_of;
         within = λ k h.
             let beyond : r.seats ≤ k = omega (arith, f.seats_is) in
@@ -190,6 +192,7 @@ module _ {T E : Type 0} (log : T → List (ℕ × E)) where
                 true_of = (subst (λ (l : List (ℕ × E)). IsPrefix l r.noted) (sym same) (prefix_self r.noted), f.true_of.1);
                 true_of_seen = λ k h. f.true_of.1 k h ∙ ap (of k) (sym same);
                 only = f.only;
+                front = subst (IsPrefix v.shorter_seen) (sym same) (prefix_trans v.shorter_seen v.seen r.noted f.front f.true_of.0);
                 now = λ u e. (let d : t ≡ u = cc e in sym d ∙ is, same);
               };
             }
@@ -245,6 +248,7 @@ module _ {T E : Type 0} (log : T → List (ℕ × E)) where
       true_of = (prefix_more v.seen noted ((k, e) ∷ []) f.true_of.0, λ i a. f.true_of.1 i a ∙ sym (of_kept i k noted e (λ same. let b : answering i v ≡ 0 = ap (λ (n : ℕ). answering n v) (sym same) ∙ not_its in omega arith)));
       true_of_seen = f.true_of_seen;
       only = f.only;
+      front = f.front;
       now = λ t is. let x : serving v ≡ 1 = ap is_served is in absurd (omega arith);
     };
   }
@@ -254,15 +258,14 @@ module _ {T E : Type 0} (log : T → List (ℕ × E)) where
   grown seats served noted e v same f =
       let one_more : List (ℕ × E) = (v.number, e) ∷ [] in
       let seen : v.seen ++ one_more ≡ noted ++ one_more = ap (λ l. l ++ one_more) same in
-      let longer : (k : ℕ) (l : List (ℕ × E)) → of k v.kept ≡ of k l → of k (v.kept ++ one_more) ≡ of k (l ++ one_more) =
-      λ k l h. of-append k v.kept one_more ∙ (ap (λ w. w ++ of k one_more) h ∙ sym (of-append k l one_more)) in
       record {
         seats_is = f.seats_is;
         own = f.own;
         range = f.range;
-        true_of = (subst (λ (l : List (ℕ × E)). IsPrefix l (noted ++ one_more)) (sym seen) (prefix_self (noted ++ one_more)), λ k h. longer k noted (f.true_of.1 k h));
-        true_of_seen = λ k h. longer k v.seen (f.true_of_seen k h);
+        true_of = (subst (λ (l : List (ℕ × E)). IsPrefix l (noted ++ one_more)) (sym seen) (prefix_self (noted ++ one_more)), λ k h. same_more k v.number e v.kept noted (f.true_of.1 k h));
+        true_of_seen = λ k h. same_more k v.number e v.kept v.seen (f.true_of_seen k h);
         only = λ k none. of_kept k v.number v.kept e (λ same. let a : times k v.answers ≡ times v.number v.answers = ap (λ (n : ℕ). times n v.answers) (sym same) in let b : 0 < times v.number v.answers = f.own in omega arith) ∙ f.only k none;
+        front = prefix_more v.shorter_seen v.seen one_more f.front;
         now = λ t is. ((f.now t is).0, seen);
       }
 
@@ -316,7 +319,7 @@ module _ {T E : Type 0} (log : T → List (ℕ × E)) where
             (λ k. let h : holding k v ≡ one k r.served = ap (has_ticket k) phase ∙ ap (one k) now.0 in omega (arith, total_set (holding k) s.views id v w at, h, r.tickets k, below_more k r.served))
             (omega (arith, total_set in_line s.views id v w at, line, r.waiting))
             (inl (y, home, same ∙ now.1, omega (arith, total_set serving s.views id v w at, on, out.1)))
-            record { awake = omega arith; fits = λ h. record { seats_is = f.seats_is; own = f.own; range = f.range; true_of = f.true_of; true_of_seen = f.true_of_seen; only = f.only; now = λ k e. absurd (cc e) } }
+            record { awake = omega arith; fits = λ h. record { seats_is = f.seats_is; own = f.own; range = f.range; true_of = f.true_of; true_of_seen = f.true_of_seen; only = f.only; front = f.front; now = λ k e. absurd (cc e) } }
             (λ j u other there. waits_on r.seats r.served (r.served + 1) r.noted u (no_other s r id j v u other at there on) (r.each j u there))
             r.within,
         refl,
@@ -335,6 +338,7 @@ module _ {T E : Type 0} (log : T → List (ℕ × E)) where
         let spare : inside v.next v.end k ≡ 1 = inside_yes v.next v.end k from to in
         let most : answering k v ≤ 1 = once s r id v k at in
         sym (f.true_of_seen k (omega arith)) ∙ f.only k (omega arith);
+    front = f.front;
   }
 
   pub recalls : (slots id : ℕ) (m : M) → Allows Rule slots id m 0 (λ n. n) (Recalls (step slots 0 0 0 none) m)

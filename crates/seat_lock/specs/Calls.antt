@@ -17,4 +17,5 @@ module _ {T E : Type 0} (log : T → List (ℕ × E)) where
   -- the glance showed a value whose log goes on likewise. The pass has then seen that log, and is true of it
   abbrev pub LookedBy : {Out : Type 0} → (T → Out → Type 0) → View E → Out → View E → Type 0
   LookedBy shows v out w =
-      (found : T) × Found v.number v.seen (log found) × shows found out × IsTrueOf (log found) w × (w ≡ having_seen v (log found))
+      (found : T) × Found v.number v.seen (log found) × shows found out × IsTrueOf (log found) w
+      × (w ≡ having_seen v (log found))

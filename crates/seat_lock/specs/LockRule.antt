@@ -4,6 +4,7 @@
 use Rattle.std.specs.Prelude.{◌≡◌, ◌⊎◌, ℕ, ◌+◌, ◌%◌, ◌^◌, ◌<◌, ◌≤◌, List, [], ◌∷◌, length, Option, Some}
 use mathlib.Core.Option.{none, some}
 use mathlib.Core.Option as maybe
+use mathlib.Core.List.{IsPrefix}
 use lib.ListN.{get_elem?}
 use Rattle.atomic_table.specs.Table.{State}
 use Rattle.seat_lock.specs.declared.view.View.{View}
@@ -50,6 +51,8 @@ module _ {E : Type 0} where
     pub true_of_seen : (k : ℕ) → 0 < answering k v → of k v.kept ≡ of k v.seen
     -- so a number that it can still hand out has no entries
     pub only : (k : ℕ) → times k v.answers ≡ 0 → of k v.kept ≡ []
+    -- the shorter log of its last join is a front of what it has seen
+    pub front : IsPrefix v.shorter_seen v.seen
     -- a seat whose ticket is served has seen the noted log
     pub now : (t : ℕ) → v.phase ≡ Serving t → (t ≡ served) × (v.seen ≡ noted)
 

@@ -4,7 +4,7 @@ use Rattle.atomic_table.specs.Table.{Me, Step, rest}
 use Rattle.seat_lock.specs.declared.view.View.{View}
 use Rattle.seat_lock.specs.declared.view.Phase.TheVariants.{Idle, Waiting, Serving}
 use Rattle.seat_lock.specs.Log.{of, Found}
-use Rattle.seat_lock.specs.View.{IsTrueOf, IsSound, in_phase, having_seen, noting}
+use Rattle.seat_lock.specs.View.{answering, IsTrueOf, IsSound, in_phase, having_seen, noting}
 
 abbrev pub Sat : Type 0 → Type 0 → Type 0
 Sat T E = Me (Option T) (View E)
@@ -23,10 +23,12 @@ module _ {T E : Type 0} where
   Leaves st m n m' = m' ≡ (in_phase m.0 Idle, rest m.1)
 
 module _ {T E : Type 0} (log : T → List (ℕ × E)) where
-  -- a value that a seat finds: its log goes on from the log seen with no further entry of the seat's number, the view
-  -- is true of it, and it has no entries of other numbers than those of the seats, nor has the view
+  -- a value that a seat finds: its log goes on from the log seen with no further entry of the seat's number, nor of any
+  -- other that the view answers for, the view is true of it, and it has no entries of other numbers than those of the
+  -- seats, nor has the view
   pub record Finds (v : View E) (x : T) : Type 0 where
     pub goes_on : Found v.number v.seen (log x)
+    pub found : (k : ℕ) → 0 < answering k v → Found k v.seen (log x)
     pub true_of : IsTrueOf (log x) v
     pub within : (k : ℕ) → v.seats ≤ k → (of k (log x) ≡ []) × (of k v.kept ≡ [])
 
@@ -41,7 +43,9 @@ module _ {T E : Type 0} (log : T → List (ℕ × E)) where
 
   -- it noted the entry that the value in its hand gained
   abbrev pub Notes : Step (Option T) → Sat T E → ℕ → Sat T E → Type 0
-  Notes st m n m' = (y : T) × (e : E) × (m.1 ≡ (0, Some y) ∷ []) × (log y ≡ m.0.seen ++ (m.0.number, e) ∷ []) × (m' ≡ (noting m.0 e, m.1))
+  Notes st m n m' =
+      (y : T) × (e : E) × (m.1 ≡ (0, Some y) ∷ []) × (log y ≡ m.0.seen ++ (m.0.number, e) ∷ [])
+      × (m' ≡ (noting m.0 e, m.1))
 
   -- the value in the hand of a seat in its turn has the log that the seat has seen
   abbrev pub Holds : Sat T E → Type 0
@@ -49,4 +53,6 @@ module _ {T E : Type 0} (log : T → List (ℕ × E)) where
 
   -- it has one entry more, of the seat's number
   abbrev pub HoldsMore : Sat T E → Type 0
-  HoldsMore m = (t : ℕ) × (y : T) × (e : E) × (m.0.phase ≡ Serving t) × (m.1 ≡ (0, Some y) ∷ []) × (log y ≡ m.0.seen ++ (m.0.number, e) ∷ [])
+  HoldsMore m =
+      (t : ℕ) × (y : T) × (e : E) × (m.0.phase ≡ Serving t) × (m.1 ≡ (0, Some y) ∷ [])
+      × (log y ≡ m.0.seen ++ (m.0.number, e) ∷ [])

@@ -27,10 +27,13 @@ pub struct SeatLock<T: Logged> {
 }
 
 impl<T: Logged> SeatLock<T> {
-    ghost use Rattle.std.specs.Prelude.{ℕ, ◌<◌, ◌≤◌, ◌+◌, ◌-◌, ◌%◌, ◌^◌, ◌++◌, [], ◌∷◌, ◌≢◌, length, Some, None, IfOk, IfErr, IsOkAnd, MatchBool};
+    ghost use Rattle.std.specs.Prelude.{ℕ, ◌<◌, ◌≤◌, ◌+◌, ◌-◌, ◌%◌, ◌^◌, ◌++◌, [], ◌∷◌, ◌≢◌, length, Some, None};
+    ghost use Rattle.std.specs.Prelude.{IfOk, IfErr, IsOkAnd, MatchBool};
+    ghost use mathlib.Core.List.{IsPrefix};
     ghost use Rattle.seat_lock.specs.declared.view.Phase.TheVariants.{Idle, Waiting, Serving};
     ghost use Rattle.seat_lock.specs.Log.{of, Found};
-    ghost use Rattle.seat_lock.specs.View.{opener, answering, IsTrueOf, IsSound, AnswersForAll, gives_one, given_one, united, in_phase, having_seen, noting};
+    ghost use Rattle.seat_lock.specs.View.{opener, answering, IsTrueOf, IsSound, AnswersForAll};
+    ghost use Rattle.seat_lock.specs.View.{gives_one, given_one, united, in_phase, having_seen, noting};
     ghost use Rattle.seat_lock.specs.Steps.{Finds, served_to, Holds, HoldsMore};
     ghost use Rattle.seat_lock.specs.Calls.{TurnedBy, LookedBy};
     ghost use Rattle.seat_lock.specs.Tokens.{lock_id, pass_of, pass_view};
@@ -72,7 +75,8 @@ impl<T: Logged> SeatLock<T> {
     pub fn turn<A: Act<T>, R: Wait>(&self, rt: &R, pass: &mut Pass<T>, act: A) -> A::Reply
         requires { pass_of pass.old ≡ lock_id self.now }
         ensures lock { pass_of pass.new ≡ pass_of pass.old }
-        ensures turned { TurnedBy T.log (A.does act (pass_view pass.old).number) (pass_view pass.old) result (pass_view pass.new) }
+        ensures turned { TurnedBy T.log (A.does act (pass_view pass.old).number) (pass_view pass.old) result
+            (pass_view pass.new) }
     {
         let mut value = self.take(rt, &mut pass.seat);
         let before = value.entries();
@@ -102,8 +106,10 @@ impl<T: Logged> SeatLock<T> {
         requires spare { (pass_view pass.old).next < (pass_view pass.old).end }
         ensures lock { pass_of pass.new ≡ pass_of pass.old }
         ensures left { pass_view pass.new ≡ gives_one (pass_view pass.old) }
-        ensures given { IsOkAnd result (λ other. (pass_of other ≡ pass_of pass.old) × (pass_view other ≡ given_one (pass_view pass.old))) }
-        ensures numbers { IfOk result (λ other. (k : ℕ) → answering k (pass_view pass.new) + answering k (pass_view other) ≡ answering k (pass_view pass.old)) }
+        ensures given { IsOkAnd result (λ other. (pass_of other ≡ pass_of pass.old) ×
+            (pass_view other ≡ given_one (pass_view pass.old))) }
+        ensures numbers { IfOk result (λ other. (k : ℕ) →
+            answering k (pass_view pass.new) + answering k (pass_view other) ≡ answering k (pass_view pass.old)) }
         ensures unused { of (pass_view pass.old).next (pass_view pass.old).seen ≡ [] }
     {
         self.recall(&mut pass.seat);
@@ -119,15 +125,25 @@ impl<T: Logged> SeatLock<T> {
     }
 
     /// Takes the other pass in: `into` then answers for its numbers too, keeps their entries, and has seen the longer
-    /// of the two logs. These numbers are not handed out again.
+    /// of the two logs. Each of the two is a front of it, and what follows that front has no entry of a number that its
+    /// pass answered for. The numbers that came in are not handed out again.
     pub fn join(&self, into: &mut Pass<T>, other: Pass<T>)
         requires into { pass_of into.old ≡ lock_id self.now }
         requires other { pass_of other ≡ lock_id self.now }
         ensures lock { pass_of into.new ≡ pass_of into.old }
         ensures united { pass_view into.new ≡ united (pass_view into.old) (pass_view other) }
-        ensures numbers { (k : ℕ) → answering k (pass_view into.new) ≡ answering k (pass_view into.old) + answering k (pass_view other) }
-        ensures kept { (k : ℕ) → 0 < answering k (pass_view into.old) → of k (pass_view into.new).kept ≡ of k (pass_view into.old).kept }
-        ensures gained { (k : ℕ) → 0 < answering k (pass_view other) → of k (pass_view into.new).kept ≡ of k (pass_view other).kept }
+        ensures numbers { (k : ℕ) → answering k (pass_view into.new) ≡
+            answering k (pass_view into.old) + answering k (pass_view other) }
+        ensures kept { (k : ℕ) → 0 < answering k (pass_view into.old) →
+            of k (pass_view into.new).kept ≡ of k (pass_view into.old).kept }
+        ensures gained { (k : ℕ) → 0 < answering k (pass_view other) →
+            of k (pass_view into.new).kept ≡ of k (pass_view other).kept }
+        ensures front { IsPrefix (pass_view into.old).seen (pass_view into.new).seen }
+        ensures other_front { IsPrefix (pass_view other).seen (pass_view into.new).seen }
+        ensures found { (k : ℕ) → 0 < answering k (pass_view into.old) →
+            Found k (pass_view into.old).seen (pass_view into.new).seen }
+        ensures other_found { (k : ℕ) → 0 < answering k (pass_view other) →
+            Found k (pass_view other).seen (pass_view into.new).seen }
     {
         let Pass {
             number: _,
@@ -141,12 +157,14 @@ impl<T: Logged> SeatLock<T> {
         self.recall(&mut into.seat);
     }
 
-    /// Takes the value out in a last turn. Its log goes on from what the pass had seen, and holds of each number that
-    /// the pass answers for just the entries that it keeps. Where it answers for all numbers, the log holds no other
-    /// entries: each entry's number is that of a seat. A later turn at this lock waits for ever.
+    /// Takes the value out in a last turn. Its log goes on from what the pass had seen, with no further entry of a
+    /// number that the pass answers for, and holds of each of these numbers just the entries that the pass keeps.
+    /// Where it answers for all numbers, the log holds no other entries: each entry's number is that of a seat. A later
+    /// turn at this lock waits for ever.
     pub fn close<R: Wait>(&self, rt: &R, pass: Pass<T>) -> T
         requires { pass_of pass ≡ lock_id self.now }
         ensures goes_on { Found (pass_view pass).number (pass_view pass).seen (T.log result) }
+        ensures found { (k : ℕ) → 0 < answering k (pass_view pass) → Found k (pass_view pass).seen (T.log result) }
         ensures true_of { IsTrueOf (T.log result) (pass_view pass) }
         ensures within { (k : ℕ) → (pass_view pass).seats ≤ k → of k (T.log result) ≡ [] }
         ensures all { AnswersForAll (pass_view pass) → (k : ℕ) → of k (T.log result) ≡ of k (pass_view pass).kept }
@@ -166,7 +184,8 @@ impl<T: Logged> SeatLock<T> {
         requires rests { (seat.old.me.0.phase ≡ Idle) × (seat.old.me.1 ≡ []) × (0 < length seat.old.me.0.answers) }
         ensures lock { seat.new.table_id ≡ seat.old.table_id }
         ensures finds { Finds T.log seat.old.me.0 result }
-        ensures serving { (t : ℕ) × (seat.new.me ≡ (having_seen (in_phase seat.old.me.0 (Serving t)) (T.log result), (0, None) ∷ [])) }
+        ensures serving { (t : ℕ) ×
+            (seat.new.me ≡ (having_seen (in_phase seat.old.me.0 (Serving t)) (T.log result), (0, None) ∷ [])) }
     {
         let ticket = self.table.shared.fetch_add::<Draw>(seat, TICKET, 1);
         self.wait_for(rt, seat, ticket);
@@ -178,7 +197,8 @@ impl<T: Logged> SeatLock<T> {
         requires lock { seat.old.table_id ≡ lock_id self.now }
         requires waits { (t : ℕ) × (ticket ≡ t % 2 ^ 64) × (seat.old.me.0.phase ≡ Waiting t) }
         ensures lock { seat.new.table_id ≡ seat.old.table_id }
-        ensures served { (t : ℕ) × (x : T) × Finds T.log seat.old.me.0 x × (seat.new.me ≡ served_to T.log seat.old.me t x) }
+        ensures served { (t : ℕ) × (x : T) × Finds T.log seat.old.me.0 x ×
+            (seat.new.me ≡ served_to T.log seat.old.me t x) }
     {
         for _ in rt.forever() {
             let served = self.table.shared.load::<Poll>(seat, SERVING);
@@ -196,9 +216,14 @@ impl<T: Logged> SeatLock<T> {
     fn hand_back(&self, seat: &mut Token<T>, value: T, added: bool)
         requires lock { seat.old.table_id ≡ lock_id self.now }
         requires serving { (t : ℕ) × (seat.old.me.0.phase ≡ Serving t) × (seat.old.me.1 ≡ (0, None) ∷ []) }
-        requires gained { MatchBool added ((e : _) × (T.log value ≡ seat.old.me.0.seen ++ (seat.old.me.0.number, e) ∷ [])) (T.log value ≡ seat.old.me.0.seen) }
+        requires gained { MatchBool added
+            ((e : _) × (T.log value ≡ seat.old.me.0.seen ++ (seat.old.me.0.number, e) ∷ []))
+            (T.log value ≡ seat.old.me.0.seen) }
         ensures lock { seat.new.table_id ≡ seat.old.table_id }
-        ensures noted { MatchBool added ((e : _) × (T.log value ≡ seat.old.me.0.seen ++ (seat.old.me.0.number, e) ∷ []) × (seat.new.me ≡ (in_phase (noting seat.old.me.0 e) Idle, []))) (seat.new.me ≡ (in_phase seat.old.me.0 Idle, [])) }
+        ensures noted { MatchBool added
+            ((e : _) × (T.log value ≡ seat.old.me.0.seen ++ (seat.old.me.0.number, e) ∷ []) ×
+            (seat.new.me ≡ (in_phase (noting seat.old.me.0 e) Idle, [])))
+            (seat.new.me ≡ (in_phase seat.old.me.0 Idle, [])) }
     {
         self.put(seat, value);
         if added {
@@ -223,20 +248,25 @@ impl<T: Logged> SeatLock<T> {
         requires lock { seat.old.table_id ≡ lock_id self.now }
         requires more { HoldsMore T.log seat.old.me }
         ensures lock { seat.new.table_id ≡ seat.old.table_id }
-        ensures noted { (y : T) × (e : _) × (seat.old.me.1 ≡ (0, Some y) ∷ []) × (T.log y ≡ seat.old.me.0.seen ++ (seat.old.me.0.number, e) ∷ []) × (seat.new.me ≡ (noting seat.old.me.0 e, seat.old.me.1)) }
+        ensures noted { (y : T) × (e : _) × (seat.old.me.1 ≡ (0, Some y) ∷ []) ×
+            (T.log y ≡ seat.old.me.0.seen ++ (seat.old.me.0.number, e) ∷ []) ×
+            (seat.new.me ≡ (noting seat.old.me.0 e, seat.old.me.1)) }
     {
         self.table.shared.fetch_add::<Note>(seat, NOTES, 1);
     }
 
-    // Gives the value up, serves the next ticket and wakes those who wait.
+    // Gives the value up and serves the next ticket. Those who wait are woken, where somebody has drawn that ticket.
+    // Nobody sleeps otherwise: who draws it from now on finds it served.
     fn leave(&self, seat: &mut Token<T>)
         requires lock { seat.old.table_id ≡ lock_id self.now }
         requires holds { Holds T.log seat.old.me }
         ensures lock { seat.new.table_id ≡ seat.old.table_id }
         ensures left { seat.new.me ≡ (in_phase seat.old.me.0 Idle, []) }
     {
-        self.table.shared.fetch_add::<Leave>(seat, SERVING, 1);
-        self.table.shared.wake_all(SERVING);
+        let served = self.table.shared.fetch_add::<Leave>(seat, SERVING, 1);
+        if self.table.shared.peek(TICKET) != served.wrapping_add(1) {
+            self.table.shared.wake_all(SERVING);
+        }
     }
 
     // Joins the other seat into this one.

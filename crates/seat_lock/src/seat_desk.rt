@@ -2,6 +2,7 @@
 ghost use Rattle.std.specs.Prelude.{◌≡◌};
 ghost use Rattle.std.specs.Arc.{arc_value};
 ghost use Rattle.seat_lock.specs.Log.{of};
+ghost use Rattle.seat_lock.specs.View.{IsSound};
 ghost use Rattle.seat_lock.specs.Tokens.{lock_id, pass_of, pass_view};
 
 use crate::lock::SeatLock;
@@ -20,7 +21,8 @@ pub struct SeatDesk<T: Logged, R> {
     pass: Pass<T>,
     rt: R,
     ghost fits: { pass_of pass ≡ lock_id (arc_value lock) },
-    ghost own: { of (pass_view pass).number (pass_view pass).kept ≡ of (pass_view pass).number (pass_view pass).seen },
+    ghost own: { of (pass_view pass).number (pass_view pass).kept ≡
+        of (pass_view pass).number (pass_view pass).seen },
 }
 
 impl<T: Logged, R> SeatDesk<T, R> {
@@ -40,18 +42,22 @@ impl<T: Logged, R> SeatDesk<T, R> {
 impl<T: Logged + Drop, R: Drop> SeatDesk<T, R> {
     ghost use Rattle.seat_lock.specs.SeatDesk.{desk_lock, desk_view};
 
-    /// The pass, with all that the turns added to it.
+    /// The pass, with all that the turns added to it. Its view is sound: it answers for its own number, and keeps of
+    /// each number that it answers for the entries in the log seen.
     pub fn into_pass(self) -> Pass<T>
         ensures lock { pass_of result ≡ desk_lock self }
         ensures view { pass_view result ≡ desk_view self }
-        ensures own { of (pass_view result).number (pass_view result).kept ≡ of (pass_view result).number (pass_view result).seen }
+        ensures own { of (pass_view result).number (pass_view result).kept ≡
+            of (pass_view result).number (pass_view result).seen }
+        ensures sound { IsSound (pass_view result) }
     {
         let SeatDesk {
-            lock: _,
-            pass,
+            lock,
+            pass: mut returned,
             rt: _,
         } = self;
-        pass
+        lock.recall_pass(&mut returned);
+        returned
     }
 }
 

@@ -3,6 +3,8 @@ ghost use Rattle.std.specs.Prelude.{◌≡◌, ◌<◌, ◌≤◌, [], ◌∷◌
 ghost use Rattle.std.specs.Thread.{IsSync};
 ghost use Rattle.seat_lock.specs.View.{opener};
 ghost use Rattle.seat_lock.specs.Tokens.{lock_id, pass_of, pass_view};
+ghost use Rattle.seat_lock.specs.SeatDesk.{desk_lock, desk_view};
+ghost use Rattle.seat_lock.specs.Log.{Found};
 
 use crate::traits::{Act, Desk, Glance, Logged};
 use crate::{Pass, PlainDesk, SeatDesk, SeatLock};
@@ -35,7 +37,9 @@ struct Put(u32);
 impl Act<Tally> for Put {
     type Reply = Result<(), AllocError>;
 
-    ghost does = { λ put seat found left reply. MatchResult reply (λ _. left.entries.items ≡ found.entries.items ++ (seat, put.0) ∷ []) (λ _. left.entries.items ≡ found.entries.items) };
+    ghost does = { λ put seat found left reply. MatchResult reply
+        (λ _. left.entries.items ≡ found.entries.items ++ (seat, put.0) ∷ [])
+        (λ _. left.entries.items ≡ found.entries.items) };
 
     fn act(self, value: &mut Tally, seat: u32) -> Result<(), AllocError> {
         value.entries.push((seat, self.0))?;
@@ -119,6 +123,55 @@ fn add_both<R: Threads + Wait + Sync>(
     )
 }
 
+// Takes that many turns at the desk, each of which adds a number.
+fn add_at_desk<R: Wait>(mut desk: SeatDesk<Tally, R>, count: u32) -> SeatDesk<Tally, R>
+    ensures { desk_lock result ≡ desk_lock desk }
+{
+    for number in 0..count {
+        let _ = desk.turn(Put(number));
+    }
+    desk
+}
+
+// Brings two desks home. The closed log goes on from what each of them has seen, with no further entry of its number.
+fn bring_home<R: Wait + Drop>(
+    rt: &R,
+    lock: &SeatLock<Tally>,
+    first: SeatDesk<Tally, R>,
+    second: SeatDesk<Tally, R>,
+) -> Tally
+    requires first { desk_lock first ≡ lock_id lock.now }
+    requires second { desk_lock second ≡ lock_id lock.now }
+    ensures first { Found (desk_view first).number (desk_view first).seen result.entries.items }
+    ensures second { Found (desk_view second).number (desk_view second).seen result.entries.items }
+{
+    let mut into = first.into_pass();
+    let other = second.into_pass();
+    lock.join(&mut into, other);
+    lock.close(rt, into)
+}
+
+// Two threads with a desk each take that many turns.
+fn add_at_desks<R: Threads + Wait + Send + Drop>(
+    rt: &R,
+    first: SeatDesk<Tally, R>,
+    second: SeatDesk<Tally, R>,
+    count: u32,
+) -> (SeatDesk<Tally, R>, SeatDesk<Tally, R>)
+    ensures first { desk_lock result.0 ≡ desk_lock first }
+    ensures second { desk_lock result.1 ≡ desk_lock second }
+{
+    join(
+        rt,
+        || -> SeatDesk<Tally, R>
+            ensures { desk_lock result ≡ desk_lock first }
+        { add_at_desk(first, count) },
+        || -> SeatDesk<Tally, R>
+            ensures { desk_lock result ≡ desk_lock second }
+        { add_at_desk(second, count) },
+    )
+}
+
 // The numbers that the seat added.
 fn added_by(alloc: Global, tally: &Tally, seat: u32) -> Result<Vec<u32>, AllocError> {
     tally
@@ -157,11 +210,20 @@ fn four_threads<R: Threads + Wait + Sync>(
     Ok(lock.close(rt, a))
 }
 
-// The tally of four threads has all their numbers, each thread's in its order.
-fn check_four(rt: &impl Abort, alloc: Global, tally: &Tally, count: u32) -> Result<(), Fail> {
-    assert_eq!(rt; tally.entries.len() as u64, 4 * u64::from(count));
+// The tally has all numbers of that many seats, each seat's in its order.
+fn check_all(
+    rt: &impl Abort,
+    alloc: Global,
+    tally: &Tally,
+    seats: u32,
+    count: u32,
+) -> Result<(), Fail> {
+    assert_eq!(rt;
+        tally.entries.len() as u64,
+        u64::from(seats) * u64::from(count)
+    );
     let wanted: Vec<u32> = (0..count).collect(alloc)?;
-    for seat in 0..4 {
+    for seat in 0..seats {
         assert_eq!(rt; added_by(alloc, tally, seat)?.as_slice(), wanted.as_slice());
     }
     Ok(())
@@ -204,13 +266,26 @@ fn split_and_join(rt: HostRuntime) -> Result<(), Fail> {
 #[test]
 fn forty_entries(rt: HostRuntime) -> Result<(), Fail> {
     let tally = four_threads(&rt, rt.alloc(), 10)?;
-    check_four(&rt, rt.alloc(), &tally, 10)
+    check_all(&rt, rt.alloc(), &tally, 4, 10)
+}
+
+// So many turns that the threads meet and wait for one another.
+#[test]
+fn threads_that_wait(rt: HostRuntime) -> Result<(), Fail> {
+    let tally = four_threads(&rt, rt.alloc(), 200_000)?;
+    check_all(&rt, rt.alloc(), &tally, 4, 200_000)
 }
 
 #[test]
-fn four_thousand_entries(rt: HostRuntime) -> Result<(), Fail> {
-    let tally = four_threads(&rt, rt.alloc(), 1000)?;
-    check_four(&rt, rt.alloc(), &tally, 1000)
+fn desks_on_threads(rt: HostRuntime) -> Result<(), Fail> {
+    let (lock, mut first) = open(rt.alloc(), 2)?;
+    let second = lock.split(&mut first)?;
+    let lock = Arc::new(rt.alloc(), lock)?;
+    let first = SeatDesk::new(rt, Arc::try_clone(&lock)?, first);
+    let second = SeatDesk::new(rt, Arc::try_clone(&lock)?, second);
+    let (first, second) = add_at_desks(&rt, first, second, 1000);
+    let tally = bring_home(&rt, &lock, first, second);
+    check_all(&rt, rt.alloc(), &tally, 2, 1000)
 }
 
 #[test]

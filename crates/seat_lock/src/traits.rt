@@ -58,12 +58,14 @@ pub trait Desk<T: Logged> {
     fn turn<A: Act<T>>(&mut self, act: A) -> A::Reply
         ensures number { number self.new ≡ number self.old }
         ensures stands { stands self.new ≡ stands self.old }
-        ensures turned { Turned T.log (number self.old) (A.does act (number self.old)) (seen self.old) (told self.old) result (seen self.new) (told self.new) };
+        ensures turned { Turned T.log (number self.old) (A.does act (number self.old)) (seen self.old) (told self.old)
+            result (seen self.new) (told self.new) };
 
     /// One look at the value, which adds no entry.
     fn look<G: Glance<T>>(&mut self, glance: G) -> G::Out
         ensures number { number self.new ≡ number self.old }
         ensures stands { stands self.new ≡ stands self.old }
         ensures told { told self.new ≡ told self.old }
-        ensures looked { Looked T.log (number self.old) (G.shows glance) (seen self.old) (told self.old) result (seen self.new) };
+        ensures looked { Looked T.log (number self.old) (G.shows glance) (seen self.old) (told self.old)
+            result (seen self.new) };
 }

@@ -26,6 +26,8 @@ pub struct View<E> {
     pub end: u64,
     /// The longest log that it has seen.
     pub seen: LinkedList<(u64, E)>,
+    /// The shorter of the two logs that met where another seat last came home to it. It is a front of `seen`.
+    pub shorter_seen: LinkedList<(u64, E)>,
     /// The entries of the numbers that it answers for.
     pub kept: LinkedList<(u64, E)>,
 }

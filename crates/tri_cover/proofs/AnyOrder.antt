@@ -1,7 +1,6 @@
 -- A list whose places differ has the same picture in any order.
 use Rattle.std.proofs.Common.{◌≡◌, ℕ, ◌+◌, ◌<◌, ◌≤◌, List, [], ◌∷◌, Bool, true, false, cond, ◌&&◌, Option, Some, None, option_map, refl, ap, sym, ◌∙◌, subst, arith, inl, inr, eq-eqb}
 use Rattle.std.specs.Prelude.{filter, filter_map, fold, count_by, ◌==◌}
-use Rattle.std.specs.Option.{option_map_or}
 use Rattle.std.specs.List.{enumerate_from, cons_option}
 use Rattle.std.specs.List.Sorted.{IsPermutation, ties}
 use Rattle.std.proofs.lemmas.Bool.{and_parts}
@@ -12,21 +11,25 @@ use Rattle.pf_model.specs.declared.geometry.Tri.{Tri}
 use Rattle.pf_model.specs.Walks.{Instance}
 use Rattle.tri_cover.specs.declared.hit.Hit.{Hit}
 use Rattle.tri_cover.specs.Hits.{hit}
-use Rattle.tri_cover.specs.Glass.{is_opaque, is_glass, is_drawn_before, distance_of}
-use Rattle.tri_cover.specs.Picture.{Key, Fragment, is_less, nearer, fragment_of, fragment_at, fragments, ground, glazed_by, picture}
+use Rattle.tri_cover.specs.Glass.{is_opaque, is_glass, is_drawn_before}
+use Rattle.tri_cover.specs.Picture.{Fragment, fragment_of, fragment_at, fragments, opaque_fragments, nearest_opaque, colour_under, glazed_by, picture}
 use Rattle.tri_cover.specs.Sorting.{sorted}
-use Rattle.tri_cover.specs.Orders.{PlacesDiffer, opaque_fragments, KeysDiffer, AreDrawnAlike}
+use Rattle.tri_cover.specs.Orders.{PlacesDiffer, KeysDiffer, HaveOnePicture, AreDrawnAlike}
+use Rattle.tri_cover.proofs.Filtering.{filter-filter}
+use Rattle.tri_cover.proofs.Keys.{AreOneKey, one_key}
+use Rattle.tri_cover.specs.Leasts.{IsLeast, IsNearest}
+use Rattle.tri_cover.proofs.Leasts.{is_nearest, only_nearest, least_is_nearest, same_nearest}
 use Rattle.tri_cover.proofs.GlassOrder.{drawn_in_order, goes_first}
 use Rattle.tri_cover.proofs.Sorts.{rises_one, rises_sorted, filter-sorted, tie_parts}
 use Rattle.tri_cover.proofs.Members.{In, in_from_contains, contains_from_in, in_permutation, in_permuted, in_filter, filter_in, in_flat_map, flat_map_in, ComesFrom, one_passes, filter_once}
 
 -- ---- the fragments of one instance have its place and the numbers of their triangles
-abbrev numbered : Lens → (px py : ℕ) → Instance → ℕ → List Tri → List Fragment
+abbrev pub numbered : Lens → (px py : ℕ) → Instance → ℕ → List Tri → List Fragment
 numbered lens px py x n ts = filter_map (fragment_at lens px py x) (enumerate_from n ts)
 
-record IsNumbered (x : Instance) (n : ℕ) (f : Fragment) : Type 0 where
-  place : f.key.place ≡ x.place
-  number : n ≤ f.key.number
+pub record IsNumbered (x : Instance) (n : ℕ) (f : Fragment) : Type 0 where
+  pub place : f.key.place ≡ x.place
+  pub number : n ≤ f.key.number
 
 numbered_in : (lens : Lens) (px py : ℕ) (x : Instance) (n : ℕ) (ts : List Tri) (f : Fragment) → In f (numbered lens px py x n ts) → IsNumbered x n f
 numbered_in lens px py x n [] f m = absurd m
@@ -56,13 +59,6 @@ number_one lens px py x n (t ∷ ts) f g m k same =
     by (Some h) rest (inr a) (inr b) = rest a b
 
 -- ---- equal keys
-record AreOneKey (a b : Key) : Type 0 where
-  place : a.place ≡ b.place
-  number : a.number ≡ b.number
-
-one_key : (a b : Key) → is_less a b ≡ false → is_less b a ≡ false → AreOneKey a b
-one_key a b h g = record { place = grind (arith, nat_tests); number = grind (arith, nat_tests) }
-
 pub keys_differ : (xs : List Instance) → PlacesDiffer xs → KeysDiffer xs
 keys_differ xs differ lens px py f g m k h i = from
     (flat_map_in (fragments lens px py) f (filter is_opaque xs) (in_from_contains f (opaque_fragments lens px py xs) m))
@@ -81,77 +77,6 @@ keys_differ xs differ lens px py f g m k h i = from
         let one : y ≡ x = one_passes (λ (z : Instance). z.place == x.place) y x xs (differ x.place) (filter_in is_opaque y xs b.among).0 (filter_in is_opaque x xs a.among).0 (eq-eqb y.place x.place place) (eq-eqb x.place x.place refl) in
         number_one lens px py x 0 x.tris f g a.within (subst (λ (z : Instance). In g (fragments lens px py z)) one b.within) same.number
 
--- ---- the least key
-less_one_way : (a b : Key) → is_less a b ≡ true → is_less b a ≡ false
-less_one_way a b h = grind (arith, nat_tests)
-
-less_chain : (a b c : Key) → is_less a b ≡ false → is_less b c ≡ false → is_less a c ≡ false
-less_chain a b c h g = grind (arith, nat_tests)
-
-less_itself : (a : Key) → is_less a a ≡ false
-less_itself a = grind (arith, nat_tests)
-
--- the fold finds an element of the list that has no lesser one
-record HasLeast (a : Fragment) (fs : List Fragment) : Type 0 where
-  found : Fragment
-  is : fold nearer (Some a) fs ≡ Some found
-  among : In found (a ∷ fs)
-  least : (g : Fragment) → In g (a ∷ fs) → is_less g.key found.key ≡ false
-
-has_least : (a : Fragment) (fs : List Fragment) → HasLeast a fs
-has_least a [] = record { found = a; is = refl; among = inl refl; least = only }
-  where
-    only : (g : Fragment) → In g (a ∷ []) → is_less g.key a.key ≡ false
-    only g (inl e) = subst (λ (w : Fragment). is_less w.key a.key ≡ false) e (less_itself a.key)
-    only g (inr m) = absurd m
-has_least a (b ∷ bs) = by (is_less b.key a.key) refl (has_least a bs) (has_least b bs)
-  where
-    by : (t : Bool) → t ≡ is_less b.key a.key → HasLeast a bs → HasLeast b bs → HasLeast a (b ∷ bs)
-    by true e of_a of_b = record {
-      found = of_b.found;
-      is = ap (λ (u : Bool). fold nearer (cond u (Some b) (Some a)) bs) (sym e) ∙ of_b.is;
-      among = inr of_b.among;
-      least = least;
-    }
-      where
-        least : (g : Fragment) → In g (a ∷ b ∷ bs) → is_less g.key of_b.found.key ≡ false
-        least g (inl same) = subst (λ (w : Fragment). is_less w.key of_b.found.key ≡ false) same
-            (less_chain a.key b.key of_b.found.key (less_one_way b.key a.key (sym e)) (of_b.least b (inl refl)))
-        least g (inr m) = of_b.least g m
-    by false e of_a of_b = record {
-      found = of_a.found;
-      is = ap (λ (u : Bool). fold nearer (cond u (Some b) (Some a)) bs) (sym e) ∙ of_a.is;
-      among = further of_a.among;
-      least = least;
-    }
-      where
-        further : {w : Fragment} → In w (a ∷ bs) → In w (a ∷ b ∷ bs)
-        further (inl same) = inl same
-        further (inr m) = inr (inr m)
-
-        least : (g : Fragment) → In g (a ∷ b ∷ bs) → is_less g.key of_a.found.key ≡ false
-        least g (inl same) = of_a.least g (inl same)
-        least g (inr (inl same)) = subst (λ (w : Fragment). is_less w.key of_a.found.key ≡ false) same
-            (less_chain b.key a.key of_a.found.key (sym e) (of_a.least a (inl refl)))
-        least g (inr (inr m)) = of_a.least g (inr m)
-
-same_least : (fs gs : List Fragment) → ((w : Fragment) → In w fs → In w gs) → ((w : Fragment) → In w gs → In w fs) → ((f g : Fragment) → In f fs → In g fs → is_less f.key g.key ≡ false → is_less g.key f.key ≡ false → f ≡ g) → fold nearer None fs ≡ fold nearer None gs
-same_least [] [] to back one = refl
-same_least [] (g ∷ gs) to back one = absurd (back g (inl refl))
-same_least (f ∷ fs) [] to back one = absurd (to f (inl refl))
-same_least (f ∷ fs) (g ∷ gs) to back one = of_f.is ∙ ap (λ (w : Fragment). Some w) same ∙ sym of_g.is
-  where
-    of_f : HasLeast f fs
-    of_f = has_least f fs
-
-    of_g : HasLeast g gs
-    of_g = has_least g gs
-
-    same : of_f.found ≡ of_g.found
-    same = one of_f.found of_g.found of_f.among (back of_g.found of_g.among)
-        (of_g.least of_f.found (to of_f.found of_f.among))
-        (of_f.least of_g.found (back of_g.found of_g.among))
-
 -- ---- two orders of one list
 moved_fragment : (lens : Lens) (px py : ℕ) (xs ys : List Instance) → ((x : Instance) → In x xs → In x ys) → (f : Fragment) → In f (opaque_fragments lens px py xs) → In f (opaque_fragments lens px py ys)
 moved_fragment lens px py xs ys move f m = from (flat_map_in (fragments lens px py) f (filter is_opaque xs) m)
@@ -161,20 +86,17 @@ moved_fragment lens px py xs ys move f m = from (flat_map_in (fragments lens px 
         let h : In c.source xs × (is_opaque c.source ≡ true) = filter_in is_opaque c.source xs c.among in
         in_flat_map (fragments lens px py) f c.source (filter is_opaque ys) (in_filter is_opaque c.source ys (move c.source h.0) h.1) c.within
 
-same_ground : (xs ys : List Instance) → PlacesDiffer xs → IsPermutation xs ys → (lens : Lens) (px py : ℕ) → ground lens px py ys ≡ ground lens px py xs
-unfolding ground
-same_ground xs ys differ perm lens px py = sym (same_least (opaque_fragments lens px py xs) (opaque_fragments lens px py ys)
-    (moved_fragment lens px py xs ys (λ x m. in_permutation x xs ys perm m))
-    (moved_fragment lens px py ys xs (λ x m. in_permuted x xs ys perm m))
-    (λ f g m k. keys_differ xs differ lens px py f g (contains_from_in f (opaque_fragments lens px py xs) m) (contains_from_in g (opaque_fragments lens px py xs) k)))
-
-filter-filter : {X : Type 0} (p q : X → Bool) (xs : List X) → filter q (filter p xs) ≡ filter (λ x. p x && q x) xs
-filter-filter p q [] = refl
-filter-filter {X} p q (x ∷ xs) = by (p x) (filter-filter p q xs)
+same_opaque : (xs ys : List Instance) → PlacesDiffer xs → IsPermutation xs ys → (lens : Lens) (px py : ℕ) → nearest_opaque lens px py ys ≡ nearest_opaque lens px py xs
+unfolding nearest_opaque
+same_opaque xs ys differ perm lens px py = sym (same_nearest fs gs (keys_differ xs differ lens px py)
+    (λ w m. contains_from_in w gs (moved_fragment lens px py xs ys (λ x n. in_permutation x xs ys perm n) w (in_from_contains w fs m)))
+    (λ w m. contains_from_in w fs (moved_fragment lens px py ys xs (λ x n. in_permuted x xs ys perm n) w (in_from_contains w gs m))))
   where
-    by : (t : Bool) → filter q (filter p xs) ≡ filter (λ y. p y && q y) xs → filter q (cond t (x ∷ filter p xs) (filter p xs)) ≡ cond (t && q x) (x ∷ filter (λ y. p y && q y) xs) (filter (λ y. p y && q y) xs)
-    by true rest = ap (λ (ys : List X). cond (q x) (x ∷ ys) ys) rest
-    by false rest = rest
+    fs : List Fragment
+    fs = opaque_fragments lens px py xs
+
+    gs : List Fragment
+    gs = opaque_fragments lens px py ys
 
 same_place : (d p e q : ℕ) → goes_first d p e q ≡ false → goes_first e q d p ≡ false → q ≡ p
 same_place d p e q h g = grind (arith, nat_tests)
@@ -182,7 +104,7 @@ same_place d p e q h g = grind (arith, nat_tests)
 tied_place : (k x : Instance) → ties is_drawn_before k x ≡ true → x.place ≡ k.place
 tied_place k x t =
     let h : (is_drawn_before k x ≡ false) × (is_drawn_before x k ≡ false) = tie_parts is_drawn_before k x t in
-    same_place (distance_of k) k.place (distance_of x) x.place h.0 h.1
+    same_place k.far k.place x.far x.place h.0 h.1
 
 glass_once : (xs : List Instance) → PlacesDiffer xs → (k : Instance) → count_by (λ x. is_glass x && ties is_drawn_before k x) xs ≤ 1
 glass_once xs differ k = omega (arith, differ k.place, sum_by-le-sum_by (λ (x : Instance). cond (is_glass x && ties is_drawn_before k x) 1 0) (λ (x : Instance). cond (x.place == k.place) 1 0) xs fewer)
@@ -204,15 +126,28 @@ same_glass xs ys differ perm =
     ∙ sym (filter-filter is_glass (ties is_drawn_before k) xs)
     ∙ sym (filter-sorted is_drawn_before drawn_in_order k (filter is_glass xs)))
 
-same_picture : (xs ys : List Instance) → ((lens : Lens) (px py : ℕ) → ground lens px py ys ≡ ground lens px py xs) → sorted is_drawn_before (filter is_glass ys) ≡ sorted is_drawn_before (filter is_glass xs) → (lens : Lens) (back : List ℕ) (px py : ℕ) → picture lens back ys px py ≡ picture lens back xs px py
+same_picture : (xs ys : List Instance) → ((lens : Lens) (px py : ℕ) → nearest_opaque lens px py ys ≡ nearest_opaque lens px py xs) → sorted is_drawn_before (filter is_glass ys) ≡ sorted is_drawn_before (filter is_glass xs) → HaveOnePicture xs ys
 unfolding picture
-same_picture xs ys grounds glass lens back px py =
-    ap (λ (g : Option Fragment). fold (glazed_by lens px py g) (option_map_or (λ f. f.colour) g back) (sorted is_drawn_before (filter is_glass ys))) (grounds lens px py)
-    ∙ ap (fold (glazed_by lens px py (ground lens px py xs)) (option_map_or (λ f. f.colour) (ground lens px py xs) back)) glass
+same_picture xs ys opaque glass lens px py back =
+    ap (λ (g : Option Fragment). fold (glazed_by lens px py g) (colour_under back g) (sorted is_drawn_before (filter is_glass ys))) (opaque lens px py)
+    ∙ ap (fold (glazed_by lens px py (nearest_opaque lens px py xs)) (colour_under back (nearest_opaque lens px py xs))) glass
 
 pub drawn_alike : (xs ys : List Instance) → PlacesDiffer xs → IsPermutation xs ys → AreDrawnAlike xs ys
 drawn_alike xs ys differ perm = record {
-  ground = same_ground xs ys differ perm;
+  opaque = same_opaque xs ys differ perm;
   glass = same_glass xs ys differ perm;
-  pixels = same_picture xs ys (same_ground xs ys differ perm) (same_glass xs ys differ perm);
+  pixels = same_picture xs ys (same_opaque xs ys differ perm) (same_glass xs ys differ perm);
 }
+
+-- ---- the opaque fragment that is drawn
+pub nearest_is_drawn : (lens : Lens) (px py : ℕ) (xs : List Instance) → IsNearest (opaque_fragments lens px py xs) (nearest_opaque lens px py xs)
+unfolding nearest_opaque
+nearest_is_drawn lens px py xs = is_nearest (opaque_fragments lens px py xs)
+
+pub only_drawn : (lens : Lens) (px py : ℕ) (xs : List Instance) (o : Option Fragment) → IsNearest (opaque_fragments lens px py xs) o → o ≡ nearest_opaque lens px py xs
+unfolding nearest_opaque
+only_drawn lens px py xs o h = only_nearest (opaque_fragments lens px py xs) o h
+
+pub least_drawn : (lens : Lens) (px py : ℕ) (xs : List Instance) (f : Fragment) → PlacesDiffer xs → IsLeast (opaque_fragments lens px py xs) f → nearest_opaque lens px py xs ≡ Some f
+unfolding nearest_opaque
+least_drawn lens px py xs f differ least = least_is_nearest (opaque_fragments lens px py xs) f (keys_differ xs differ lens px py) least

@@ -3,7 +3,7 @@ use Rattle.std.proofs.Common.{◌≡◌, ℕ, Bool, true, false, ◌&&◌, ◌||
 use Rattle.std.specs.Prelude.{nat_lt, ◌==◌}
 use Rattle.std.specs.Cmp.{IsStrictWeakOrder}
 use Rattle.std.proofs.lemmas.Bool.Decides.{nat_tests}
-use Rattle.tri_cover.specs.Glass.{distance_of, is_drawn_before}
+use Rattle.tri_cover.specs.Glass.{is_drawn_before}
 
 abbrev pub goes_first : (d p e q : ℕ) → Bool
 goes_first d p e q = nat_lt e d || (d == e && nat_lt p q)
@@ -16,6 +16,6 @@ goes_first_chain d p e q f r h g = grind (arith, nat_tests)
 
 pub drawn_in_order : IsStrictWeakOrder is_drawn_before
 drawn_in_order = record {
-  one_way = λ x y. goes_first_one_way (distance_of x) x.place (distance_of y) y.place;
-  chain = λ x y z. goes_first_chain (distance_of x) x.place (distance_of y) y.place (distance_of z) z.place;
+  one_way = λ x y. goes_first_one_way x.far x.place y.far y.place;
+  chain = λ x y z. goes_first_chain x.far x.place y.far y.place z.far z.place;
 }

@@ -1,12 +1,14 @@
 -- The hit by its two tests.
-use Rattle.std.proofs.Common.{◌≡◌, ℕ, List, true, false, Some, None, refl, arith, ap, ◌∙◌}
+use Rattle.std.proofs.Common.{◌≡◌, ℕ, List, true, false, Some, None, arith, ap, ◌∙◌}
 use Rattle.std.specs.Prelude.{ℤ, pos, ◌≤ℤ◌, unsigned_abs}
 use Rattle.std.proofs.lemmas.Int.{ints}
 use Rattle.fx_math.specs.Plain.{Point}
 use Rattle.fx_math.specs.Hit.{Edges, edges, det3, ray, is_inside, is_in_depth, depth_of, is_hit}
 use Rattle.fx_math.specs.declared.lenses.Lens.{Lens}
-use Rattle.tri_cover.specs.Hits.{mean_colour, hit_of}
-use Rattle.tri_cover.specs.Judged.{judged}
+use Rattle.fx_math.specs.Plain.{Matrix}
+use Rattle.fx_math.specs.Fixed.{carry}
+use Rattle.pf_model.specs.declared.geometry.Tri.{Tri}
+use Rattle.tri_cover.specs.Hits.{mean_colour, judged, hit_of, vertex, hit}
 
 pub judged_outside : (lens : Lens) (volume : ℤ) (e : Edges) (colours : List (List ℕ)) → is_inside volume e ≡ false → judged lens volume e colours ≡ None
 unfolding judged
@@ -32,11 +34,12 @@ seen_depth lens depth h =
     let high : depth ≤ℤ lens.far = grind (arith, ints) in
     record { low = omega (arith, ints, lens.in_range.before_eye, low); high = omega (arith, ints, lens.in_range.most_far, high) }
 
-hit_of_is : (lens : Lens) (px py : ℕ) (u v w : Point) (colours : List (List ℕ)) → judged lens (det3 u v w) (edges (ray lens px py) u v w) colours ≡ hit_of lens px py u v w colours
-unfolding hit_of judged is_hit
-hit_of_is lens px py u v w colours = refl
-
 -- the hit of a triangle is what its determinant and its edge values tell
 pub hit_of_is_judged : (lens : Lens) (px py : ℕ) (u v w : Point) (colours : List (List ℕ)) (volume : ℤ) (e : Edges) → volume ≡ det3 u v w → e ≡ edges (ray lens px py) u v w → judged lens volume e colours ≡ hit_of lens px py u v w colours
 hit_of_is_judged lens px py u v w colours volume e same_volume same_edges =
-    ap (λ (z : ℤ). judged lens z e colours) same_volume ∙ ap (λ (d : Edges). judged lens (det3 u v w) d colours) same_edges ∙ hit_of_is lens px py u v w colours
+    ap (λ (z : ℤ). judged lens z e colours) same_volume ∙ ap (λ (d : Edges). judged lens (det3 u v w) d colours) same_edges
+
+-- there is no hit where the pixel's ray does not meet the triangle between the lens's depths
+pub no_hit : (lens : Lens) (px py : ℕ) (steps : List Matrix) (t : Tri) → is_hit lens px py (carry steps (vertex t 0)) (carry steps (vertex t 1)) (carry steps (vertex t 2)) ≡ false → hit lens px py steps t ≡ None
+unfolding is_hit judged
+no_hit lens px py steps t missed = rw missed

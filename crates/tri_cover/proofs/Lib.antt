@@ -1,9 +1,15 @@
+pub mod Alike
 pub mod AnyOrder
+pub mod Filtering
 pub mod GlassOrder
 pub mod Judgement
+pub mod Keys
+pub mod Leasts
 pub mod Members
+pub mod Rising
 pub mod Signs
 pub mod Sorts
 pub mod Stepped
-pub mod Weights
 pub mod Unseen
+pub mod Weights
+pub mod Zips

@@ -3,7 +3,7 @@ use Rattle.std.proofs.Common.{◌≡◌, Bool, true, false, ◌&&◌, ◌||◌, 
 use Rattle.std.specs.Prelude.{ℤ, pos, ◌≤ℤ◌, ◌<ℤ◌, int_lt}
 use Rattle.std.proofs.lemmas.Int.{ints}
 use Rattle.fx_math.specs.Hit.{Edges, is_inside}
-use Rattle.tri_cover.specs.Judged.{are_not_below_zero, are_not_above_zero}
+use Rattle.tri_cover.specs.Edges.{are_not_below_zero, are_not_above_zero}
 
 is_below : (a b : ℤ) → a <ℤ b → int_lt a b ≡ true
 is_below a b h = grind (arith, ints)

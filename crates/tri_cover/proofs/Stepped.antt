@@ -15,7 +15,7 @@ use Rattle.pf_model.specs.declared.geometry.Tri.{Tri}
 use Rattle.tri_cover.specs.EdgeValues.{IsDeterminant, AreDeterminants}
 use Rattle.tri_cover.specs.Hits.{vertex}
 use Rattle.tri_cover.specs.declared.edges.EdgeValues.{EdgeValues}
-use Rattle.tri_cover.specs.Judged.{sum_of_edges, edges_of}
+use Rattle.tri_cover.specs.Edges.{sum_of_edges, edges_of}
 use Rattle.tri_cover.specs.Stepping.{to_the_right, edges_in, AreAtPixel}
 
 abbrev sum_of_points : Point → Point → Point

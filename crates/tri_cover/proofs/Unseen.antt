@@ -1,11 +1,9 @@
 -- Instances that hit nothing may be left out of a picture.
-use Rattle.std.proofs.Common.{◌≡◌, ℕ, ◌+◌, List, [], ◌∷◌, ◌++◌, Bool, true, false, cond, ◌&&◌, Option, None, option_map, refl, ap, sym, ◌∙◌}
+use Rattle.std.proofs.Common.{◌≡◌, ℕ, ◌+◌, List, [], ◌∷◌, Bool, true, false, cond, Option, None, option_map, refl, ap, sym, ◌∙◌}
 use Rattle.std.specs.Prelude.{filter, filter_map, flat_map, fold}
 use Rattle.std.specs.Cmp.{IsStrictWeakOrder}
-use Rattle.std.specs.Option.{option_map_or}
 use Rattle.std.specs.List.{All, enumerate_from, cons_option}
 use Rattle.std.specs.List.Sorted.{ties}
-use Rattle.std.proofs.Math.Bool.{and_comm}
 use Rattle.std.proofs.lemmas.List.Elements.{All-head, All-tail, All-cons, All-filter, All-weaker}
 use Rattle.fx_math.specs.declared.lenses.Lens.{Lens}
 use Rattle.pf_model.specs.declared.geometry.Tri.{Tri}
@@ -14,10 +12,13 @@ use Rattle.tri_cover.specs.declared.hit.Hit.{Hit}
 use Rattle.tri_cover.specs.Hits.{hit}
 use Rattle.tri_cover.specs.Glass.{is_opaque, is_glass, alpha_of, is_drawn_before}
 use Rattle.tri_cover.specs.Sorting.{put_in, sorted}
-use Rattle.tri_cover.specs.Picture.{Fragment, nearer, glazed, fragment_of, fragment_at, fragments, ground, glazed_by, picture}
+use Rattle.tri_cover.specs.Picture.{Fragment, nearer, glazed, fragment_of, fragment_at, fragments, nearest_opaque, colour_under, glazed_by, picture}
 use Rattle.tri_cover.proofs.GlassOrder.{drawn_in_order}
 use Rattle.tri_cover.proofs.Sorts.{NoneBefore, Rises, rises_one, rises_sorted, filter-sorted}
-use Rattle.tri_cover.specs.LeftOut.{HitsNothing, LeavesOutNoHit, IsSamePixel}
+use Rattle.tri_cover.specs.LeftOut.{is_hit_by, IsMissed, HasNoHit, LeavesOutNoHit}
+use Rattle.tri_cover.specs.Orders.{HaveOneColour}
+use Rattle.tri_cover.proofs.Judgement.{no_hit}
+use Rattle.tri_cover.proofs.Filtering.{filter_comm, flat_map-filter, fold-filter}
 
 -- ---- what hits nothing has no fragments
 none_from : (lens : Lens) (px py : ℕ) (x : Instance) (n : ℕ) (ts : List Tri) → All (λ t. hit lens px py x.steps t ≡ None) ts → filter_map (fragment_at lens px py x) (enumerate_from n ts) ≡ []
@@ -26,45 +27,12 @@ none_from lens px py x n (t ∷ ts) missed =
     ap (λ (o : Option Hit). cons_option (option_map (fragment_of x n) o) (filter_map (fragment_at lens px py x) (enumerate_from (n + 1) ts))) (All-head (λ t. hit lens px py x.steps t ≡ None) t ts missed)
     ∙ none_from lens px py x (n + 1) ts (All-tail (λ t. hit lens px py x.steps t ≡ None) t ts missed)
 
-no_fragments : (lens : Lens) (px py : ℕ) (x : Instance) → HitsNothing lens px py x → fragments lens px py x ≡ []
+no_fragments : (lens : Lens) (px py : ℕ) (x : Instance) → HasNoHit lens px py x → fragments lens px py x ≡ []
 no_fragments lens px py x missed = none_from lens px py x 0 x.tris missed
 
-nothing_glazed : (lens : Lens) (px py : ℕ) (behind : Option Fragment) (under : List ℕ) (x : Instance) → HitsNothing lens px py x → glazed_by lens px py behind under x ≡ under
+nothing_glazed : (lens : Lens) (px py : ℕ) (behind : Option Fragment) (under : List ℕ) (x : Instance) → HasNoHit lens px py x → glazed_by lens px py behind under x ≡ under
 unfolding glazed_by
 nothing_glazed lens px py behind under x missed = ap (fold (glazed behind (alpha_of x)) under) (no_fragments lens px py x missed)
-
--- ---- filters of a list
-filter-filter : {X : Type 0} (p q : X → Bool) (xs : List X) → filter q (filter p xs) ≡ filter (λ x. p x && q x) xs
-filter-filter p q [] = refl
-filter-filter {X} p q (x ∷ xs) = by (p x) (filter-filter p q xs)
-  where
-    by : (t : Bool) → filter q (filter p xs) ≡ filter (λ y. p y && q y) xs → filter q (cond t (x ∷ filter p xs) (filter p xs)) ≡ cond (t && q x) (x ∷ filter (λ y. p y && q y) xs) (filter (λ y. p y && q y) xs)
-    by true rest = ap (λ (ys : List X). cond (q x) (x ∷ ys) ys) rest
-    by false rest = rest
-
-filter_comm : {X : Type 0} (p q : X → Bool) (xs : List X) → filter q (filter p xs) ≡ filter p (filter q xs)
-filter_comm {X} p q xs =
-    filter-filter p q xs ∙ ap (λ (r : X → Bool). filter r xs) (λ i x. and_comm (p x) (q x) i) ∙ sym (filter-filter q p xs)
-
--- what is left out gives nothing
-flat_map-filter : {X Y : Type 0} (f : X → List Y) (keep : X → Bool) (xs : List X) → All (λ x. keep x ≡ false → f x ≡ []) xs → flat_map f (filter keep xs) ≡ flat_map f xs
-flat_map-filter f keep [] none = refl
-flat_map-filter {X} {Y} f keep (x ∷ xs) none =
-    by (keep x) (All-head (λ x. keep x ≡ false → f x ≡ []) x xs none) (flat_map-filter f keep xs (All-tail (λ x. keep x ≡ false → f x ≡ []) x xs none))
-  where
-    by : (t : Bool) → (t ≡ false → f x ≡ []) → flat_map f (filter keep xs) ≡ flat_map f xs → flat_map f (cond t (x ∷ filter keep xs) (filter keep xs)) ≡ f x ++ flat_map f xs
-    by true nothing rest = ap (λ (ys : List Y). f x ++ ys) rest
-    by false nothing rest = rest ∙ ap (λ (ys : List Y). ys ++ flat_map f xs) (sym (nothing refl))
-
--- what is left out changes nothing
-fold-filter : {A X : Type 0} (f : A → X → A) (keep : X → Bool) (a : A) (xs : List X) → All (λ x. keep x ≡ false → (b : A) → f b x ≡ b) xs → fold f a (filter keep xs) ≡ fold f a xs
-fold-filter f keep a [] same = refl
-fold-filter {A} {X} f keep a (x ∷ xs) same =
-    by (keep x) (All-head (λ x. keep x ≡ false → (b : A) → f b x ≡ b) x xs same) (λ b. fold-filter f keep b xs (All-tail (λ x. keep x ≡ false → (b : A) → f b x ≡ b) x xs same))
-  where
-    by : (t : Bool) → (t ≡ false → (b : A) → f b x ≡ b) → ((b : A) → fold f b (filter keep xs) ≡ fold f b xs) → fold f a (cond t (x ∷ filter keep xs) (filter keep xs)) ≡ fold f (f a x) xs
-    by true still rest = rest (f a x)
-    by false still rest = rest a ∙ ap (λ (b : A). fold f b xs) (sym (still refl a))
 
 -- ---- a filter of a sorted list
 none_before_filter : {X : Type 0} (lt : X → X → Bool) (keep : X → Bool) (x : X) (xs : List X) → NoneBefore lt x xs → NoneBefore lt x (filter keep xs)
@@ -105,15 +73,15 @@ all_sorted P lt [] all = all
 all_sorted P lt (x ∷ xs) all = all_put P lt x (sorted lt xs) (All-head P x xs all) (all_sorted P lt xs (All-tail P x xs all))
 
 -- ---- the picture
-ground_stays : (lens : Lens) (px py : ℕ) (keep : Instance → Bool) (xs : List Instance) → LeavesOutNoHit lens px py keep xs → ground lens px py (filter keep xs) ≡ ground lens px py xs
-unfolding ground
-ground_stays lens px py keep xs missed =
+opaque_stays : (lens : Lens) (px py : ℕ) (keep : Instance → Bool) (xs : List Instance) → LeavesOutNoHit lens px py keep xs → nearest_opaque lens px py (filter keep xs) ≡ nearest_opaque lens px py xs
+unfolding nearest_opaque
+opaque_stays lens px py keep xs missed =
     ap (λ (ys : List Instance). fold nearer None (flat_map (fragments lens px py) ys)) (filter_comm keep is_opaque xs)
     ∙ ap (fold nearer None) (flat_map-filter (fragments lens px py) keep (filter is_opaque xs) none)
   where
     none : All (λ x. keep x ≡ false → fragments lens px py x ≡ []) (filter is_opaque xs)
     none = All-filter is_opaque (λ x. keep x ≡ false → fragments lens px py x ≡ []) xs
-        (All-weaker (λ x. keep x ≡ false → HitsNothing lens px py x) (λ x. keep x ≡ false → fragments lens px py x ≡ []) (λ x h out. no_fragments lens px py x (h out)) xs missed)
+        (All-weaker (λ x. keep x ≡ false → HasNoHit lens px py x) (λ x. keep x ≡ false → fragments lens px py x ≡ []) (λ x h out. no_fragments lens px py x (h out)) xs missed)
 
 glass_stays : (lens : Lens) (px py : ℕ) (keep : Instance → Bool) (xs : List Instance) → LeavesOutNoHit lens px py keep xs → (behind : Option Fragment) (under : List ℕ) → fold (glazed_by lens px py behind) under (sorted is_drawn_before (filter is_glass (filter keep xs))) ≡ fold (glazed_by lens px py behind) under (sorted is_drawn_before (filter is_glass xs))
 glass_stays lens px py keep xs missed behind under =
@@ -126,10 +94,14 @@ glass_stays lens px py keep xs missed behind under =
 
     same : All Still (sorted is_drawn_before (filter is_glass xs))
     same = all_sorted Still is_drawn_before (filter is_glass xs) (All-filter is_glass Still xs
-        (All-weaker (λ x. keep x ≡ false → HitsNothing lens px py x) Still (λ x h out b. nothing_glazed lens px py behind b x (h out)) xs missed))
+        (All-weaker (λ x. keep x ≡ false → HasNoHit lens px py x) Still (λ x h out b. nothing_glazed lens px py behind b x (h out)) xs missed))
 
-pub same_pixel : (lens : Lens) (px py : ℕ) (keep : Instance → Bool) (xs : List Instance) → LeavesOutNoHit lens px py keep xs → IsSamePixel lens px py keep xs
+pub same_pixel : (lens : Lens) (px py : ℕ) (keep : Instance → Bool) (xs : List Instance) → LeavesOutNoHit lens px py keep xs → HaveOneColour lens px py xs (filter keep xs)
 unfolding picture
 same_pixel lens px py keep xs missed back =
-    glass_stays lens px py keep xs missed (ground lens px py (filter keep xs)) (option_map_or (λ f. f.colour) (ground lens px py (filter keep xs)) back)
-    ∙ ap (λ (g : Option Fragment). fold (glazed_by lens px py g) (option_map_or (λ f. f.colour) g back) (sorted is_drawn_before (filter is_glass xs))) (ground_stays lens px py keep xs missed)
+    glass_stays lens px py keep xs missed (nearest_opaque lens px py (filter keep xs)) (colour_under back (nearest_opaque lens px py (filter keep xs)))
+    ∙ ap (λ (g : Option Fragment). fold (glazed_by lens px py g) (colour_under back g) (sorted is_drawn_before (filter is_glass xs))) (opaque_stays lens px py keep xs missed)
+
+-- the pixel's ray meets no triangle of the instance between the lens's depths
+pub missed_by_all : (lens : Lens) (px py : ℕ) (x : Instance) → IsMissed lens px py x → HasNoHit lens px py x
+missed_by_all lens px py x missed = All-weaker (λ t. is_hit_by lens px py x.steps t ≡ false) (λ t. hit lens px py x.steps t ≡ None) (λ t h. no_hit lens px py x.steps t h) x.tris missed

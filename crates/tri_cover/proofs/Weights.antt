@@ -12,7 +12,7 @@ use Rattle.fx_math.specs.Hit.{Edges, edges, sum_of, det3, ray, is_inside}
 use Rattle.fx_math.proofs.Ring.{expand, linear, order, times_le}
 use Rattle.fx_math.proofs.Cramer.{inside_sum}
 use Rattle.fx_math.proofs.Floor.{floor_at_least, floor_at_most, floor_neg}
-use Rattle.tri_cover.specs.Judged.{are_not_below_zero, are_not_above_zero, are_of_one_sign}
+use Rattle.tri_cover.specs.Edges.{are_not_below_zero, are_not_above_zero, are_of_one_sign}
 
 -- ---- a mean lies between its bounds
 -- from 0 to 255

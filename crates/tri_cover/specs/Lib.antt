@@ -1,7 +1,9 @@
 pub mod EdgeValues
+pub mod Edges
 pub mod Glass
 pub mod Hits
-pub mod Judged
+pub mod Labels
+pub mod Leasts
 pub mod LeftOut
 pub mod Orders
 pub mod Picture

@@ -10,8 +10,8 @@ use Rattle.pf_model.specs.Walks.{Instance}
 use Rattle.tri_cover.specs.Glass.{is_opaque, is_glass, alpha_of, is_drawn_before, blend}
 use Rattle.tri_cover.specs.Sorting.{sorted}
 
--- What decides between hits at one pixel: the depth less the decal shift, at least 0; the place of the instance; the number
--- of the triangle in it.
+-- What decides between hits at one pixel: the depth less the decal shift, at least 0; the place of the instance; the
+-- number of the triangle in it.
 pub record Key : Type 0 where
   pub depth : ℕ
   pub place : ℕ
@@ -47,11 +47,19 @@ abbrev pub nearer : Option Fragment → Fragment → Option Fragment
 nearer None f = Some f
 nearer (Some g) f = if is_less f.key g.key then Some f else Some g
 
--- the fragment of least key over all triangles of all opaque instances, where there is any
-unfoldable pub ground : Lens → (px py : ℕ) → List Instance → Option Fragment
-ground lens px py xs = fold nearer None (flat_map (fragments lens px py) (filter is_opaque xs))
+-- the fragment of least key of a list, the first of them at equal keys; none of an empty list
+abbrev pub nearest : List Fragment → Option Fragment
+nearest fs = fold nearer None fs
 
--- the fragment lies behind the ground
+-- the fragments at a pixel of the opaque instances
+abbrev pub opaque_fragments : Lens → (px py : ℕ) → List Instance → List Fragment
+opaque_fragments lens px py xs = flat_map (fragments lens px py) (filter is_opaque xs)
+
+-- the opaque fragment that is drawn at a pixel
+unfoldable pub nearest_opaque : Lens → (px py : ℕ) → List Instance → Option Fragment
+nearest_opaque lens px py xs = nearest (opaque_fragments lens px py xs)
+
+-- the fragment lies behind the opaque one that is drawn
 abbrev pub is_hidden : Option Fragment → Fragment → Bool
 is_hidden None f = false
 is_hidden (Some g) f = nat_lt g.key.depth f.key.depth
@@ -64,8 +72,12 @@ glazed behind alpha under f = if is_hidden behind f then under else blend alpha 
 unfoldable pub glazed_by : Lens → (px py : ℕ) → Option Fragment → List ℕ → Instance → List ℕ
 glazed_by lens px py behind under x = fold (glazed behind (alpha_of x)) under (fragments lens px py x)
 
--- The colour of the picture at the pixel (px, py): the ground's, or the background's where there is none, under the glass.
+-- the colour under the glass: that of the opaque fragment, or the background where there is none
+abbrev pub colour_under : (back : List ℕ) → Option Fragment → List ℕ
+colour_under back behind = option_map_or (λ f. f.colour) behind back
+
+-- The colour of the picture at the pixel (px, py): that of the opaque fragment or the background, under the glass.
 unfoldable pub picture : Lens → (back : List ℕ) → List Instance → (px py : ℕ) → List ℕ
 picture lens back xs px py =
-    let behind = ground lens px py xs in
-    fold (glazed_by lens px py behind) (option_map_or (λ f. f.colour) behind back) (sorted is_drawn_before (filter is_glass xs))
+    let behind = nearest_opaque lens px py xs in
+    fold (glazed_by lens px py behind) (colour_under back behind) (sorted is_drawn_before (filter is_glass xs))

@@ -7,7 +7,7 @@ use Rattle.pf_model.specs.declared.geometry.Tri.{Tri}
 use Rattle.tri_cover.specs.declared.edges.EdgeValues.{EdgeValues}
 use Rattle.tri_cover.specs.EdgeValues.{IsDeterminant}
 use Rattle.tri_cover.specs.Hits.{vertex}
-use Rattle.tri_cover.specs.Judged.{edges_of}
+use Rattle.tri_cover.specs.Edges.{edges_of}
 
 -- how the direction of the rays changes from a pixel to the one on its right
 abbrev pub to_the_right : Point

@@ -20,7 +20,7 @@ pub(crate) struct EdgeValues {
 
 impl EdgeValues {
     ghost use Rattle.fx_math.specs.Hit.{edges, sum_of, is_inside};
-    ghost use Rattle.tri_cover.specs.Judged.{edges_of, are_not_below_zero, are_not_above_zero, are_of_one_sign, sum_of_edges};
+    ghost use Rattle.tri_cover.specs.Edges.{edges_of, are_not_below_zero, are_not_above_zero, are_of_one_sign, sum_of_edges};
     ghost use Rattle.tri_cover.specs.Hits.{mean, mean_colour};
 
     /// Those of the direction `d` in the triangle of these vertices.
@@ -40,7 +40,8 @@ impl EdgeValues {
 
     /// The values after a step, where these are determinants too.
     pub(crate) fn plus(&self, step: &EdgeValues) -> EdgeValues
-        requires { AreDeterminants (self.now.e0 +ℤ step.now.e0) (self.now.e1 +ℤ step.now.e1) (self.now.e2 +ℤ step.now.e2) }
+        requires { AreDeterminants (self.now.e0 +ℤ step.now.e0) (self.now.e1 +ℤ step.now.e1)
+            (self.now.e2 +ℤ step.now.e2) }
         ensures { edges_of result ≡ sum_of_edges (edges_of self.now) (edges_of step.now) }
     {
         EdgeValues {

@@ -4,14 +4,15 @@ ghost use Rattle.fx_math.specs.Within.{IsWithin};
 ghost use Rattle.fx_math.specs.Fixed.{floor_div};
 ghost use Rattle.fx_math.specs.Hit.{sum_of, is_inside, is_in_depth, depth_of};
 ghost use Rattle.tri_cover.specs.EdgeValues.{IsDeterminant};
-ghost use Rattle.tri_cover.specs.Judged.{edges_of, judged};
+ghost use Rattle.tri_cover.specs.Edges.{edges_of};
+ghost use Rattle.tri_cover.specs.Hits.{judged};
 
 use crate::edges::EdgeValues;
 use crate::hit::Hit;
 use fx_math::{Lens, floor_div};
 
 /// The hit of a triangle of these colours, whose vertices have this determinant.
-#[tactic(auto, unfolding(crate::specs::Judged::judged))]
+#[tactic(auto, unfolding(crate::specs::Hits::judged))]
 pub(crate) fn judge(
     lens: &Lens,
     volume: i128,

@@ -1,14 +1,16 @@
 //! Which pixels a triangle covers, and what a picture of triangles is.
 #![tactic(auto)]
 
-pub mod coverage;
+mod carries;
+mod coverage;
 mod edges;
-pub mod hit;
+mod hit;
 mod judge;
 pub mod laws;
 mod ray;
-pub mod stepper;
+mod stepper;
 
+pub use carries::carried;
 pub use coverage::cover;
 pub use hit::Hit;
 pub use stepper::Stepper;

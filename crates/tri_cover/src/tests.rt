@@ -1,6 +1,6 @@
 //! The hits of single triangles, in pictures of a few pixels.
-use crate::{Hit, Stepper, cover};
-use fx_math::{Lens, MAX_COORDINATE, Vec3};
+use crate::{Hit, Stepper, carried, cover};
+use fx_math::{Lens, MAX_COORDINATE, Vec3, shift};
 use pf_model::Tri;
 use std::test::Fail;
 
@@ -107,5 +107,22 @@ fn steps_along_a_row(rt: HostRuntime) -> Result<(), Fail> {
         })
     );
     assert_eq!(rt; cover(&tri, 2, 0, &lens), stepper.here());
+    Ok(())
+}
+
+#[test]
+fn carries_to_the_eye(rt: HostRuntime) -> Result<(), Fail> {
+    let tri = facing()?;
+    let lens = lens(2, 2)?;
+    assert_eq!(rt; lens.w, 2);
+    assert_eq!(rt; lens.h, 2);
+    let moved = carried(&tri, &[shift(point(0, 4096, 0)?)]);
+    assert_eq!(rt;
+        cover(&moved, 0, 0, &lens),
+        Some(Hit {
+            depth: 8192,
+            colour: [255, 0, 0]
+        })
+    );
     Ok(())
 }

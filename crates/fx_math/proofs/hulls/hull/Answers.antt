@@ -3,7 +3,7 @@ use Rattle.std.proofs.lemmas.Int.{to_z-of_z}
 use Rattle.fx_math.specs.Plain.{Bounds, IsBox, IsInside}
 use Rattle.fx_math.specs.Views.{point_of, bounds_of}
 use Rattle.fx_math.specs.Fixed.{hull}
-use Rattle.fx_math.proofs.Containment.{hull-IsBox, hull-first, hull-second}
+use Rattle.fx_math.proofs.Containment.{hull-IsBox, hull-first, hull-second, hull-least}
 use Rattle.fx_math.proofs.hulls.hull.Goals as goal
 
 pub invariant_of-result : goal.invariant_of-result
@@ -24,3 +24,8 @@ returns-clause-holds_first c =
 pub returns-clause-holds_second : goal.returns-clause-holds_second
 returns-clause-holds_second c =
     subst (λ (b : Bounds). IsInside (bounds_of c.args.b.now) b) (sym (returns-clause-value c)) (hull-second (bounds_of c.args.a.now) (bounds_of c.args.b.now))
+
+pub returns-clause-least : goal.returns-clause-least
+returns-clause-least c = λ around first second.
+    subst (λ (b : Bounds). IsInside b around) (sym (returns-clause-value c))
+    (hull-least (bounds_of c.args.a.now) (bounds_of c.args.b.now) around first second)

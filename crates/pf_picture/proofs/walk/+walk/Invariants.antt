@@ -3,7 +3,7 @@ use Rattle.std.specs.Prelude.{map}
 use Rattle.std.specs.List.{flat_map}
 use Rattle.fx_math.specs.Views.{matrix_of}
 use Rattle.pf_model.specs.Kinds.{decal}
-use Rattle.pf_picture.specs.Places.{places}
+use Rattle.pf_model.specs.ShownPlaces.{places}
 use Rattle.pf_picture.specs.Walking.{instance_of_leaf, drawn_in}
 use Rattle.pf_picture.proofs.walk.+walk.Given as goal
 

@@ -1,4 +1,4 @@
-use Rattle.play_format.specs.Sections.{stand}
+use Rattle.play_format.specs.Rests.{stand}
 use Rattle.play_format.proofs.HeaderLemmas.{size_read}
 use Rattle.play_format.proofs.header.size.Goals as goal
 
@@ -7,4 +7,4 @@ returns c =
     let a = stand c.args.reader.now.spot c.args.reader.now.line c.args.reader.now.rest.now in
     let b = stand c.line.new.reader.spot c.line.new.reader.line c.line.new.reader.rest.now in
     let h = size_read a b c.in_ok-line.field-0 c.line.new.numbers.items c.requires c.in_ok-line.ensures in
-    rw (c.id_at.ensures, c.id_at-2.ensures, c.deref.ensures.value, c.deref-2.ensures.value) h
+    rw (c.u16_at.ensures, c.u16_at-2.ensures, c.deref.ensures.value, c.deref-2.ensures.value) h

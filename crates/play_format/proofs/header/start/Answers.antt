@@ -1,9 +1,10 @@
 use Rattle.std.proofs.Common.{◌≡◌, refl}
 use Rattle.play_format.specs.declared.commands.Command.TheVariants as command
 use Rattle.play_format.specs.declared.places.Place.TheVariants as place
-use Rattle.play_format.specs.Sections.{stand, LineRead}
+use Rattle.play_format.specs.Sections.{LineRead}
 use Rattle.play_format.proofs.HeaderLemmas.{no_end, at_behind, app_read, channels_read, not_channels}
 use Rattle.play_format.proofs.header.start.Goals as goal
+use Rattle.play_format.specs.Rests.{stand}
 
 pub line-requires-in-Channels : goal.line-requires-in-Channels
 line-requires-in-Channels c =

@@ -3,12 +3,12 @@ use Rattle.std.specs.Int.{w32}
 use Rattle.std.proofs.lemmas.Int.{to_z-of_z}
 use Rattle.fx_math.specs.Plain.{Point}
 use Rattle.play_format.proofs.SameLemmas.{same_point, vector_is, vector_none}
-use Rattle.play_format.specs.Making.{origin}
+use Rattle.fx_math.specs.Constants.{origin_vector}
 use Rattle.play_format.proofs.making.vector.Goals as goal
 
 pub returns-in_default : goal.returns-in_default
 returns-in_default c =
-    same_point _ origin refl refl refl
+    same_point _ origin_vector refl refl refl
     ∙ vector_none c.args.x c.args.y c.args.z (λ h.
     let k = c.in_default.ensures.in_range.1 (rw (to_z-of_z w32 c.args.x c.ranges.x, to_z-of_z w32 c.args.y c.ranges.y, to_z-of_z w32 c.args.z c.ranges.z) h) in absurd cc)
 

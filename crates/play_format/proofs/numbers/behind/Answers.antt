@@ -1,9 +1,10 @@
 use Rattle.std.proofs.Common.{◌≡◌, ◌∙◌, ◌+◌, ℕ, arith, refl, sym, subst, drop, get_or, eqb, true, false, ◌∷◌}
 use Rattle.std.proofs.lemmas.Bool.{eq-eqb, ne_eqb}
-use Rattle.play_format.specs.Words.{words, front_word, front_len}
+use Rattle.play_format.specs.Words.{words}
 use Rattle.play_format.proofs.LineLemmas.{rest_is}
 use Rattle.play_format.proofs.FrontLemmas.{front_ends, front_goes_on, front_alone, front_first}
 use Rattle.play_format.proofs.numbers.behind.Goals as goal
+use Rattle.play_format.specs.Rests.{front_word, front_len}
 
 pub returns-then-len-text : goal.returns-then-len-text
 returns-then-len-text c =

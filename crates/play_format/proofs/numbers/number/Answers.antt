@@ -3,8 +3,8 @@ use Rattle.std.specs.Prelude.{◌<ℤ◌, ◌≤ℤ◌, FitsSigned, Ok}
 use Rattle.std.specs.Int.{w32}
 use Rattle.std.proofs.lemmas.Int.{ints}
 use Rattle.std.proofs.lemmas.Result.{err_from_is_err_and}
-use Rattle.play_format.specs.Words.{front_word}
-use Rattle.play_format.specs.Numbers.{number_at, is_number, held, value_of}
+use Rattle.play_format.specs.Rests.{front_word, held}
+use Rattle.play_format.specs.Numbers.{number_at, is_number, value_of}
 use Rattle.play_format.proofs.NumberLemmas.{number_below, number_above, number_within, number_none, some_held}
 use Rattle.play_format.proofs.numbers.number.Goals as goal
 use Rattle.play_format.proofs.numbers.number.Goals.{then-value-from-via-then-value-from, then-value-from-via-else-value-from+then-from-value}

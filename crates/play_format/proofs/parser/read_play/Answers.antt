@@ -1,8 +1,9 @@
 use Rattle.std.proofs.Common.{sym, true, false}
 use Rattle.play_format.specs.Places.{start}
-use Rattle.play_format.specs.Sections.{stand, HeaderRead, AppSection}
+use Rattle.play_format.specs.Sections.{HeaderRead, AppSection}
 use Rattle.play_format.proofs.PlayLemmas.{play_of_app, play_of_both, read_app, read_both, header_line}
 use Rattle.play_format.proofs.parser.read_play.Goals as goal
+use Rattle.play_format.specs.Rests.{stand}
 
 pub new-requires-then-not-more : goal.new-requires-then-not-more
 new-requires-then-not-more c =

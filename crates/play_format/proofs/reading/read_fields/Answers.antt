@@ -1,5 +1,5 @@
 use Rattle.std.proofs.Common.{◌∙◌, sym}
-use Rattle.play_format.specs.Words.{left_words}
+use Rattle.play_format.specs.Rests.{left_words}
 use Rattle.play_format.proofs.ReadingLemmas.{fields_read}
 use Rattle.play_format.proofs.reading.read_fields.Goals as goal
 

@@ -3,10 +3,11 @@ use Rattle.std.specs.Prelude.{FitsSigned}
 use Rattle.std.specs.Int.{w32}
 use Rattle.std.proofs.lemmas.Int.{to_z-of_z}
 use Rattle.std.proofs.lemmas.Result.{err_from_is_err_and}
-use Rattle.play_format.specs.Words.{words, left_words, front_word}
+use Rattle.play_format.specs.Words.{words}
 use Rattle.play_format.proofs.FrontLemmas.{some_front}
 use Rattle.play_format.proofs.ReadingLemmas.{number_more, number_wrong, none_left, all_read}
 use Rattle.play_format.proofs.reading.read_numbers.Goals as goal
+use Rattle.play_format.specs.Rests.{left_words, front_word}
 
 pub returns-in_default-clause-read : goal.returns-in_default-clause-read
 returns-in_default-clause-read c =

@@ -1,5 +1,5 @@
 use Rattle.std.proofs.Common.{◌≡◌, ◌+◌, drop, length}
-use Rattle.play_format.specs.Words.{left_words}
+use Rattle.play_format.specs.Rests.{left_words}
 use Rattle.play_format.specs.Grammar.{numbers_at}
 use Rattle.play_format.proofs.ReadingLemmas.{with_numbers}
 use Rattle.play_format.proofs.reading.read_numbers.Given as goal

@@ -1,7 +1,8 @@
 use Rattle.std.proofs.Common.{sym, ◌∙◌, ap, ◌≡◌, ◌∷◌}
-use Rattle.play_format.specs.Words.{words, left_words}
+use Rattle.play_format.specs.Words.{words}
 use Rattle.play_format.proofs.ReadingLemmas.{switch_words}
 use Rattle.play_format.proofs.reading.switch_form.Goals as goal
+use Rattle.play_format.specs.Rests.{left_words}
 
 pub returns-in-Some-1₀ : goal.returns-in-Some-1₀
 returns-in-Some-1₀ c =

@@ -1,4 +1,4 @@
-use Rattle.play_format.specs.Sections.{stand}
+use Rattle.play_format.specs.Rests.{stand}
 use Rattle.play_format.proofs.SectionLemmas.{base_more}
 use Rattle.play_format.proofs.sections.base_section.Goals as goal
 

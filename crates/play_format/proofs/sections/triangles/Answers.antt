@@ -1,6 +1,7 @@
-use Rattle.play_format.specs.Sections.{stand, LineRead}
+use Rattle.play_format.specs.Sections.{LineRead}
 use Rattle.play_format.proofs.SectionLemmas.{no_triangles, triangle_more}
 use Rattle.play_format.proofs.sections.triangles.Goals as goal
+use Rattle.play_format.specs.Rests.{stand}
 
 pub loop-reader-init : goal.loop-reader-init
 loop-reader-init c = rw c.new-tris.ensures.items (no_triangles (stand c.args.reader.now.spot c.args.reader.now.line c.args.reader.now.rest.now))

@@ -1,5 +1,5 @@
 use Rattle.std.proofs.Common.{length}
-use Rattle.play_format.specs.Sections.{stand}
+use Rattle.play_format.specs.Rests.{stand}
 use Rattle.play_format.proofs.SectionLemmas.{TrianglesSoFar}
 use Rattle.play_format.proofs.sections.triangles.Given as goal
 

@@ -2,7 +2,7 @@ use Rattle.std.proofs.Common.{arith, ap, ◌∙◌}
 use Rattle.std.proofs.lemmas.Int.{to_z-of_z}
 use Rattle.fx_math.specs.Plain.{Point, vector}
 use Rattle.fx_math.specs.Hit.{edges}
-use Rattle.tri_cover.specs.Judged.{edges_of}
+use Rattle.tri_cover.specs.Edges.{edges_of}
 use Rattle.tri_cover.proofs.Judgement.{hit_of_is_judged}
 use Rattle.tri_cover.proofs.Weights.{seen_pixel}
 use Rattle.tri_cover.proofs.coverage.cover_rows.Goals as goal

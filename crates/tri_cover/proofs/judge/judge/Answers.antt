@@ -1,7 +1,7 @@
 use Rattle.std.proofs.Common.{◌≡◌, true, false, arith, sym}
 use Rattle.std.proofs.lemmas.Int.{ints, to_z-of_z}
 use Rattle.fx_math.specs.Hit.{depth_of, is_in_depth, is_inside}
-use Rattle.tri_cover.specs.Judged.{edges_of}
+use Rattle.tri_cover.specs.Edges.{edges_of}
 use Rattle.tri_cover.proofs.Judgement.{judged_too_deep, judged_seen, seen_depth, IsSeenDepth}
 use Rattle.tri_cover.proofs.Weights.{inside_of_one_sign}
 use Rattle.tri_cover.proofs.judge.judge.Goals as goal

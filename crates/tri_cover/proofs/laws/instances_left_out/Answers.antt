@@ -1,8 +1,5 @@
-use Rattle.tri_cover.proofs.Unseen.{same_pixel}
+use Rattle.tri_cover.proofs.Unseen.{same_pixel, missed_by_all}
 use Rattle.tri_cover.proofs.laws.instances_left_out.Goals as goal
 
 pub returns : goal.returns
-returns c = record {
-  pixel = same_pixel;
-  picture = λ lens keep xs missed px py in_row in_picture. same_pixel lens px py keep xs (missed px py in_row in_picture);
-}
+returns c = record { pixel = same_pixel; missed = missed_by_all }

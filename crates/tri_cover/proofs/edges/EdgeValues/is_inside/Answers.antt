@@ -1,6 +1,6 @@
 use Rattle.std.proofs.Common.{pos, ◌≤ℤ◌, ◌<ℤ◌, arith, sym, ◌∙◌}
 use Rattle.std.proofs.lemmas.Int.{ints}
-use Rattle.tri_cover.specs.Judged.{edges_of}
+use Rattle.tri_cover.specs.Edges.{edges_of}
 use Rattle.tri_cover.proofs.Signs.{inside_above, inside_below, inside_flat}
 use Rattle.tri_cover.proofs.edges.EdgeValues.is_inside.Goals as goal
 

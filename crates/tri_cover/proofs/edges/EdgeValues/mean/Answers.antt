@@ -2,7 +2,7 @@ use Rattle.std.proofs.Common.{◌≡◌, ℤ, pos, ◌+ℤ◌, ◌*ℤ◌, arith
 use Rattle.std.proofs.lemmas.Int.{ints, to_z-of_z}
 use Rattle.fx_math.specs.Fixed.{floor_div}
 use Rattle.fx_math.specs.Hit.{sum_of}
-use Rattle.tri_cover.specs.Judged.{edges_of}
+use Rattle.tri_cover.specs.Edges.{edges_of}
 use Rattle.tri_cover.proofs.Weights.{IsByte, mean_is_byte}
 use Rattle.tri_cover.proofs.edges.EdgeValues.mean.Goals as goal
 

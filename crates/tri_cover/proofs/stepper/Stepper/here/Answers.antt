@@ -1,7 +1,7 @@
 use Rattle.std.proofs.Common.{arith, ◌∙◌}
 use Rattle.std.proofs.lemmas.Int.{to_z-of_z}
 use Rattle.tri_cover.specs.Hits.{vertex}
-use Rattle.tri_cover.specs.Judged.{edges_of}
+use Rattle.tri_cover.specs.Edges.{edges_of}
 use Rattle.tri_cover.proofs.Judgement.{hit_of_is_judged}
 use Rattle.tri_cover.proofs.Weights.{seen_pixel}
 use Rattle.tri_cover.proofs.stepper.Stepper.here.Goals as goal

@@ -1,0 +1,3 @@
+pub mod Merging
+pub mod Running
+pub mod Views

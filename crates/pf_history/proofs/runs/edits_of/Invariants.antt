@@ -1,7 +1,0 @@
-use Rattle.std.proofs.Common.{◌≡◌, ◌-◌, ◌^◌, take, min}
-use Rattle.std.specs.List.{sum_by}
-use Rattle.pf_history.specs.Runs.{edit_count}
-use Rattle.pf_history.proofs.runs.edits_of.Given as goal
-
-abbrev pub invariant-loop-command : goal.invariant-loop-command
-invariant-loop-command l = l.edits ≡ min (sum_by edit_count (take l.command-index l.commands)) (2 ^ 64 - 1)

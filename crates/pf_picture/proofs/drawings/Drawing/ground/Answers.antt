@@ -1,8 +1,0 @@
-use Rattle.std.proofs.Common.{arith}
-use Rattle.std.proofs.lemmas.Grind.{common_steps}
-use Rattle.pf_picture.specs.Drawings.{ground_of}
-use Rattle.pf_picture.proofs.drawings.Drawing.ground.Goals as goal
-
-pub returns : goal.returns
-unfolding ground_of
-returns c = grind (arith, common_steps)
