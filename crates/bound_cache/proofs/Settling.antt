@@ -1,0 +1,105 @@
+-- An id settled after its parts: its box is then the one in the scene as it is.
+use Rattle.std.proofs.Common.{◌≡◌, ℕ, Bool, true, false, cond, not, ◌||◌, ◌==◌, List, [], ◌∷◌, Option, Some, None, refl, sym, ◌∙◌, ap, subst}
+use Rattle.std.specs.List.{AllByRecursion, list_any}
+use Rattle.std.proofs.lemmas.Bool.{eqb-true}
+use Rattle.fx_math.specs.Plain.{Bounds}
+use Rattle.pf_model.specs.Graphs.{Look}
+use Rattle.pf_model.specs.Boxes.{box_in, box_of, box_step}
+use Rattle.pf_model.specs.Laws.{AreLow}
+use Rattle.pf_model.proofs.Levels.{all_map}
+use Rattle.bound_cache.specs.declared.marks.Mark.{Mark}
+use Rattle.bound_cache.specs.declared.marks.Mark.TheVariants.{Clean, Touched, Same, Changed}
+use Rattle.bound_cache.specs.Caches.{is_geode_at}
+use Rattle.bound_cache.specs.Tables.{TableState, is_seen, is_changed, is_still, with_box, with_mark, parts, is_stale, settled, IsHalfwayAt, IsHalfway, MovesOn, Proceeds}
+use Rattle.bound_cache.proofs.Parts.{geode_parts, same_step, new_step}
+use Rattle.bound_cache.proofs.Marking.{moves_same, seen_right, seen_same, same_id, or_false, not_false}
+
+-- the boxes of seen parts are right
+parts_right : (was look : Look) (t : TableState) (ps : List ℕ) → IsHalfway was look t → AllByRecursion (λ c. is_seen (t.marks c) ≡ true) ps → AllByRecursion (λ c. t.boxes c ≡ box_of look c) ps
+parts_right was look t ps half seen =
+    all_map (λ c. is_seen (t.marks c) ≡ true) (λ c. t.boxes c ≡ box_of look c) (λ c s. seen_right was look c (t.boxes c) (t.marks c) s (half.each c)) ps seen
+
+-- seen parts none of which has changed have the same boxes in both scenes
+parts_same : (was look : Look) (t : TableState) (ps : List ℕ) → IsHalfway was look t → AllByRecursion (λ c. is_seen (t.marks c) ≡ true) ps → list_any (λ c. is_changed (t.marks c)) ps ≡ false
+    → AllByRecursion (λ c. (n : ℕ) → box_in n look c ≡ box_in n was c) ps
+parts_same was look t [] half seen none = tt
+parts_same was look t (c ∷ cs) half seen none =
+    let both : (is_changed (t.marks c) ≡ false) × (list_any (λ d. is_changed (t.marks d)) cs ≡ false) = or_false (is_changed (t.marks c)) (list_any (λ d. is_changed (t.marks d)) cs) none in
+    (seen_same was look c (t.boxes c) (t.marks c) seen.0 both.0 (half.each c), parts_same was look t cs half seen.1 both.1)
+
+still_same : (was look : Look) (id : ℕ) (box : Option Bounds) (m : Mark) → is_still m ≡ true → IsHalfwayAt was look id box m
+    → AllByRecursion (λ c. (n : ℕ) → box_in n look c ≡ box_in n was c) (parts (look id)) → IsHalfwayAt was look id box Same
+still_same was look id box Clean s h all = (h.0 ∙ sym (same_step was look id h.1 all 32), same_step was look id h.1 all)
+still_same was look id box Touched s h all = absurd (cc)
+still_same was look id box Same s h all = h
+still_same was look id box Changed s h all = absurd (cc)
+
+boxed : (was look : Look) (t : TableState) (id : ℕ) (box : Option Bounds) (m : Mark) → IsHalfway was look t → IsHalfwayAt was look id box m → IsHalfway was look (with_mark id m (with_box id box t))
+boxed was look t id box m half h = record { each = λ k. by k (k == id) refl }
+  where
+    by : (k : ℕ) (b : Bool) → (k == id) ≡ b → IsHalfwayAt was look k (cond b box (t.boxes k)) (cond b m (t.marks k))
+    by k true e = subst (λ (j : ℕ). IsHalfwayAt was look j box m) (sym (eqb-true k id e)) h
+    by k false e = half.each k
+
+marked : (was look : Look) (t : TableState) (id : ℕ) (m : Mark) → IsHalfway was look t → IsHalfwayAt was look id (t.boxes id) m → IsHalfway was look (with_mark id m t)
+marked was look t id m half h = record { each = λ k. by k (k == id) refl }
+  where
+    by : (k : ℕ) (b : Bool) → (k == id) ≡ b → IsHalfwayAt was look k (t.boxes k) (cond b m (t.marks k))
+    by k true e = subst (λ (j : ℕ). IsHalfwayAt was look j (t.boxes j) m) (sym (eqb-true k id e)) h
+    by k false e = half.each k
+
+pub settled_right : (was look : Look) (t : TableState) (id : ℕ) → AreLow look → AllByRecursion (λ c. is_seen (t.marks c) ≡ true) (parts (look id)) → IsHalfway was look t → IsHalfway was look (settled look id t)
+settled_right was look t id low seen half = by (is_stale look id t) refl
+  where
+    by : (b : Bool) → is_stale look id t ≡ b → IsHalfway was look (cond b (with_mark id Changed (with_box id (box_step look t.boxes id) t)) (with_mark id Same t))
+    by true e = boxed was look t id (box_step look t.boxes id) Changed half (new_step look t.boxes id low (parts_right was look t (parts (look id)) half seen))
+    by false e =
+        let both : (not (is_still (t.marks id)) ≡ false) × (list_any (λ c. is_changed (t.marks c)) (parts (look id)) ≡ false) = or_false (not (is_still (t.marks id))) (list_any (λ c. is_changed (t.marks c)) (parts (look id))) e in
+        marked was look t id Same half (still_same was look id (t.boxes id) (t.marks id) (not_false (is_still (t.marks id)) both.0) (half.each id) (parts_same was look t (parts (look id)) half seen both.1))
+
+pub settled_seen : (look : Look) (t : TableState) (id : ℕ) → is_seen ((settled look id t).marks id) ≡ true
+settled_seen look t id = by (is_stale look id t)
+  where
+    at : (m : Mark) → is_seen m ≡ true → is_seen (cond (id == id) m (t.marks id)) ≡ true
+    at m s = subst (λ (b : Bool). is_seen (cond b m (t.marks id)) ≡ true) (sym (same_id id)) s
+
+    by : (b : Bool) → is_seen ((cond b (with_mark id Changed (with_box id (box_step look t.boxes id) t)) (with_mark id Same t)).marks id) ≡ true
+    by true = at Changed refl
+    by false = at Same refl
+
+-- an untouched geode is not stale
+still_geode : (look : Look) (t : TableState) (id : ℕ) → is_geode_at look id ≡ true → is_still (t.marks id) ≡ true → is_stale look id t ≡ false
+still_geode look t id geode still =
+    ap (λ b. not b || list_any (λ c. is_changed (t.marks c)) (parts (look id))) still
+    ∙ ap (λ ps. list_any (λ c. is_changed (t.marks c)) ps) (geode_parts (look id) geode)
+
+pub settled_proceeds : (look : Look) (t : TableState) (id : ℕ) → Proceeds look t (settled look id t)
+settled_proceeds look t id = by (is_stale look id t) refl
+  where
+    moves : (k : ℕ) (m : Mark) → MovesOn (t.marks k) m → (b : Bool) → MovesOn (t.marks k) (cond b m (t.marks k))
+    moves k m h true = h
+    moves k m h false = moves_same (t.marks k)
+
+    -- a stale id is no untouched geode
+    other : is_stale look id t ≡ true → (k : ℕ) → is_geode_at look k ≡ true → is_still (t.marks k) ≡ true → (k == id) ≡ false
+    other e k geode still = at (k == id) refl
+      where
+        at : (b : Bool) → (k == id) ≡ b → b ≡ false
+        at false f = refl
+        at true f = absurd (let n : is_stale look k t ≡ false = still_geode look t k geode still in let s : is_stale look k t ≡ true = subst (λ (j : ℕ). is_stale look j t ≡ true) (sym (eqb-true k id f)) e in cc)
+
+    stays : (k : ℕ) → is_still (t.marks k) ≡ true → (b : Bool) → is_still (cond b Same (t.marks k)) ≡ true
+    stays k still true = refl
+    stays k still false = still
+
+    by : (b : Bool) → is_stale look id t ≡ b → Proceeds look t (cond b (with_mark id Changed (with_box id (box_step look t.boxes id) t)) (with_mark id Same t))
+    by true e = record {
+      on = λ k. moves k Changed tt (k == id);
+      kept = λ k geode still. ap (λ b. cond b (box_step look t.boxes id) (t.boxes k)) (other e k geode still);
+      still = λ k geode still. ap (λ b. is_still (cond b Changed (t.marks k))) (other e k geode still) ∙ still;
+    }
+    by false e = record {
+      on = λ k. moves k Same tt (k == id);
+      kept = λ k geode still. refl;
+      still = λ k geode still. stays k still (k == id);
+    }

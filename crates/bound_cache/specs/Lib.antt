@@ -1,0 +1,4 @@
+pub mod Caches
+pub mod Tables
+pub mod Sizes
+pub mod Views

@@ -1,0 +1,106 @@
+-- How far a clean has come from the boxes of the scene as it was to those of the scene as it is.
+use Rattle.std.specs.Prelude.{◌≡◌, ⊤, ℕ, suc, ◌≤◌, Bool, true, false, not, ◌||◌, ◌==◌, if◌then◌else◌, List, [], Option, Some, None}
+use Rattle.std.specs.List.{list_any}
+use Rattle.fx_math.specs.Plain.{Bounds}
+use Rattle.pf_model.specs.declared.nodes.Node.{Node}
+use Rattle.pf_model.specs.Kinds.{is_geode}
+use Rattle.pf_model.specs.Graphs.{Look, height_in}
+use Rattle.pf_model.specs.Boxes.{box_in, box_of, box_step}
+use Rattle.bound_cache.specs.Caches.{is_geode_at}
+use Rattle.bound_cache.specs.declared.marks.Mark.{Mark}
+use Rattle.bound_cache.specs.declared.marks.Mark.TheVariants.{Clean, Touched, Same, Changed}
+
+-- The box and the mark of each id.
+pub record TableState : Type 0 where
+  pub boxes : ℕ → Option Bounds
+  pub marks : ℕ → Mark
+
+abbrev pub is_touched : Mark → Bool
+is_touched Touched = true
+is_touched _ = false
+
+abbrev pub is_changed : Mark → Bool
+is_changed Changed = true
+is_changed _ = false
+
+-- the clean has come to the id
+abbrev pub is_seen : Mark → Bool
+is_seen Clean = false
+is_seen Touched = false
+is_seen Same = true
+is_seen Changed = true
+
+-- neither touched nor changed
+abbrev pub is_still : Mark → Bool
+is_still Clean = true
+is_still Touched = false
+is_still Same = true
+is_still Changed = false
+
+abbrev pub with_box : ℕ → Option Bounds → TableState → TableState
+with_box id b t = record t { boxes = λ k. if k == id then b else t.boxes k }
+
+abbrev pub with_mark : ℕ → Mark → TableState → TableState
+with_mark id m t = record t { marks = λ k. if k == id then m else t.marks k }
+
+-- the ids of whose boxes that of a node is made: none of a geode
+abbrev pub parts : Option Node → List ℕ
+parts None = []
+parts (Some n) = if is_geode n.kind then [] else n.children
+
+-- an id whose box has to be reckoned: it was touched, or the box of a part has changed
+abbrev pub is_stale : Look → ℕ → TableState → Bool
+is_stale look id t = not (is_still (t.marks id)) || list_any (λ c. is_changed (t.marks c)) (parts (look id))
+
+-- an id with its box, reckoned where it has to be
+abbrev pub settled : Look → ℕ → TableState → TableState
+settled look id t =
+    if is_stale look id t then with_mark id Changed (with_box id (box_step look t.boxes id) t) else with_mark id Same t
+
+-- a node has the same box in both scenes, also with fewer levels
+abbrev pub HasSameBox : Look → Look → ℕ → Type 0
+HasSameBox was look id = (n : ℕ) → box_in n look id ≡ box_in n was id
+
+-- What a mark tells of the box that is kept: before the clean comes to an id it is the box in the scene as it was, and
+-- then the box in the scene as it is.
+abbrev pub IsHalfwayAt : Look → Look → ℕ → Option Bounds → Mark → Type 0
+IsHalfwayAt was look id box Clean = (box ≡ box_of was id) × (look id ≡ was id)
+IsHalfwayAt was look id box Touched = box ≡ box_of was id
+IsHalfwayAt was look id box Same = (box ≡ box_of look id) × HasSameBox was look id
+IsHalfwayAt was look id box Changed = box ≡ box_of look id
+
+pub record IsHalfway (was look : Look) (t : TableState) : Type 0 where
+  pub each : (id : ℕ) → IsHalfwayAt was look id (t.boxes id) (t.marks id)
+
+-- a step of a clean that keeps a table halfway, from whatever scene it started
+abbrev pub StaysHalfway : Look → TableState → TableState → Type 0
+StaysHalfway look before after = (was : Look) → IsHalfway was look before → IsHalfway was look after
+
+-- a mark stays until the clean comes to its id, and then tells for good that it came
+abbrev pub MovesOn : Mark → Mark → Type 0
+MovesOn m Clean = m ≡ Clean
+MovesOn m Touched = m ≡ Touched
+MovesOn m Same = ⊤
+MovesOn m Changed = ⊤
+
+-- What each step of a clean keeps, whatever the scene is: where it came to, and the boxes of untouched geodes.
+pub record Proceeds (look : Look) (before after : TableState) : Type 0 where
+  pub on : (id : ℕ) → MovesOn (before.marks id) (after.marks id)
+  pub kept : (id : ℕ) → is_geode_at look id ≡ true → is_still (before.marks id) ≡ true → after.boxes id ≡ before.boxes id
+  pub still : (id : ℕ) → is_geode_at look id ≡ true → is_still (before.marks id) ≡ true → is_still (after.marks id) ≡ true
+
+-- the clean came to the id, or had no need to: it is not touched and has no node
+abbrev pub IsReached : Look → ℕ → Mark → Type 0
+IsReached look id Clean = look id ≡ None
+IsReached look id Touched = ⊥
+IsReached look id Same = ⊤
+IsReached look id Changed = ⊤
+
+-- no chain down from the node has more than n nodes
+abbrev pub FitsLevels : Look → ℕ → ℕ → Type 0
+FitsLevels look n id = height_in (suc n) look id ≤ n
+
+-- a table between two cleans, and whether any id is touched
+pub record IsAtRest (t : TableState) (any_touched : Bool) : Type 0 where
+  pub unseen : (id : ℕ) → is_seen (t.marks id) ≡ false
+  pub told : any_touched ≡ false → (id : ℕ) → is_touched (t.marks id) ≡ false
