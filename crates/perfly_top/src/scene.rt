@@ -5,8 +5,8 @@ ghost use Rattle.perfly_top.specs.Stream.{frame_bytes};
 use fx_math::Lens;
 use pf_io::NoMemory;
 use pf_model::View;
-use plain_graph::Graph;
 use pf_picture::draw_plain;
+use plain_graph::Graph;
 use ppm_out::append_ppm;
 use std::alloc::Global;
 

@@ -1,10 +1,10 @@
 -- Where both callers stand, no order goes further.
-use Rattle.std.proofs.Common.{◌≡◌, ◌==◌, ℕ, zero, suc, false, ◌+◌, ◌<◌, ◌≤◌, inl, inr, List, [], ◌∷◌, ◌++◌, length, Option, None, refl, sym, ap, subst, arith}
+use Rattle.std.proofs.Common.{◌≡◌, ◌==◌, ℕ, zero, suc, false, ◌+◌, ◌<◌, ◌≤◌, inl, inr, List, [], ◌∷◌, ◌++◌, length, None, refl, sym, subst, arith}
 use Rattle.std.proofs.lemmas.List.{map-append, length-map}
 use Rattle.pf_model.specs.declared.lines.AppLine.{AppLine}
 use Rattle.pf_model.specs.declared.lines.BaseLine.{BaseLine}
 use Rattle.pf_history.specs.Asks.{asked_app, asked_dbase}
-use Rattle.play_check.specs.Lines.{Given, Gives, Waits, Mark, app_given, base_given, app_marks, base_marks, total, passed, Stands, line_at}
+use Rattle.play_check.specs.Lines.{Given, Gives, Waits, Mark, app_marks, base_marks, total, passed, Stands, line_at}
 use Rattle.play_check.specs.Orders.{app_dues, base_dues, within}
 use Rattle.play_check.specs.Stuck.{Pause, pause_before, pauses_of, CanPassWait, CanPassAwait, IsSomeBarred, IsStuck, IsFirstBarred, AreStuckLines}
 use Rattle.play_check.specs.Laws.{WaitingLaw}

@@ -1,5 +1,5 @@
 -- The callers of a history that fits a play are an order of it.
-use Rattle.std.proofs.Common.{◌≡◌, ℕ, ◌+◌, ◌≤◌, Bool, true, false, cond, List, [], ◌∷◌, map, length, drop, Some, option_and_then, refl, sym, ◌∙◌, ap, subst, arith}
+use Rattle.std.proofs.Common.{◌≡◌, ℕ, ◌+◌, cond, List, [], ◌∷◌, map, length, Some, option_and_then, refl, sym, ◌∙◌, ap, subst, arith}
 use Rattle.std.specs.Option.{option_map}
 use Rattle.pf_history.specs.declared.commands.Caller.{Caller}
 use Rattle.pf_history.specs.declared.commands.Caller.TheVariants.{App, Dbase}
@@ -7,7 +7,7 @@ use Rattle.pf_history.specs.declared.commands.Command.{Command}
 use Rattle.pf_history.specs.declared.commands.Command.TheVariants as command
 use Rattle.pf_history.specs.declared.commands.Merge.{Merge}
 use Rattle.pf_history.specs.Objects.{FrameState, opening_state, next_state}
-use Rattle.pf_history.specs.Logs.{Log, own, is_by, is_caller, state_after}
+use Rattle.pf_history.specs.Logs.{Log, is_by, is_caller, state_after}
 use Rattle.pf_history.specs.Asks.{Ask, BaseAsk, Wanted, WantEdit, WantView, WantSync, WantFrame, WantClose, Turn, turns_from, Meets, Follows, FollowsBase, asked_app, asked_dbase}
 use Rattle.pf_history.proofs.Fitting.{fit_law}
 use Rattle.play_check.specs.Orders.{Due, Standing, frames_of, app_dues, base_dues, with_entry, after_order}

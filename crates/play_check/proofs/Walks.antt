@@ -1,5 +1,5 @@
 -- The greedy order: each line that is passed.
-use Rattle.std.proofs.Common.{◌≡◌, ℕ, ◌+◌, ◌≤◌, nat_le, max, false, inl, inr, List, [], ◌∷◌, ◌++◌, Option, Some, refl, sym, ◌∙◌, ap, subst, append_assoc, arith}
+use Rattle.std.proofs.Common.{◌≡◌, ℕ, ◌+◌, ◌≤◌, nat_le, max, false, inl, inr, List, [], ◌∷◌, ◌++◌, Some, refl, sym, ◌∙◌, subst, append_assoc, arith}
 use Rattle.std.specs.List.{AllByRecursion}
 use Rattle.std.proofs.lemmas.Bool.{leb-true}
 use Rattle.std.proofs.lemmas.Option.{same_Some, cond_some}
@@ -7,8 +7,8 @@ use Rattle.pf_model.specs.declared.lines.AppLine.{AppLine}
 use Rattle.pf_model.specs.declared.lines.BaseLine.{BaseLine}
 use Rattle.pf_history.specs.Asks.{asked_app, asked_dbase}
 use Rattle.play_check.specs.Lines.{Given, Gives, Waits, Mark, app_marks, base_marks, given_by, total, passed, GoesOn}
-use Rattle.play_check.specs.Orders.{Due, Standing, app_dues, base_dues, opening}
-use Rattle.play_check.specs.Stuck.{Pause, pause_before, pauses_of, CanPass, CanPassWait, CanPassAwait, IsSomeBarred, IsFirstBarred}
+use Rattle.play_check.specs.Orders.{Due, Standing, app_dues, base_dues}
+use Rattle.play_check.specs.Stuck.{Pause, pause_before, pauses_of, CanPassWait, CanPassAwait, IsSomeBarred, IsFirstBarred}
 use Rattle.play_check.proofs.Dues.{added, givens, Yields, app_yields, base_yields}
 use Rattle.play_check.proofs.Orders.{Reached, reached_opening, reached_app, reached_base}
 

@@ -6,6 +6,7 @@ pub mod Judgement
 pub mod Keys
 pub mod Leasts
 pub mod Members
+pub mod Ranked
 pub mod Rising
 pub mod Signs
 pub mod Sorts

@@ -6,6 +6,7 @@ pub mod Labels
 pub mod Leasts
 pub mod LeftOut
 pub mod Orders
+pub mod Parts
 pub mod Picture
 pub mod Sorting
 pub mod Stepping

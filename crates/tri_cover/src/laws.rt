@@ -1,9 +1,10 @@
 //! Laws of pictures that the renderers above rest on: functions that do nothing, whose contracts are the laws.
-ghost use Rattle.std.specs.Prelude.{◌≡◌, ℕ, List, filter, Bool, Option, Some};
+ghost use Rattle.std.specs.Prelude.{◌≡◌, ℕ, List, filter, Bool, Option, Some, None};
 ghost use Rattle.std.specs.List.{AllZip};
 ghost use Rattle.std.specs.List.Sorted.{IsPermutation};
 ghost use Rattle.fx_math.specs.declared.lenses.Lens.{Lens};
 ghost use Rattle.pf_model.specs.Walks.{Instance};
+ghost use Rattle.tri_cover.specs.Parts.{opaque_parts, fragment_standing, IsFirstHit};
 ghost use Rattle.tri_cover.specs.Picture.{Fragment, opaque_fragments, nearest_opaque};
 ghost use Rattle.tri_cover.specs.Orders.{PlacesDiffer, KeysDiffer, AreDrawnAlike, HaveOneColour, HaveOnePicture};
 ghost use Rattle.tri_cover.specs.Leasts.{IsLeast, IsNearest};
@@ -20,7 +21,8 @@ pub fn order_of_instances()
 
 /// The opaque fragment that is drawn at a pixel is the first, as the list stands, of those of least key, and it is the
 /// only one; this holds of every list, also where keys are equal. Where no place stands twice, the least key has one
-/// fragment, so that any fragment of the list of which none is less is the one that is drawn.
+/// fragment, so that any fragment of the list of which none is less is the one that is drawn. Triangles may be looked at
+/// one by one and in any order, where each is known by the place at which it stands among those of all instances.
 pub fn opaque_fragment_drawn()
     ensures first { (lens : Lens) (px py : ℕ) (xs : List Instance)
         → IsNearest (opaque_fragments lens px py xs) (nearest_opaque lens px py xs) }
@@ -28,6 +30,10 @@ pub fn opaque_fragment_drawn()
         → IsNearest (opaque_fragments lens px py xs) o → o ≡ nearest_opaque lens px py xs }
     ensures least { (lens : Lens) (px py : ℕ) (xs : List Instance) (f : Fragment) → PlacesDiffer xs
         → IsLeast (opaque_fragments lens px py xs) f → nearest_opaque lens px py xs ≡ Some f }
+    ensures by_triangle { (lens : Lens) (px py : ℕ) (xs : List Instance) (i : ℕ) (f : Fragment)
+        → IsFirstHit lens px py (opaque_parts xs) i f → nearest_opaque lens px py xs ≡ Some f }
+    ensures none { (lens : Lens) (px py : ℕ) (xs : List Instance)
+        → ((i : ℕ) → fragment_standing lens px py (opaque_parts xs) i ≡ None) → nearest_opaque lens px py xs ≡ None }
 {}
 
 /// A picture depends on the order of the places of its instances, and neither on their numbers nor on ids and states;

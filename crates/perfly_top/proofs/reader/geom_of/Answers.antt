@@ -23,4 +23,4 @@ returns-in_err-triangles-clause-refused c = λ h.
 pub returns-clause-found : goal.returns-clause-found
 returns-clause-found c =
     let room = c.args.room - c.args.count in
-    rw c.in_ok-new.ensures (sym (due_front c.args.count room c.args.lines.now (omega arith)) ∙ c.in_ok-triangles.ensures.found room (texts (drop c.args.count c.args.lines.now)))
+    rw c.in_ok-new.ensures.tris (sym (due_front c.args.count room c.args.lines.now (omega arith)) ∙ c.in_ok-triangles.ensures.found room (texts (drop c.args.count c.args.lines.now)))
