@@ -1,5 +1,5 @@
 //! Update lists taken into a copy, whose nodes and boxes are then looked at.
-ghost use Rattle.std.specs.Prelude.{ℕ, None};
+ghost use Rattle.std.specs.Prelude.{ℕ, ◌==◌, if◌then◌else◌, Some, None, []};
 
 use super::*;
 use fx_math::{Box3, Vec3};
@@ -22,23 +22,33 @@ impl NodeView for NoNodes {
     }
 }
 
-/// The arrays of a scene without geodes.
+/// The arrays of one geode without triangles.
 #[derive(Drop)]
-struct NoArrays;
+struct OneCycle {
+    alloc: Global,
+    free: u32,
+}
 
-impl Arrays for NoArrays {
-    ghost free = { λ _ _. 0 };
+impl Arrays for OneCycle {
+    ghost free = { λ arrays s. if s == 7 then arrays.free else 0 };
 
-    ghost written = { λ _ _. None };
+    ghost written = { λ _ s. if s == 7 then Some [] else None };
 
     fn ready(&mut self, serial: u32) -> Result<(), NoMemory> {
         let _ = serial;
+        if self.free == 0 {
+            self.free = 1;
+        }
         Ok(())
     }
 
     fn array(&mut self, serial: u32, geom: &Geom) -> Geom {
         let _ = (serial, geom.len());
-        unreachable!()
+        self.free -= 1;
+        match Geom::new(Vec::new(self.alloc)) {
+            Ok(array) => array,
+            Err(_) => unreachable!(),
+        }
     }
 }
 
@@ -112,9 +122,10 @@ fn cuts_of_a_reused_id(rt: HostRuntime) -> Result<(), Fail> {
     let alloc = rt.alloc();
     let mut copy = StageCopy::new(alloc)?;
     let mut dirty = Dirty::new(alloc)?;
+    let mut cycle = OneCycle { alloc, free: 0 };
     dirty.mark(0);
     dirty.mark(5);
-    let mut first = dirty.cut(&NoNodes, &mut NoArrays)?;
+    let mut first = dirty.cut(&NoNodes, &mut cycle)?;
     put(&mut first, 0, group(alloc, 0, Some(5))?);
     put(&mut first, 1, geode(alloc, 1)?);
     let mut stood = copy.take(first);
@@ -152,16 +163,17 @@ fn cuts_of_a_merge(rt: HostRuntime) -> Result<(), Fail> {
     let alloc = rt.alloc();
     let mut copy = StageCopy::new(alloc)?;
     let mut dirty = Dirty::new(alloc)?;
+    let mut cycle = OneCycle { alloc, free: 0 };
     dirty.mark(0);
     dirty.mark(1);
-    let mut first = dirty.cut(&NoNodes, &mut NoArrays)?;
+    let mut first = dirty.cut(&NoNodes, &mut cycle)?;
     put(&mut first, 0, group(alloc, 0, Some(1))?);
     put(&mut first, 1, group(alloc, 1, None)?);
     copy.take(first);
     assert_eq!(rt; copy.box_of(0), None);
     dirty.mark(1);
     dirty.mark(10);
-    let mut second = dirty.cut(&NoNodes, &mut NoArrays)?;
+    let mut second = dirty.cut(&NoNodes, &mut cycle)?;
     put(&mut second, 0, group(alloc, 1, Some(10))?);
     put(&mut second, 1, geode(alloc, 2)?);
     copy.take(second);
@@ -170,7 +182,7 @@ fn cuts_of_a_merge(rt: HostRuntime) -> Result<(), Fail> {
     assert_eq!(rt; copy.box_of(0), around()?);
     dirty.mark(1);
     dirty.mark(10);
-    let mut third = dirty.cut(&NoNodes, &mut NoArrays)?;
+    let mut third = dirty.cut(&NoNodes, &mut cycle)?;
     put(&mut third, 0, group(alloc, 1, None)?);
     copy.take(third);
     assert_eq!(rt; serial_at(&copy, 10), None);

@@ -1,4 +1,4 @@
-ghost use Rattle.std.specs.Prelude.{◌≡◌, ◌==◌, if◌then◌else◌, Some, None};
+ghost use Rattle.std.specs.Prelude.{◌≡◌, ◌==◌, if◌then◌else◌, Some, None, []};
 ghost use Rattle.pf_model.specs.declared.nodes.Kind.TheVariants.{Group};
 
 use crate::{Cut, Dirty, Updates, Views};
@@ -27,23 +27,33 @@ impl NodeView for OneGroup {
     }
 }
 
-/// The arrays of a scene without geodes.
+/// The arrays of one geode without triangles.
 #[derive(Drop)]
-struct NoArrays;
+struct OneCycle {
+    alloc: Global,
+    free: u32,
+}
 
-impl Arrays for NoArrays {
-    ghost free = { λ _ _. 0 };
+impl Arrays for OneCycle {
+    ghost free = { λ arrays s. if s == 7 then arrays.free else 0 };
 
-    ghost written = { λ _ _. None };
+    ghost written = { λ _ s. if s == 7 then Some [] else None };
 
     fn ready(&mut self, serial: u32) -> Result<(), NoMemory> {
         let _ = serial;
+        if self.free == 0 {
+            self.free = 1;
+        }
         Ok(())
     }
 
     fn array(&mut self, serial: u32, geom: &Geom) -> Geom {
         let _ = (serial, geom.len());
-        unreachable!()
+        self.free -= 1;
+        match Geom::new(Vec::new(self.alloc)) {
+            Ok(array) => array,
+            Err(_) => unreachable!(),
+        }
     }
 }
 
@@ -61,16 +71,16 @@ fn one_group(alloc: Global, id: u16, serial: u32) -> OneGroup {
 }
 
 /// The cut of such a scene.
-fn cut(dirty: &mut Dirty, scene: &OneGroup) -> Result<Updates, NoMemory> {
-    dirty.cut(scene, &mut NoArrays)
+fn cut(alloc: Global, dirty: &mut Dirty, scene: &OneGroup) -> Result<Updates, NoMemory> {
+    dirty.cut(scene, &mut OneCycle { alloc, free: 0 })
 }
 
 #[test]
 fn cuts_of_an_unchanged_scene(rt: HostRuntime) -> Result<(), Fail> {
     let scene = one_group(rt.alloc(), 0, 0);
     let mut dirty = Dirty::new(rt.alloc())?;
-    assert_eq!(rt; cut(&mut dirty, &scene)?.len(), 0);
-    assert_eq!(rt; cut(&mut dirty, &scene)?.len(), 0);
+    assert_eq!(rt; cut(rt.alloc(), &mut dirty, &scene)?.len(), 0);
+    assert_eq!(rt; cut(rt.alloc(), &mut dirty, &scene)?.len(), 0);
     Ok(())
 }
 
@@ -81,12 +91,12 @@ fn cut_of_a_merge(rt: HostRuntime) -> Result<(), Fail> {
     dirty.mark(10);
     dirty.mark(1);
     dirty.mark(10);
-    let updates = cut(&mut dirty, &scene)?;
+    let updates = cut(rt.alloc(), &mut dirty, &scene)?;
     assert_eq!(rt; updates.len(), 2);
     assert_eq!(rt; updates.id(0), Some(1));
     assert_eq!(rt; updates.id(1), Some(10));
     assert_eq!(rt; updates.id(2), None);
-    assert_eq!(rt; cut(&mut dirty, &scene)?.len(), 0);
+    assert_eq!(rt; cut(rt.alloc(), &mut dirty, &scene)?.len(), 0);
     Ok(())
 }
 
@@ -96,7 +106,7 @@ fn cut_of_a_reused_id(rt: HostRuntime) -> Result<(), Fail> {
     let mut dirty = Dirty::new(rt.alloc())?;
     dirty.mark(0);
     dirty.mark(5);
-    let mut updates = cut(&mut dirty, &scene)?.copy()?;
+    let mut updates = cut(rt.alloc(), &mut dirty, &scene)?.copy()?;
     assert_eq!(rt; updates.id(0), Some(0));
     assert_eq!(rt; updates.id(1), Some(5));
     assert_eq!(rt; updates.len(), 2);
