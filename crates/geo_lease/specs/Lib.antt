@@ -1,6 +1,0 @@
-pub mod Plans
-pub mod Views
-pub mod LeaseRule
-pub mod Steps
-pub mod Calls
-pub mod Tokens
