@@ -1,3 +1,0 @@
-pub mod Culling
-pub mod Working
-pub mod Premises
