@@ -1,4 +1,0 @@
-mod StepLaws
-mod StepLists
-mod Marks
-mod Orders
