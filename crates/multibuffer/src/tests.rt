@@ -90,6 +90,11 @@ fn around() -> Result<Option<Box3>, Fail> {
     Ok(Box3::new(point(0, 0)?, point(8, 2)?))
 }
 
+/// The cut of a scene without nodes.
+fn cut(alloc: Global, dirty: &mut Dirty) -> Result<Updates, NoMemory> {
+    dirty.cut(&NoNodes, &mut OneCycle { alloc, free: 0 })
+}
+
 /// Puts a node into an entry of an update list.
 fn put(updates: &mut Updates, i: usize, node: Node) {
     let mut place = Some(node);
@@ -122,10 +127,9 @@ fn cuts_of_a_reused_id(rt: HostRuntime) -> Result<(), Fail> {
     let alloc = rt.alloc();
     let mut copy = StageCopy::new(alloc)?;
     let mut dirty = Dirty::new(alloc)?;
-    let mut cycle = OneCycle { alloc, free: 0 };
     dirty.mark(0);
     dirty.mark(5);
-    let mut first = dirty.cut(&NoNodes, &mut cycle)?;
+    let mut first = cut(alloc, &mut dirty)?;
     put(&mut first, 0, group(alloc, 0, Some(5))?);
     put(&mut first, 1, geode(alloc, 1)?);
     let mut stood = copy.take(first);
@@ -163,17 +167,16 @@ fn cuts_of_a_merge(rt: HostRuntime) -> Result<(), Fail> {
     let alloc = rt.alloc();
     let mut copy = StageCopy::new(alloc)?;
     let mut dirty = Dirty::new(alloc)?;
-    let mut cycle = OneCycle { alloc, free: 0 };
     dirty.mark(0);
     dirty.mark(1);
-    let mut first = dirty.cut(&NoNodes, &mut cycle)?;
+    let mut first = cut(alloc, &mut dirty)?;
     put(&mut first, 0, group(alloc, 0, Some(1))?);
     put(&mut first, 1, group(alloc, 1, None)?);
     copy.take(first);
     assert_eq!(rt; copy.box_of(0), None);
     dirty.mark(1);
     dirty.mark(10);
-    let mut second = dirty.cut(&NoNodes, &mut cycle)?;
+    let mut second = cut(alloc, &mut dirty)?;
     put(&mut second, 0, group(alloc, 1, Some(10))?);
     put(&mut second, 1, geode(alloc, 2)?);
     copy.take(second);
@@ -182,7 +185,7 @@ fn cuts_of_a_merge(rt: HostRuntime) -> Result<(), Fail> {
     assert_eq!(rt; copy.box_of(0), around()?);
     dirty.mark(1);
     dirty.mark(10);
-    let mut third = dirty.cut(&NoNodes, &mut cycle)?;
+    let mut third = cut(alloc, &mut dirty)?;
     put(&mut third, 0, group(alloc, 1, None)?);
     copy.take(third);
     assert_eq!(rt; serial_at(&copy, 10), None);
