@@ -1,3 +1,0 @@
-pub mod Slotted
-pub mod Handing
-pub mod Taking
