@@ -1,0 +1,3 @@
+pub mod Slotted
+pub mod Handing
+pub mod Taking

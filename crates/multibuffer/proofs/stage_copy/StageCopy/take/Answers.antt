@@ -1,0 +1,32 @@
+use Rattle.std.proofs.Common.{ℕ, map, Option, sym, ◌∙◌, ap, subst}
+use Rattle.pf_model.specs.declared.nodes.Node.{Node}
+use Rattle.pf_model.specs.Graphs.{node_at}
+use Rattle.pf_model.specs.Copies.{updated_by, updates_of}
+use Rattle.bound_cache.specs.Caches.{box_at, touched_at}
+use Rattle.multibuffer.specs.StageCopies.{CopyState, boxes_of, HasRightBoxes}
+use Rattle.multibuffer.proofs.Taking.{copy_more, changes_named, boxes_still}
+use Rattle.multibuffer.proofs.stage_copy.StageCopy.take.Goals as goal
+
+pub returns-clause-nodes : goal.returns-clause-nodes
+returns-clause-nodes c = c.take_all.ensures.nodes ∙ ap (λ (s : CopyState). updated_by s.nodes c.args.updates) c.self.view_is
+
+pub returns-clause-copy : goal.returns-clause-copy
+returns-clause-copy c =
+    λ lists before. copy_more lists c.args.updates c.args.self.now.nodes c.take_all.new.nodes (c.take_all.ensures.nodes ∙ ap (λ (s : CopyState). updated_by s.nodes c.args.updates) c.self.view_is) before
+
+pub returns-clause-stood : goal.returns-clause-stood
+returns-clause-stood c =
+    c.take_all.ensures.updates ∙ ap (λ (s : CopyState). updates_of (node_at s.nodes) (map (λ (e : ℕ × Option Node). e.0) c.args.updates)) c.self.view_is
+
+pub returns-clause-right : goal.returns-clause-right
+returns-clause-right c =
+    let was = c.self.inside.nodes in
+    let kept = box_at c.self.inside.cache in
+    λ right limits. c.refresh.ensures.right (node_at was)
+    (boxes_still was kept (box_at c.take_all.new.cache) (subst HasRightBoxes (sym c.self.view_is) right) c.take_all.ensures.boxes)
+    (changes_named c.args.updates was c.take_all.new.nodes (touched_at c.take_all.new.cache) c.take_all.ensures.looks c.take_all.ensures.touched)
+    limits
+
+pub returns-clause-kept : goal.returns-clause-kept
+returns-clause-kept c =
+    λ id geode unnamed. c.refresh.ensures.kept id geode (c.take_all.ensures.touched id ∙ unnamed) ∙ c.take_all.ensures.boxes id ∙ ap (λ (s : CopyState). boxes_of s id) c.self.view_is
