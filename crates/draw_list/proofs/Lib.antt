@@ -1,0 +1,4 @@
+mod StepLaws
+mod StepLists
+mod Marks
+mod Orders

@@ -1,0 +1,7 @@
+pub mod Order
+pub mod Shown
+pub mod Steps
+pub mod Joints
+pub mod Items
+pub mod Kept
+pub mod Lists

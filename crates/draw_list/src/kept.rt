@@ -1,0 +1,179 @@
+//! The triangles that a draw list keeps, each geode's once.
+ghost use Rattle.std.specs.Prelude.{◌≡◌, ℕ, ◌+◌, ◌^◌, ◌<◌, ◌≤◌, [], None, replicate, length, slice_get, slice_index_or, IfOk, OnOk, OnErr};
+ghost use Rattle.std.specs.Vec.{vec_len, vec_capacity};
+ghost use Rattle.draw_list.specs.Items.{tris_at};
+ghost use Rattle.draw_list.specs.Kept.{span_at, kept_span, with_kept};
+
+use crate::items::Span;
+use pf_io::NoMemory;
+use pf_model::{Geom, Tri};
+use std::alloc::Global;
+use std::marker::Model;
+
+/// The number of the ids that there may be.
+const IDS: usize = 65_536;
+
+/// The most triangles that have a number.
+const MOST: usize = 4_294_967_295;
+
+/// Triangles, and where those of each id stand, with room for more triangles.
+#[derive(Debug, Drop)]
+pub(crate) struct Kept {
+    tris: Vec<Tri>,
+    spans: Vec<Option<Span>>,
+    room: usize,
+}
+
+impl Model for Kept {
+    ghost use Rattle.std.specs.Prelude.{◌-◌};
+    ghost use Rattle.std.specs.Vec.{vec_len, vec_capacity};
+    ghost use Rattle.draw_list.specs.Kept.{KeptTris, IsKept};
+
+    ghost Value = { KeptTris };
+
+    ghost view = { λ d. record { tris = d.tris.items; spans = d.spans.items; spare = d.room - vec_len d.tris } };
+
+    ghost invariant = { λ d. IsKept d.tris.items d.spans.items d.room (vec_capacity d.tris) };
+}
+
+impl Kept {
+    /// No triangles and no room.
+    pub(crate) fn new(alloc: Global) -> Kept
+        ensures { result ≡ record { tris = []; spans = []; spare = 0 } }
+    {
+        Kept {
+            tris: Vec::new(alloc),
+            spans: Vec::new(alloc),
+            room: 0,
+        }
+    }
+
+    /// How many more triangles have room.
+    pub(crate) fn spare(&self) -> usize
+        ensures { result ≡ self.now.spare }
+    {
+        self.room - self.tris.len()
+    }
+
+    /// Makes room for this many more triangles.
+    pub(crate) fn reserve(&mut self, n: usize) -> Result<(), NoMemory>
+        ensures tris { self.new.tris ≡ self.old.tris }
+        ensures spans { (id : ℕ) → span_at self.new id ≡ span_at self.old id }
+        ensures more { self.old.spare ≤ self.new.spare }
+        ensures room { OnOk result (n ≤ self.new.spare) }
+    {
+        lengthen(&mut self.spans, IDS)?;
+        self.room = grown(&mut self.tris, self.room, n)?;
+        Ok(())
+    }
+
+    /// Keeps no triangles.
+    pub(crate) fn clear(&mut self)
+        ensures tris { self.new.tris ≡ [] }
+        ensures spans { (id : ℕ) → span_at self.new id ≡ None }
+        ensures spare { self.new.spare ≡ self.old.spare + length self.old.tris }
+    {
+        self.tris.clear();
+        clear(&mut self.spans);
+    }
+
+    /// Where the triangles of an id stand, where they are kept.
+    fn span(&self, id: u16) -> Option<Span>
+        ensures { result ≡ span_at self.now id }
+    {
+        match self.spans.get(id as usize) {
+            Some(span) => *span,
+            None => None,
+        }
+    }
+
+    /// Keeps the triangles of an id, where they are not kept yet, and answers where they stand; none where they have no
+    /// room.
+    pub(crate) fn keep(&mut self, id: u16, geom: &Geom) -> Option<Span>
+        ensures span { result ≡ kept_span id geom.now self.old }
+        ensures list { self.new ≡ with_kept id geom.now self.old }
+    {
+        if let Some(span) = self.span(id) {
+            return Some(span);
+        }
+        let tris = geom.as_slice();
+        if tris.is_empty() {
+            return Some(Span { from: 0, len: 0 });
+        }
+        let len = self.tris.len();
+        if tris.len() > self.room - len {
+            return None;
+        }
+        let span = Span {
+            from: len as u32,
+            len: tris.len() as u32,
+        };
+        match self.tris.extend_from_slice(tris) {
+            Ok(()) => {
+                self.spans[id as usize] = Some(span);
+                Some(span)
+            }
+            Err(_) => unreachable!(),
+        }
+    }
+
+    /// The triangle of a number in a span; none past the span's end, and where the span goes past the triangles kept.
+    pub(crate) fn tri(&self, s: Span, i: u32) -> Option<Tri>
+        ensures { result ≡ slice_get (tris_at self.now.tris s) i }
+    {
+        let (from, len) = (s.from as usize, s.len as usize);
+        if from + len > self.tris.len() {
+            return None;
+        }
+        self.tris.as_slice()[from..from + len]
+            .get(i as usize)
+            .copied()
+    }
+
+    /// The number of triangles kept.
+    pub(crate) fn len(&self) -> usize
+        ensures { result ≡ length self.now.tris }
+    {
+        self.tris.len()
+    }
+}
+
+/// Room for n more triangles.
+fn grown(tris: &mut Vec<Tri>, room: usize, n: usize) -> Result<usize, NoMemory>
+    requires within { vec_len tris.old ≤ room }
+    requires reserved { room ≤ vec_capacity tris.old }
+    requires small { room < 2 ^ 32 }
+    ensures tris { tris.new.items ≡ tris.old.items }
+    ensures len { vec_len tris.new ≡ vec_len tris.old }
+    ensures room { IfOk result (λ r. vec_len tris.old + n ≤ r) }
+    ensures more { IfOk result (λ r. room ≤ r) }
+    ensures reserved { IfOk result (λ r. r ≤ vec_capacity tris.new) }
+    ensures small { IfOk result (λ r. r < 2 ^ 32) }
+    ensures capacity { vec_capacity tris.old ≤ vec_capacity tris.new }
+{
+    let len = tris.len();
+    if n <= room - len {
+        return Ok(room);
+    }
+    if n > MOST - len {
+        return Err(NoMemory);
+    }
+    tris.reserve(n)?;
+    Ok(len + n)
+}
+
+fn lengthen(spans: &mut Vec<Option<Span>>, n: usize) -> Result<(), NoMemory>
+    requires { vec_len spans.old ≤ n }
+    ensures len { OnOk result (vec_len spans.new ≡ n) }
+    ensures same { OnErr result (spans.new.items ≡ spans.old.items) }
+    ensures spans { (id : ℕ) → slice_index_or spans.new.items id None ≡ slice_index_or spans.old.items id None }
+{
+    spans.resize(n, None)?;
+    Ok(())
+}
+
+fn clear(spans: &mut Vec<Option<Span>>)
+    ensures { spans.new.items ≡ replicate (vec_len spans.old) None }
+{
+    spans.fill(None);
+}

@@ -1,0 +1,21 @@
+//! The draw list of a channel: joints, items and kept triangles, and the order in which it is drawn; and what is shown of
+//! a scene, as definitions.
+#![tactic(auto)]
+
+pub(crate) mod euler_steps;
+pub(crate) mod item_list;
+pub(crate) mod items;
+pub(crate) mod joint_steps;
+pub(crate) mod joints;
+pub(crate) mod kept;
+pub(crate) mod lists;
+pub(crate) mod states;
+pub(crate) mod stats;
+pub(crate) mod steps;
+
+pub use items::{Item, Span, Tint};
+pub use lists::DrawList;
+pub use stats::Stats;
+
+#[cfg(test)]
+mod tests;
