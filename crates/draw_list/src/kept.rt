@@ -71,6 +71,7 @@ impl Kept {
     pub(crate) fn clear(&mut self)
         ensures tris { self.new.tris ≡ [] }
         ensures spans { (id : ℕ) → span_at self.new id ≡ None }
+        ensures places { 0 < self.new.spare → length self.new.spans ≡ 65536 }
         ensures spare { self.new.spare ≡ self.old.spare + length self.old.tris }
     {
         self.tris.clear();

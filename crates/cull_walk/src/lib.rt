@@ -1,0 +1,11 @@
+//! The walk that fills a draw list with what is in sight, and the laws by which it keeps the picture.
+#![tactic(auto)]
+
+pub mod laws;
+pub(crate) mod walk;
+
+pub use draw_list::Stats;
+pub use walk::cull;
+
+#[cfg(test)]
+mod tests;
