@@ -1,0 +1,16 @@
+pub mod Slots
+pub mod Marks
+pub mod Ups
+pub mod Greatest
+pub mod Listed
+pub mod Sizes
+pub mod Relinks
+pub mod Rewrites
+pub mod Uses
+pub mod Climbs
+pub mod Sounds
+pub mod Works
+pub mod Ends
+pub mod Fresh
+pub mod Undoes
+pub mod Rollbacks

@@ -1,0 +1,10 @@
+use Rattle.std.proofs.Common.{sym}
+use Rattle.pf_model.specs.Edits.{link_rules, room_rules}
+use Rattle.pf_model.proofs.Rules.{first_stops}
+use Rattle.pf_edits.specs.Listed.{nodes_of}
+use Rattle.pf_edits.proofs.faults.fault_of_add.Goals as goal
+
+pub returns-in-Some-clause-fault : goal.returns-in-Some-clause-fault
+returns-in-Some-clause-fault c =
+    let a = c.args in
+    sym (first_stops (link_rules (nodes_of a.records.now.slots) a.parent a.child) (room_rules (nodes_of a.records.now.slots) a.parent a.child) c.in-Some.fault c.in-Some.ensures)

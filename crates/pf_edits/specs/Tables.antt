@@ -1,0 +1,31 @@
+-- The records of the working graph: what stands under each id.
+use Rattle.std.specs.Prelude.{◌≡◌, ℕ, ◌≤◌, List, map, length, count_by, Option, Some, None, is_some, true, slice_index_or}
+use Rattle.std.specs.Option.{option_and_then}
+use Rattle.slab.specs.Slab.{Slab, get, slab_len}
+use Rattle.pf_edits.specs.declared.records.Record.{Record}
+
+-- What stands under each id from 0 on.
+abbrev pub Slots : Type 0
+Slots = List (Option Record)
+
+-- The records, and how many more find room.
+pub record Table : Type 0 where
+  pub slots : Slots
+  pub spare : ℕ
+
+-- the record of an id
+abbrev pub record_at : Slots → ℕ → Option Record
+record_at slots id = slice_index_or slots id None
+
+-- what a slab holds under each of these keys
+abbrev pub slots_of : Slab Record → List (Option ℕ) → Slots
+slots_of slab keys = map (option_and_then (get slab)) keys
+
+-- Each of the 65,536 ids has no key or that of a record of its own; all records have a key, and there is room for all
+-- nodes of a graph.
+pub record IsIndexed (keys : List (Option ℕ)) (slab : Slab Record) : Type 0 where
+  pub wide : length keys ≡ 65536
+  pub there : (a key : ℕ) → slice_index_or keys a None ≡ Some key → is_some (get slab key) ≡ true
+  pub apart : (a b key : ℕ) → slice_index_or keys a None ≡ Some key → slice_index_or keys b None ≡ Some key → a ≡ b
+  pub counted : count_by is_some (slots_of slab keys) ≡ slab_len slab
+  pub roomy : 4097 ≤ slab.capacity

@@ -1,0 +1,20 @@
+-- Ways up from a node.
+use Rattle.std.specs.Prelude.{◌≡◌, ⊤, ℕ, ◌≤◌, Bool, true, false, ◌==◌, List, [], ◌∷◌, length, reverse, count_by, slice_index_or}
+use Rattle.std.specs.List.{list_any}
+use Rattle.pf_model.specs.Graphs.{Look}
+use Rattle.pf_model.specs.Limits.{has_child}
+
+abbrev pub is_in : ℕ → List ℕ → Bool
+is_in id ids = list_any (λ other. other == id) ids
+
+-- The marks tell which ids are listed, each once, and there is room for all ids.
+pub record IsMarked (marks : List Bool) (ids : List ℕ) (room : ℕ) : Type 0 where
+  pub wide : length marks ≡ 65536
+  pub told : (b : ℕ) → slice_index_or marks b false ≡ is_in b (reverse ids)
+  pub counted : count_by (λ m. m) marks ≡ length ids
+  pub roomy : 65536 ≤ room
+
+-- every node that has one of these as a child stands after it
+abbrev pub LeadUp : Look → List ℕ → Type 0
+LeadUp look [] = ⊤
+LeadUp look (x ∷ xs) = ((y : ℕ) → has_child look y x ≡ true → is_in y xs ≡ true) × LeadUp look xs

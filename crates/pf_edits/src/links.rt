@@ -1,0 +1,161 @@
+//! Other children of a node, with extents reckoned anew along the way up from it.
+ghost use Rattle.std.specs.Prelude.{◌≡◌, ◌≤◌, ◌==◌, ◌||◌, ◌∷◌, ◌++◌, [], ℕ, true, false, if◌then◌else◌, reverse, Some, None, is_some, IfOk, IfErr, OnOk, OnErr};
+ghost use Rattle.std.specs.Option.{option_map};
+ghost use Rattle.pf_model.specs.Graphs.{children_of, change, size_of, is_below};
+ghost use Rattle.pf_model.specs.Limits.{has_child};
+ghost use Rattle.pf_model.specs.Laws.{AreLow};
+ghost use Rattle.pf_model.specs.NodeEdits.{with_children};
+ghost use Rattle.pf_model.specs.Edits.{first, size_rules};
+ghost use Rattle.pf_edits.specs.Ways.{is_in, LeadUp};
+ghost use Rattle.pf_edits.specs.Extents.{look_of, parents_of, extent_at, child_list, Meets, IsSound};
+ghost use Rattle.pf_edits.specs.Listed.{nodes_of};
+
+use crate::climb::{climb, has_child, reckon_all};
+use crate::faults::excess;
+use crate::records::Records;
+use crate::way::Way;
+use pf_io::NoMemory;
+use pf_model::{Fault, Ids};
+use std::mem;
+
+/// Puts other children into a node, and hands back those that stood there.
+fn swap_children(records: &mut Records, id: u16, children: Ids) -> Ids
+    requires { is_some (look_of records.old.slots id) ≡ true }
+    ensures back { option_map child_list (look_of records.old.slots id) ≡ Some result }
+    ensures nodes { (b : ℕ) → look_of records.new.slots b
+        ≡ (if b == id then option_map (with_children children) (look_of records.old.slots b)
+            else look_of records.old.slots b) }
+    ensures parents { (b : ℕ) → parents_of records.new.slots b ≡ parents_of records.old.slots b }
+    ensures extents { (b : ℕ) → extent_at records.new.slots b ≡ extent_at records.old.slots b }
+{
+    match records.take(id) {
+        Some(mut record) => {
+            let older = mem::replace(&mut record.node.children, children);
+            records.put(id, record);
+            older
+        }
+        None => unreachable!(),
+    }
+}
+
+/// Gives a node other children, and reckons extents anew along a way up from it.
+fn relink_along(records: &mut Records, way: &[u16], id: u16, children: Ids) -> Ids
+    requires there { is_some (look_of records.old.slots id) ≡ true }
+    requires meets { Meets (look_of records.old.slots) (extent_at records.old.slots) }
+    requires leads { LeadUp (look_of records.old.slots) (reverse way.now) }
+    requires member { is_in id (reverse way.now) ≡ true }
+    requires apart { (x : ℕ) → is_in x (reverse way.now) ≡ true → is_in x children ≡ false }
+    ensures back { option_map child_list (look_of records.old.slots id) ≡ Some result }
+    ensures nodes { (b : ℕ) → look_of records.new.slots b
+        ≡ (if b == id then option_map (with_children children) (look_of records.old.slots b)
+            else look_of records.old.slots b) }
+    ensures parents { (b : ℕ) → parents_of records.new.slots b ≡ parents_of records.old.slots b }
+    ensures meets { Meets (look_of records.new.slots) (extent_at records.new.slots) }
+    ensures others { (b : ℕ) → is_in b (reverse way.now) ≡ false
+        → extent_at records.new.slots b ≡ extent_at records.old.slots b }
+{
+    let older = swap_children(records, id, children);
+    reckon_all(records, way);
+    older
+}
+
+/// Gives a node other children, all of which have it noted as a parent.
+pub(crate) fn relink_freely(records: &mut Records, way: &mut Way, id: u16, children: Ids) -> Ids
+    requires way { way.old ≡ [] }
+    requires sound { IsSound records.old.slots }
+    requires low { AreLow (look_of records.old.slots) }
+    requires there { is_some (look_of records.old.slots id) ≡ true }
+    requires noted { (x : ℕ) → is_in x children ≡ true → is_in id (parents_of records.old.slots x) ≡ true }
+    requires apart { (x : ℕ) → is_in x children ≡ true
+        → (x == id || is_below (look_of records.old.slots) x id) ≡ false }
+    ensures way { way.new ≡ [] }
+    ensures back { option_map child_list (look_of records.old.slots id) ≡ Some result }
+    ensures nodes { (b : ℕ) → look_of records.new.slots b
+        ≡ (if b == id then option_map (with_children children) (look_of records.old.slots b)
+            else look_of records.old.slots b) }
+    ensures parents { (b : ℕ) → parents_of records.new.slots b ≡ parents_of records.old.slots b }
+    ensures sound { IsSound records.new.slots }
+{
+    climb(records, way, id);
+    let older = relink_along(records, way.as_slice(), id, children);
+    way.clear();
+    older
+}
+
+/// Gives a node other children, all of which have it noted as a parent, unless the graph would grow too deep or too
+/// large.
+pub(crate) fn relink(
+    records: &mut Records,
+    way: &mut Way,
+    id: u16,
+    children: Ids,
+) -> Result<Ids, Fault>
+    requires way { way.old ≡ [] }
+    requires sound { IsSound records.old.slots }
+    requires low { AreLow (look_of records.old.slots) }
+    requires small { (b : ℕ) → size_of (look_of records.old.slots) b ≤ 131072 }
+    requires there { is_some (look_of records.old.slots id) ≡ true }
+    requires noted { (x : ℕ) → is_in x children ≡ true → is_in id (parents_of records.old.slots x) ≡ true }
+    requires apart { (x : ℕ) → is_in x children ≡ true
+        → (x == id || is_below (look_of records.old.slots) x id) ≡ false }
+    ensures way { way.new ≡ [] }
+    ensures back { IfOk result (λ cs. option_map child_list (look_of records.old.slots id) ≡ Some cs) }
+    ensures nodes { OnOk result ((b : ℕ) → look_of records.new.slots b
+        ≡ (if b == id then option_map (with_children children) (look_of records.old.slots b)
+            else look_of records.old.slots b)) }
+    ensures same { OnErr result ((b : ℕ) → look_of records.new.slots b ≡ look_of records.old.slots b) }
+    ensures none { OnOk result (first (size_rules (change id (with_children children) (nodes_of records.old.slots))) ≡ None) }
+    ensures fault { IfErr result (λ f.
+        first (size_rules (change id (with_children children) (nodes_of records.old.slots))) ≡ Some f) }
+    ensures parents { (b : ℕ) → parents_of records.new.slots b ≡ parents_of records.old.slots b }
+    ensures sound { IsSound records.new.slots }
+{
+    climb(records, way, id);
+    let older = relink_along(records, way.as_slice(), id, children);
+    match excess(records, way.as_slice()) {
+        None => {
+            way.clear();
+            Ok(older)
+        }
+        Some(fault) => {
+            relink_along(records, way.as_slice(), id, older);
+            way.clear();
+            Err(fault)
+        }
+    }
+}
+
+/// Notes a parent of a node.
+fn note_parent(records: &mut Records, id: u16, parent: u16) -> Result<(), NoMemory>
+    ensures nodes { (b : ℕ) → look_of records.new.slots b ≡ look_of records.old.slots b }
+    ensures extents { (b : ℕ) → extent_at records.new.slots b ≡ extent_at records.old.slots b }
+    ensures noted { OnOk result (is_some (look_of records.old.slots id) ≡ true
+        → is_in parent (parents_of records.new.slots id) ≡ true) }
+    ensures kept { (b : ℕ) → (p : ℕ) → is_in p (parents_of records.old.slots b) ≡ true
+        → is_in p (parents_of records.new.slots b) ≡ true }
+{
+    match records.take(id) {
+        Some(mut record) => {
+            let noted = record.parents.push(parent);
+            records.put(id, record);
+            noted
+        }
+        None => Ok(()),
+    }
+}
+
+/// Makes sure that a parent of a node is noted, before the node is its child.
+pub(crate) fn note_link(records: &mut Records, id: u16, parent: u16) -> Result<(), NoMemory>
+    requires sound { IsSound records.old.slots }
+    requires there { is_some (look_of records.old.slots id) ≡ true }
+    ensures nodes { (b : ℕ) → look_of records.new.slots b ≡ look_of records.old.slots b }
+    ensures sound { IsSound records.new.slots }
+    ensures noted { OnOk result (is_in parent (parents_of records.new.slots id) ≡ true) }
+    ensures kept { (b : ℕ) → (p : ℕ) → is_in p (parents_of records.old.slots b) ≡ true
+        → is_in p (parents_of records.new.slots b) ≡ true }
+{
+    if has_child(records, parent, id) {
+        return Ok(());
+    }
+    note_parent(records, id, parent)
+}

@@ -1,0 +1,47 @@
+//! The nodes that have a node as a child.
+ghost use Rattle.std.specs.Prelude.{◌≡◌, [], ◌∷◌, ◌++◌, OnOk, OnErr};
+
+use pf_io::NoMemory;
+use std::alloc::Global;
+use std::marker::Model;
+
+/// The ids of the nodes that have a node as a child.
+#[derive(Debug, Drop)]
+pub(crate) struct Parents {
+    ids: Vec<u16>,
+}
+
+impl Model for Parents {
+    ghost use Rattle.std.specs.Prelude.{ℕ, List};
+
+    ghost Value = { List ℕ };
+
+    ghost view = { λ p. p.ids.items };
+}
+
+impl Parents {
+    /// No parents.
+    pub(crate) fn new(alloc: Global) -> Parents
+        ensures { result ≡ [] }
+    {
+        Parents {
+            ids: Vec::new(alloc),
+        }
+    }
+
+    /// The parents.
+    pub(crate) fn as_slice(&self) -> &[u16]
+        ensures { result.now ≡ self.now }
+    {
+        self.ids.as_slice()
+    }
+
+    /// Notes a parent.
+    pub(crate) fn push(&mut self, id: u16) -> Result<(), NoMemory>
+        ensures ok { OnOk result (self.new ≡ self.old ++ id ∷ []) }
+        ensures err { OnErr result (self.new ≡ self.old) }
+    {
+        self.ids.push(id)?;
+        Ok(())
+    }
+}

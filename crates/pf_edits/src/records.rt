@@ -1,0 +1,106 @@
+//! The records of the working graph: a node a record, found by its id in one step.
+ghost use Rattle.std.specs.Prelude.{◌≡◌, ◌<◌, ◌==◌, if◌then◌else◌, Some, None, is_some, IsSome, OnSome, IfOk, slice_index_or, length, count_by, ℕ};
+ghost use Rattle.std.specs.Option.{option_copied};
+ghost use Rattle.pf_edits.specs.Tables.{record_at};
+
+use crate::extents::Extent;
+use crate::parents::Parents;
+use pf_io::NoMemory;
+use pf_model::Node;
+use slab::Slab;
+use std::alloc::Global;
+use std::marker::Model;
+
+/// A node with the nodes that have it as a child, and its extent.
+#[derive(Debug, Drop)]
+pub(crate) struct Record {
+    pub(crate) node: Node,
+    pub(crate) parents: Parents,
+    pub(crate) extent: Extent,
+}
+
+/// Records by their ids, with room for as many as a graph has nodes.
+#[derive(Debug, Drop)]
+pub(crate) struct Records {
+    keys: Vec<Option<usize>>,
+    slab: Slab<Record>,
+}
+
+impl Model for Records {
+    ghost use Rattle.std.specs.Prelude.{◌-◌};
+    ghost use Rattle.slab.specs.Slab.{slab_len};
+    ghost use Rattle.pf_edits.specs.Tables.{Table, slots_of, IsIndexed};
+
+    ghost Value = { Table };
+
+    ghost view = { λ r. record { slots = slots_of r.slab r.keys.items; spare = r.slab.capacity - slab_len r.slab } };
+
+    ghost invariant = { λ r. IsIndexed r.keys.items r.slab };
+}
+
+impl Records {
+    /// No records.
+    pub(crate) fn new(alloc: Global) -> Result<Records, NoMemory>
+        ensures none { IfOk result (λ r. (b : ℕ) → record_at r.slots b ≡ None) }
+        ensures empty { IfOk result (λ r. count_by is_some r.slots ≡ 0) }
+        ensures room { IfOk result (λ r. 0 < r.spare) }
+    {
+        Ok(Records {
+            keys: no_keys(alloc)?,
+            slab: Slab::with_capacity(alloc, 4_097)?,
+        })
+    }
+
+    /// The number of records.
+    pub(crate) fn len(&self) -> usize
+        ensures value { result ≡ count_by is_some self.now.slots }
+        ensures room { result < 4097 → 0 < self.now.spare }
+    {
+        self.slab.len()
+    }
+
+    /// The record of an id.
+    pub(crate) fn find(&self, id: u16) -> Option<&Record>
+        ensures { option_copied result ≡ record_at self.now.slots id }
+    {
+        let key = self.keys[usize::from(id)]?;
+        self.slab.get(key)
+    }
+
+    /// Puts a record under an id that has none.
+    pub(crate) fn put(&mut self, id: u16, entry: Record)
+        requires room { 0 < self.old.spare }
+        requires absent { record_at self.old.slots id ≡ None }
+        ensures { (b : ℕ) → record_at self.new.slots b ≡ (if b == id then Some entry else record_at self.old.slots b) }
+    {
+        let key = self.slab.insert_reserved(entry);
+        self.keys[usize::from(id)] = Some(key);
+    }
+
+    /// Takes out the record of an id.
+    pub(crate) fn take(&mut self, id: u16) -> Option<Record>
+        ensures record { result ≡ record_at self.old.slots id }
+        ensures after { (b : ℕ) → record_at self.new.slots b ≡ (if b == id then None else record_at self.old.slots b) }
+        ensures room { OnSome result (0 < self.new.spare) }
+    {
+        match self.keys[usize::from(id)] {
+            Some(key) => {
+                self.keys[usize::from(id)] = None;
+                self.slab.try_remove(key)
+            }
+            None => None,
+        }
+    }
+}
+
+/// A table of ids without keys.
+fn no_keys(alloc: Global) -> Result<Vec<Option<usize>>, NoMemory>
+    ensures length { IfOk result (λ v. length v.items ≡ 65536) }
+    ensures none { IfOk result (λ v. (id : ℕ) → slice_index_or v.items id None ≡ None) }
+{
+    let mut keys = Vec::with_capacity(alloc, 65_536)?;
+    for count in 0..65_536usize {
+        keys.push(None)?;
+    }
+    Ok(keys)
+}

@@ -1,0 +1,163 @@
+//! Edits undone, one by one and all of a merge.
+ghost use Rattle.std.specs.Prelude.{◌≡◌, ◌+◌, ◌-◌, ◌^◌, ◌<◌, ◌≤◌, ◌∷◌, ◌++◌, [], ℕ, true, None, Some, IfOk, IfErr, OnOk, OnErr, length, reverse};
+ghost use Rattle.std.specs.List.{fold, list_all};
+ghost use Rattle.std.specs.Vec.{vec_len, vec_capacity};
+ghost use Rattle.pf_model.specs.Limits.{IsGraphWithinLimits};
+ghost use Rattle.pf_model.specs.Edits.{fault_of, effect, Refuses};
+ghost use Rattle.pf_model.specs.Merges.{merge_fault};
+ghost use Rattle.pf_model.specs.Fits.{fits};
+ghost use Rattle.pf_edits.specs.Ways.{is_in};
+ghost use Rattle.pf_edits.specs.Extents.{parents_of};
+ghost use Rattle.pf_edits.specs.Working.{told, IsWorking};
+ghost use Rattle.pf_edits.specs.Undoing.{graph_before, parents_before, CanUndo, AllUndoable, before_all};
+ghost use Rattle.pf_edits.specs.Refusals.{RefusesAll};
+
+use crate::errors::EditsError;
+use crate::links::relink_freely;
+use crate::nodes::{insert, remove, swap_kind};
+use crate::records::Record;
+use crate::undo::{Older, Undo};
+use crate::work::Work;
+use pf_model::{Edit, EditError, Ids, Kind};
+
+impl Work {
+    /// Takes out a node that was made.
+    fn undo_make(&mut self, id: u16)
+        requires working { IsWorking self.old }
+        requires within { IsGraphWithinLimits (graph_before id Older.Made (told self.old)) }
+        requires can { CanUndo id Older.Made (told self.old) (parents_of self.old.records.slots) }
+        ensures working { IsWorking self.new }
+        ensures told { told self.new ≡ graph_before id Older.Made (told self.old) }
+        ensures parents { (b : ℕ) → (p : ℕ) → is_in p (parents_before id Older.Made (parents_of self.old.records.slots) b) ≡ true
+            → is_in p (parents_of self.new.records.slots b) ≡ true }
+    {
+        remove(&mut self.records, id);
+        let serial = self.next_serial - 1;
+        self.next_serial = serial;
+    }
+
+    /// Puts a deleted node back.
+    fn undo_delete(&mut self, id: u16, older: Record)
+        requires working { IsWorking self.old }
+        requires within { IsGraphWithinLimits (graph_before id (Older.Deleted older) (told self.old)) }
+        requires can { CanUndo id (Older.Deleted older) (told self.old) (parents_of self.old.records.slots) }
+        ensures working { IsWorking self.new }
+        ensures told { told self.new ≡ graph_before id (Older.Deleted older) (told self.old) }
+        ensures parents { (b : ℕ) → (p : ℕ) → is_in p (parents_before id (Older.Deleted older) (parents_of self.old.records.slots) b) ≡ true
+            → is_in p (parents_of self.new.records.slots b) ≡ true }
+    {
+        let Record {
+            node,
+            parents,
+            extent: _,
+        } = older;
+        let count = self.records.len();
+        prove!(count < 4_097);
+        insert(&mut self.records, id, node, parents);
+        self.gone.pop();
+    }
+
+    /// Gives a node its older children.
+    fn undo_link(&mut self, id: u16, children: Ids)
+        requires working { IsWorking self.old }
+        requires within { IsGraphWithinLimits (graph_before id (Older.Children children) (told self.old)) }
+        requires can { CanUndo id (Older.Children children) (told self.old) (parents_of self.old.records.slots) }
+        ensures working { IsWorking self.new }
+        ensures told { told self.new ≡ graph_before id (Older.Children children) (told self.old) }
+        ensures parents { (b : ℕ) → (p : ℕ) → is_in p (parents_of self.old.records.slots b) ≡ true
+            → is_in p (parents_of self.new.records.slots b) ≡ true }
+    {
+        relink_freely(&mut self.records, &mut self.way, id, children);
+    }
+
+    /// Gives a node its older kind.
+    fn undo_kind(&mut self, id: u16, kind: Kind)
+        requires working { IsWorking self.old }
+        requires within { IsGraphWithinLimits (graph_before id (Older.Kind kind) (told self.old)) }
+        requires can { CanUndo id (Older.Kind kind) (told self.old) (parents_of self.old.records.slots) }
+        ensures working { IsWorking self.new }
+        ensures told { told self.new ≡ graph_before id (Older.Kind kind) (told self.old) }
+        ensures parents { (b : ℕ) → (p : ℕ) → is_in p (parents_of self.old.records.slots b) ≡ true
+            → is_in p (parents_of self.new.records.slots b) ≡ true }
+    {
+        swap_kind(&mut self.records, id, kind);
+    }
+
+    /// Undoes the last edit.
+    fn undo(&mut self, u: Undo)
+        requires working { IsWorking self.old }
+        requires within { IsGraphWithinLimits (graph_before u.id u.older (told self.old)) }
+        requires can { CanUndo u.id u.older (told self.old) (parents_of self.old.records.slots) }
+        ensures working { IsWorking self.new }
+        ensures told { told self.new ≡ graph_before u.id u.older (told self.old) }
+        ensures parents { (b : ℕ) → (p : ℕ) → is_in p (parents_before u.id u.older (parents_of self.old.records.slots) b) ≡ true
+            → is_in p (parents_of self.new.records.slots b) ≡ true }
+    {
+        let Undo { id, older } = u;
+        match older {
+            Older::Made => self.undo_make(id),
+            Older::Deleted(record) => self.undo_delete(id, record),
+            Older::Children(children) => self.undo_link(id, children),
+            Older::Kind(kind) => self.undo_kind(id, kind),
+        }
+    }
+
+    /// Undoes edits, the last first.
+    fn roll_back(&mut self, done: &mut Vec<Undo>)
+        requires working { IsWorking self.old }
+        requires undoable { AllUndoable (told self.old) (parents_of self.old.records.slots) (reverse done.old.items) }
+        ensures working { IsWorking self.new }
+        ensures told { told self.new ≡ before_all (told self.old) (reverse done.old.items) }
+    {
+        while let Some(undo) = done.pop() {
+            self.undo(undo);
+        }
+    }
+
+    /// Makes an edit and notes what undoes it.
+    fn step(&mut self, e: &Edit, done: &mut Vec<Undo>) -> Result<(), EditError>
+        requires working { IsWorking self.old }
+        requires serials { self.old.next_serial < 2 ^ 32 - 1 }
+        requires fits { fits e.now ≡ true }
+        requires room { vec_len done.old < vec_capacity done.old }
+        requires undoable { AllUndoable (told self.old) (parents_of self.old.records.slots) (reverse done.old.items) }
+        ensures working { IsWorking self.new }
+        ensures undoable { AllUndoable (told self.new) (parents_of self.new.records.slots) (reverse done.new.items) }
+        ensures before { before_all (told self.new) (reverse done.new.items)
+            ≡ before_all (told self.old) (reverse done.old.items) }
+        ensures done { OnOk result (fault_of (told self.old) e.now ≡ None) }
+        ensures after { OnOk result (told self.new ≡ effect (told self.old) e.now) }
+        ensures fault { IfErr result (λ r. Refuses r (fault_of (told self.old) e.now)) }
+        ensures len { OnOk result (vec_len done.new ≡ vec_len done.old + 1) }
+        ensures capacity { vec_capacity done.old ≤ vec_capacity done.new }
+    {
+        let undo = self.edit(e)?;
+        match done.push(undo) {
+            Ok(()) => Ok(()),
+            Err(_) => unreachable!(),
+        }
+    }
+
+    /// Makes all edits of a list in order, or none of them.
+    pub(crate) fn edits(&mut self, es: &[Edit]) -> Result<(), EditsError>
+        requires working { IsWorking self.old }
+        requires serials { self.old.next_serial + length es.now < 2 ^ 32 }
+        requires fits { list_all fits es.now ≡ true }
+        ensures working { IsWorking self.new }
+        ensures done { OnOk result (merge_fault (told self.old) es.now ≡ None) }
+        ensures after { OnOk result (told self.new ≡ fold effect (told self.old) es.now) }
+        ensures fault { IfErr result (λ r. RefusesAll r (merge_fault (told self.old) es.now)) }
+        ensures unchanged { OnErr result (told self.new ≡ told self.old) }
+    {
+        let mut done = Vec::with_capacity(*self.gone.allocator(), es.len())?;
+        let mut place: u32 = 0;
+        for e in es {
+            place += 1;
+            if let Err(error) = self.step(e, &mut done) {
+                self.roll_back(&mut done);
+                return Err(EditsError::at(place, error));
+            }
+        }
+        Ok(())
+    }
+}
