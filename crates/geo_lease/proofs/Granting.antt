@@ -1,18 +1,16 @@
 -- What a keeper chooses and what a grant records, from what it keeps track of.
-use Rattle.std.proofs.Common.{◌≡◌, ◌≢◌, ℕ, zero, suc, ◌+◌, ◌*◌, ◌/◌, ◌<◌, ◌≤◌, ◌⊎◌, inl, inr, ⊎_elim, Bool, true, false, eqb, cond, List, [], ◌∷◌, ◌++◌, map, length, get_or, set, replicate, refl, sym, ap, ◌∙◌, subst, arith, Option, Some, None, eq-eqb, ne_eqb}
+use Rattle.std.proofs.Common.{◌≡◌, ◌≢◌, ℕ, zero, suc, ◌+◌, ◌*◌, ◌/◌, ◌<◌, ◌≤◌, ◌⊎◌, inl, inr, Bool, true, cond, List, [], ◌∷◌, ◌++◌, length, get_or, set, replicate, refl, sym, ap, ◌∙◌, subst, arith, Option, Some, None, eq-eqb, ne_eqb}
 use Rattle.std.specs.Prelude.{slice_get, is_some, Contains, All}
-use Rattle.std.proofs.lemmas.List.{length-replicate, get_or-replicate}
-use Rattle.std.proofs.lemmas.Option.{none-some, same_Some, slice_get_within, slice_get-get_or}
+use Rattle.std.proofs.lemmas.List.{length-replicate}
+use Rattle.std.proofs.lemmas.Option.{none-some, same_Some, slice_get-get_or}
 use mathlib.Core.Logic.{dite}
-use native.Mathlib.Decide.{ℕ_discrete, dec_le}
-use Rattle.geo_lease.specs.declared.view.Place.{Place}
-use Rattle.geo_lease.specs.declared.view.Plan.{Plan}
+use native.Mathlib.Decide.{ℕ_discrete}
 use Rattle.geo_lease.specs.declared.view.View.{View}
 use Rattle.geo_lease.specs.Plans.{Names, IsFree, lies_in, lies_at, current_content, content_at, named, place_of, places_of, plan_of, recorded, pair_of, with_slots, slot_at}
 use Rattle.geo_lease.specs.Views.{keeping, opener, looking, laying}
 use Rattle.geo_lease.specs.Calls.{IsIdle, AreCurrent, Chosen, Tracks, Reclaimed}
 use Rattle.geo_lease.proofs.Lists.{get_here, get_else, get_again, get_replicate}
-use Rattle.geo_lease.proofs.Tracking.{AreFilled, lies_else, lies_here, lies_some, outlined, placed}
+use Rattle.geo_lease.proofs.Tracking.{AreFilled, lies_else, lies_here}
 
 module _ {T : Type 0} (v : View T) (ahead seen granted : ℕ) (current : List (Option ℕ)) (last : List ℕ) (t : Tracks v ahead seen granted current last) where
   its_free : (k : ℕ) → get_or last k 0 ≤ seen → IsFree v.leases v.seen k

@@ -1,5 +1,5 @@
 -- Each kind of step keeps the rule.
-use Rattle.std.proofs.Common.{◌≡◌, ◌≢◌, ℕ, zero, suc, ◌+◌, ◌*◌, ◌%◌, ◌^◌, ◌<◌, ◌≤◌, ◌⊎◌, inl, inr, ⊎_elim, Bool, true, false, cond, List, [], ◌∷◌, ◌++◌, map, length, get_or, set, replicate, refl, sym, ap, ◌∙◌, subst, arith, Option, Some, None, length-append}
+use Rattle.std.proofs.Common.{◌≡◌, ◌≢◌, ℕ, zero, suc, ◌+◌, ◌%◌, ◌^◌, ◌<◌, ◌≤◌, inl, inr, ⊎_elim, Bool, true, false, cond, List, [], ◌∷◌, ◌++◌, map, length, get_or, set, replicate, refl, sym, ap, ◌∙◌, subst, arith, Option, Some, None, length-append}
 use Rattle.std.specs.Prelude.{slice_get}
 use Rattle.std.proofs.Math.Nat.{mod-eq_of_lt}
 use Rattle.std.proofs.lemmas.List.{length-set, length-map}
@@ -10,16 +10,16 @@ use mathlib.Core.Logic.{dite}
 use native.Mathlib.Decide.{ℕ_discrete}
 use lib.ListN.{get_elem?}
 use lib.Seq.{set-get_or}
-use Rattle.atomic_table.specs.Table.{State, Me, Step, step, Act, keeps, takes, gives, stepped, put_back, carried_after, Valid, Allows, Splits, Joins, opening}
+use Rattle.atomic_table.specs.Table.{State, step, Act, keeps, takes, gives, stepped, carried_after, Valid, Allows, Splits, Joins, opening}
 use Rattle.atomic_table.proofs.Lists.{at_set, at_snoc, set_here, set_else, set_again}
-use Rattle.geo_lease.specs.declared.view.Role.TheVariants.{Opens, Keeps, Turns, Lends, Gone}
+use Rattle.geo_lease.specs.declared.view.Role.TheVariants.{Opens, Keeps, Turns}
 use Rattle.geo_lease.specs.declared.view.Plan.{Plan}
 use Rattle.geo_lease.specs.declared.view.View.{View}
 use Rattle.geo_lease.specs.Plans.{HasPlace, Names, IsFree}
 use Rattle.geo_lease.specs.Views.{has, without, left_at, lend, gone, opener, keeping, first_turn, looking, holding, laying, granting, learning, fetching, returning, ending}
 use Rattle.geo_lease.specs.LeaseRule.{Fits, Kept, Stands, Runs, Opened, LeaseRule}
 use Rattle.geo_lease.specs.Steps.{Sat, Sees, Takes, Lays, Grants, TakesLeased, LaysOut, LaysBack, Ends}
-use Rattle.geo_lease.proofs.Lists.{get_set, get_here, get_else, get_longer, get_last, get_snoc, get_found, get_replicate, home_map, only_one, at_first, not_true, has_here, has_else, without_here, without_else}
+use Rattle.geo_lease.proofs.Lists.{get_set, get_else, get_longer, get_last, get_snoc, get_found, home_map, only_one, at_first, not_true, has_here, has_else, without_here, without_else}
 
 small_step : (n : ℕ) → n ≤ 2 ^ 32 → (n + 1) % 2 ^ 64 ≡ n + 1
 small_step n le = mod-eq_of_lt (omega arith)

@@ -1,11 +1,10 @@
 -- A slot is taken, its content swapped, and laid back: what the seat holds in between. And the place of a lease that a slot is of.
-use Rattle.std.proofs.Common.{◌≡◌, ◌≢◌, ℕ, zero, suc, ◌≤◌, Bool, true, false, eqb, cond, List, [], ◌∷◌, map, length, refl, sym, ap, ◌∙◌, subst, arith, Option, Some, None, eq-eqb, ne_eqb}
-use Rattle.std.specs.Prelude.{slice_get, is_some}
+use Rattle.std.proofs.Common.{◌≡◌, ◌≢◌, ℕ, zero, suc, ◌≤◌, Bool, true, false, eqb, cond, List, [], ◌∷◌, map, length, refl, sym, ap, ◌∙◌, arith, Option, Some, None, eq-eqb, ne_eqb}
+use Rattle.std.specs.Prelude.{slice_get}
 use Rattle.std.proofs.lemmas.Option.{none-some, same_Some}
-use Rattle.atomic_table.specs.Table.{Me, rest}
+use Rattle.atomic_table.specs.Table.{rest}
 use Rattle.geo_lease.specs.declared.view.Place.{Place}
 use Rattle.geo_lease.specs.declared.view.Plan.{Plan}
-use Rattle.geo_lease.specs.declared.view.View.{View}
 use Rattle.geo_lease.specs.Plans.{HasPlace, content_at, recorded, named, outline, slot_at, name_at}
 use Rattle.geo_lease.specs.Views.{has, left_at, holding}
 use Rattle.geo_lease.specs.Steps.{Sat}

@@ -1,18 +1,18 @@
 -- What a keeper keeps track of stays true over its calls, and a free slot is there.
-use Rattle.std.proofs.Common.{◌≡◌, ◌≢◌, ℕ, zero, suc, ◌+◌, ◌*◌, ◌/◌, ◌<◌, ◌≤◌, ◌⊎◌, inl, inr, ⊎_elim, Bool, true, false, eqb, cond, List, [], ◌∷◌, ◌++◌, map, length, get_or, set, take, drop, replicate, refl, sym, ap, ◌∙◌, subst, arith, Option, Some, None, length-append, eq-eqb, ne_eqb, get_or-set_other, get_or-set_same, mul-le-mul_right, suc-mul}
-use Rattle.std.specs.Prelude.{slice_get, is_some, Contains}
-use Rattle.std.proofs.lemmas.List.{length-set, length-map}
+use Rattle.std.proofs.Common.{◌≡◌, ◌≢◌, ℕ, zero, suc, ◌+◌, ◌*◌, ◌/◌, ◌<◌, ◌≤◌, ◌⊎◌, inl, inr, ⊎_elim, true, eqb, cond, List, [], ◌∷◌, ◌++◌, map, length, get_or, set, take, drop, refl, sym, ap, ◌∙◌, subst, arith, Option, Some, None, length-append, eq-eqb, ne_eqb, get_or-set_other, get_or-set_same, mul-le-mul_right, suc-mul}
+use Rattle.std.specs.Prelude.{slice_get, is_some}
+use Rattle.std.proofs.lemmas.List.{length-set}
 use Rattle.std.proofs.lemmas.Nat.{div-mul-add}
-use Rattle.std.proofs.lemmas.Option.{none-some, same_Some, slice_get_within, slice_get-get_or}
+use Rattle.std.proofs.lemmas.Option.{none-some, same_Some, slice_get_within}
 use mathlib.Core.Logic.{dite}
 use native.Mathlib.Decide.{ℕ_discrete, dec_le}
 use Rattle.geo_lease.specs.declared.view.Place.{Place}
 use Rattle.geo_lease.specs.declared.view.Plan.{Plan}
 use Rattle.geo_lease.specs.declared.view.View.{View}
-use Rattle.geo_lease.specs.Plans.{HasPlace, Names, IsFree, lies_in, lies_at, current_content, content_at, named, place_of, places_of, plan_of, pair_of, with_slots, slot_at}
-use Rattle.geo_lease.specs.Views.{keeping, opener, looking, laying, granting}
-use Rattle.geo_lease.specs.Calls.{IsIdle, AreCurrent, marked, Chosen, Tracks}
-use Rattle.geo_lease.proofs.Lists.{get_set, get_here, get_else, get_longer, get_last, get_snoc, get_replicate}
+use Rattle.geo_lease.specs.Plans.{HasPlace, IsFree, lies_in, named, place_of, places_of, plan_of}
+use Rattle.geo_lease.specs.Views.{looking, laying, granting}
+use Rattle.geo_lease.specs.Calls.{IsIdle, AreCurrent, marked, Tracks}
+use Rattle.geo_lease.proofs.Lists.{get_set, get_here, get_longer, get_last, get_snoc}
 
 -- f of i, but where that is the highest place, f of the last number
 lowered : (ℕ → ℕ) → ℕ → ℕ → ℕ → ℕ

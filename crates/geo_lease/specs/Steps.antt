@@ -9,7 +9,7 @@
 --   7 take a slot   ended,   load       holds a slot of the lease, to fetch or put back
 --   8 lay it back   ended,   load       holds none, and the slot is fetched, or is not
 --   9 end           ended,   fetch_add  the next lease ends next
-use Rattle.std.specs.Prelude.{◌≡◌, ℕ, ◌^◌, ◌<◌, ◌≤◌, List, [], ◌∷◌, length, slice_get, Option, Some, None}
+use Rattle.std.specs.Prelude.{◌≡◌, ℕ, ◌^◌, ◌<◌, ◌≤◌, [], ◌∷◌, length, slice_get, Option, Some, None}
 use Rattle.atomic_table.specs.Table.{Me, Step}
 use Rattle.geo_lease.specs.declared.view.Plan.{Plan}
 use Rattle.geo_lease.specs.declared.view.View.{View}

@@ -1,5 +1,5 @@
 -- What contracts see of the leases, the keeper, the turn and a lease.
-use Rattle.std.specs.Prelude.{◌≡◌, ℕ, List, length, map, Option}
+use Rattle.std.specs.Prelude.{◌≡◌, ℕ, List, length, Option}
 use Rattle.atomic_table.specs.Seated.{TableId}
 use Rattle.geo_lease.specs.declared.view.Plan.{Plan}
 use Rattle.geo_lease.specs.declared.view.View.{View}

@@ -1,5 +1,5 @@
 -- How the steps change what a seat knows.
-use Rattle.std.specs.Prelude.{ℕ, ◌+◌, ◌==◌, ◌||◌, Bool, true, false, if◌then◌else◌, List, [], ◌∷◌, ◌++◌, length, replicate, slice_set, Option, Some, None}
+use Rattle.std.specs.Prelude.{ℕ, ◌+◌, ◌==◌, ◌||◌, Bool, false, if◌then◌else◌, List, [], ◌∷◌, ◌++◌, length, replicate, slice_set, Option, Some, None}
 use Rattle.geo_lease.specs.declared.view.Role.{Role}
 use Rattle.geo_lease.specs.declared.view.Role.TheVariants.{Opens, Keeps, Turns, Lends, Gone}
 use Rattle.geo_lease.specs.declared.view.Plan.{Plan}

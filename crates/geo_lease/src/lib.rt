@@ -19,3 +19,5 @@ pub use view::{Place, Plan, Role, View};
 
 #[cfg(test)]
 mod tests;
+#[cfg(test)]
+mod thread_tests;

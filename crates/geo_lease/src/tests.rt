@@ -10,7 +10,12 @@ use std::process::Abort;
 use std::test::Fail;
 
 // Fetches a content and puts it back.
-fn look_at(leases: &Leases<u32>, turn: &mut Turn<u32>, lease: &mut Lease<u32>, geode: u16) -> u32
+pub(crate) fn look_at(
+    leases: &Leases<u32>,
+    turn: &mut Turn<u32>,
+    lease: &mut Lease<u32>,
+    geode: u16,
+) -> u32
     requires same { (turn_of turn.old ≡ leases_id leases.now) × (lease_of lease.old ≡ leases_id leases.now) }
     requires next { number_of lease.old ≡ (turn_view turn.old).next }
     requires named { is_some (slot_at geode (lease_slots lease.old)) ≡ true }
@@ -26,7 +31,7 @@ fn look_at(leases: &Leases<u32>, turn: &mut Turn<u32>, lease: &mut Lease<u32>, g
 }
 
 // The only geode gets a content.
-fn store_one(leases: &Leases<u32>, keeper: &mut Keeper<u32>, content: u32) -> Option<u32>
+pub(crate) fn store_one(leases: &Leases<u32>, keeper: &mut Keeper<u32>, content: u32) -> Option<u32>
     requires same { keeper_of keeper.old ≡ leases_id leases.now }
     requires one { geodes_of keeper.old ≡ 1 }
     ensures same { keeper_of keeper.new ≡ keeper_of keeper.old }
@@ -39,7 +44,7 @@ fn store_one(leases: &Leases<u32>, keeper: &mut Keeper<u32>, content: u32) -> Op
 }
 
 // A lease that names the only geode.
-fn grant_one(
+pub(crate) fn grant_one(
     leases: &Leases<u32>,
     alloc: Global,
     keeper: &mut Keeper<u32>,

@@ -1,4 +1,4 @@
-use Rattle.std.proofs.Common.{◌≡◌, ℕ, List, Some, rules, sym, ap, ◌∙◌}
+use Rattle.std.proofs.Common.{sym, ap, ◌∙◌}
 use Rattle.geo_lease.specs.Plans.{slot_at}
 use Rattle.geo_lease.specs.Views.{has}
 use Rattle.geo_lease.proofs.Lists.{has_here}

@@ -1,6 +1,6 @@
-use Rattle.std.proofs.Common.{◌≡◌, ◌<◌, ℕ, get_or, length, arith, refl, Option, Some, None, sym, ap, ◌∙◌, subst}
+use Rattle.std.proofs.Common.{◌≡◌, ◌<◌, ℕ, get_or, length, refl, Option, Some, sym, ap, ◌∙◌, subst}
 use Rattle.std.specs.Prelude.{slice_get}
-use Rattle.std.proofs.lemmas.Option.{none-some, same_Some, slice_get_read}
+use Rattle.std.proofs.lemmas.Option.{same_Some, slice_get_read}
 use Rattle.geo_lease.proofs.Granting.{chosen_again, chosen_lowest}
 use Rattle.geo_lease.proofs.keeper.Keeper.choose.Goals.{in-Some+else-is_free, in_default}
 use Rattle.geo_lease.proofs.keeper.Keeper.choose.Goals as goal

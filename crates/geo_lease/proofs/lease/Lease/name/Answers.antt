@@ -1,6 +1,5 @@
 use Rattle.std.proofs.lemmas.Option.{slice_get_read}
-use Rattle.std.proofs.Common.{◌≡◌, ◌<◌, ◌≤◌, ℕ, length, get_or, arith, refl, Option, Some, None, sym, ap, ◌∙◌, subst, rules}
-use Rattle.std.specs.Prelude.{slice_get}
+use Rattle.std.proofs.Common.{◌≡◌, ◌<◌, ◌≤◌, length, get_or, refl, sym, ◌∙◌, rules}
 use Rattle.geo_lease.proofs.Swaps.{name_some, name_none}
 use Rattle.geo_lease.proofs.lease.Lease.name.Goals as goal
 

@@ -1,4 +1,4 @@
-use Rattle.std.proofs.Common.{◌≡◌, rules, sym, ap, ◌∙◌}
+use Rattle.std.proofs.Common.{rules, sym, ap, ◌∙◌}
 use Rattle.geo_lease.proofs.Rules.{learns, ends}
 use Rattle.geo_lease.proofs.Swaps.{outline_some}
 use Rattle.geo_lease.proofs.leases.Leases.end.Goals as goal

@@ -1,5 +1,4 @@
-use Rattle.std.proofs.Common.{◌≡◌, ℕ, List, Option, Some, rules, refl, sym, ap, ◌∙◌, subst}
-use Rattle.geo_lease.specs.Plans.{HasPlace}
+use Rattle.std.proofs.Common.{Some, sym, ap, ◌∙◌}
 use Rattle.geo_lease.proofs.Swaps.{place_for}
 use Rattle.geo_lease.proofs.leases.Leases.fetch.Goals as goal
 

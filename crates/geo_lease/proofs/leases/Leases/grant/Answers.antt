@@ -1,4 +1,4 @@
-use Rattle.std.proofs.Common.{◌≡◌, ℕ, List, Option, Some, sym, ap, ◌∙◌}
+use Rattle.std.proofs.Common.{ℕ, List, Option, Some, sym, ap, ◌∙◌}
 use Rattle.std.specs.Prelude.{slice_get, is_some}
 use Rattle.geo_lease.specs.declared.view.Plan.{Plan}
 use Rattle.geo_lease.specs.Plans.{plan_of, recorded, with_slots, slot_at}

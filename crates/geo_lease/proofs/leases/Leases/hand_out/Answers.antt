@@ -1,8 +1,8 @@
-use Rattle.std.proofs.Common.{◌≡◌, ◌≤◌, ◌<◌, ℕ, ◌+◌, ◌^◌, List, length, Option, Some, None, rules, refl, sym, ap, ◌∙◌, subst, arith}
+use Rattle.std.proofs.Common.{◌≡◌, ◌≤◌, ◌<◌, ℕ, ◌+◌, ◌^◌, List, length, Some, rules, sym, ap, ◌∙◌, subst, arith}
 use Rattle.std.specs.Prelude.{slice_get}
 use Rattle.geo_lease.specs.declared.view.Plan.{Plan}
 use Rattle.geo_lease.specs.declared.view.View.{View}
-use Rattle.geo_lease.specs.Plans.{HasPlace, plan_of, outline}
+use Rattle.geo_lease.specs.Plans.{HasPlace, outline}
 use Rattle.geo_lease.specs.Views.{granting}
 use Rattle.geo_lease.specs.Calls.{Tracks, marked}
 use Rattle.geo_lease.proofs.Rules.{grants, lends}

@@ -1,4 +1,4 @@
-use Rattle.std.proofs.Common.{◌≡◌, ℕ, ◌+◌, ◌*◌, List, Option, None, replicate, rules, refl, sym, ap, ◌∙◌, subst}
+use Rattle.std.proofs.Common.{◌≡◌, ℕ, ◌+◌, ◌*◌, List, Option, None, replicate, rules, sym, ap, subst}
 use Rattle.geo_lease.specs.declared.view.View.{View}
 use Rattle.geo_lease.specs.Calls.{Tracks}
 use Rattle.geo_lease.specs.Views.{keeping, opener}

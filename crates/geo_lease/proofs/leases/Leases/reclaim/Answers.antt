@@ -1,8 +1,8 @@
-use Rattle.std.proofs.Common.{◌≡◌, ◌<◌, ◌≤◌, ℕ, get_or, List, Option, Some, None, refl, sym, ap, ◌∙◌, subst, arith}
+use Rattle.std.proofs.Common.{◌≡◌, ◌<◌, ◌≤◌, ℕ, get_or, List, Option, None, refl, sym, ap, ◌∙◌, subst, arith}
 use Rattle.std.specs.Prelude.{slice_get}
 use Rattle.geo_lease.specs.declared.view.View.{View}
 use Rattle.geo_lease.specs.Plans.{IsFree, current_content}
-use Rattle.geo_lease.specs.Views.{looking, laying}
+use Rattle.geo_lease.specs.Views.{laying}
 use Rattle.geo_lease.specs.Calls.{Tracks, IsIdle}
 use Rattle.geo_lease.proofs.Tracking.{emptied_tracks}
 use Rattle.geo_lease.proofs.Granting.{emptied_content, reclaimed}

@@ -1,4 +1,4 @@
-use Rattle.std.proofs.Common.{◌≡◌, ◌<◌, ℕ, ◌+◌, ◌/◌, List, set, length, Option, Some, None, sym, ap, ◌∙◌, subst}
+use Rattle.std.proofs.Common.{set, Some, sym, ap, ◌∙◌, subst}
 use Rattle.geo_lease.specs.declared.view.View.{View}
 use Rattle.geo_lease.specs.Plans.{current_content}
 use Rattle.geo_lease.specs.Calls.{Tracks}

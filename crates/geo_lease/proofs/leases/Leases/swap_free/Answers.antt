@@ -1,4 +1,4 @@
-use Rattle.std.proofs.Common.{◌≡◌, ◌<◌, rules, sym, ap, ◌∙◌, subst, length}
+use Rattle.std.proofs.Common.{◌<◌, rules, sym, ap, ◌∙◌, subst, length}
 use Rattle.geo_lease.specs.Plans.{IsFree}
 use Rattle.geo_lease.proofs.Rules.{takes_slot, lays}
 use Rattle.geo_lease.proofs.Swaps.{after_swap}

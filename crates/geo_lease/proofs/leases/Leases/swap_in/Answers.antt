@@ -1,7 +1,7 @@
-use Rattle.std.proofs.Common.{◌≡◌, ℕ, List, [], ◌∷◌, Option, Some, None, rules, refl, sym, ap, ◌∙◌, subst}
+use Rattle.std.proofs.Common.{ℕ, [], ◌∷◌, Option, Some, rules, sym, ap, ◌∙◌, subst}
 use Rattle.geo_lease.specs.Plans.{HasPlace}
 use Rattle.geo_lease.specs.Steps.{Sat}
-use Rattle.geo_lease.specs.Views.{left_at, holding, returning}
+use Rattle.geo_lease.specs.Views.{left_at, returning}
 use Rattle.geo_lease.proofs.Rules.{takes_leased, lays_back}
 use Rattle.geo_lease.proofs.Swaps.{in_hand, after_swap, gone_if_out}
 use Rattle.atomic_table.specs.Table.{rest}
