@@ -1,13 +1,13 @@
 -- Lists of steps, joint by joint.
 use Rattle.std.proofs.Common.{◌≡◌, ◌∙◌, ℕ, zero, suc, ◌+◌, ◌-◌, ◌<◌, ◌≤◌, List, [], ◌∷◌, ◌++◌, length, ap, sym, refl, subst, arith, get_or, length-append}
-use Rattle.std.specs.Prelude.{fold, Bool, false, cond, ◌==◌, Result, Ok, Err}
+use Rattle.std.specs.Prelude.{fold, Bool, false, cond, ◌==◌, Ok, Err}
 use Rattle.std.proofs.lemmas.Bool.Decides.{nat_tests}
 use Rattle.pf_model.specs.declared.poses.Pose.{Pose}
 use Rattle.fx_math.specs.Plain.{Matrix, Point, Bounds}
 use Rattle.fx_math.specs.Fixed.{carry, carry_box}
 use Rattle.fx_math.proofs.Containment.{carry-append, carry_box-append}
 use Rattle.draw_list.specs.Steps.{joint_matrices}
-use Rattle.draw_list.specs.Joints.{steps_at, joint_above, grown, step_lists, AreBefore}
+use Rattle.draw_list.specs.Joints.{steps_at, grown, step_lists, AreBefore}
 use Rattle.draw_list.specs.declared.joints.Joint.{Joint}
 
 -- ---- a further joint

@@ -1,5 +1,5 @@
 -- Joints: lists of steps to the eye, each above another one.
-use Rattle.std.specs.Prelude.{◌≡◌, ℕ, ◌+◌, ◌-◌, ◌<◌, ◌≤◌, ◌^◌, ⊤, ◌==◌, if◌then◌else◌, List, [], ◌∷◌, ◌++◌, length, fold, slice_index_or}
+use Rattle.std.specs.Prelude.{ℕ, ◌+◌, ◌-◌, ◌<◌, ⊤, ◌==◌, if◌then◌else◌, List, [], ◌∷◌, ◌++◌, fold, slice_index_or}
 use Rattle.fx_math.specs.Plain.{Matrix}
 use Rattle.draw_list.specs.Steps.{joint_matrices}
 use Rattle.draw_list.specs.declared.joints.Joint.{Joint}

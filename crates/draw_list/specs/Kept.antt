@@ -1,5 +1,5 @@
 -- The triangles that a draw list keeps, each geode's once.
-use Rattle.std.specs.Prelude.{◌≡◌, ℕ, ◌+◌, ◌-◌, ◌<◌, ◌≤◌, ◌^◌, ◌||◌, ◌==◌, nat_lt, if◌then◌else◌, List, ◌++◌, length, slice_index_or, slice_set, Option, Some, None, is_some}
+use Rattle.std.specs.Prelude.{◌≡◌, ℕ, ◌-◌, ◌<◌, ◌≤◌, ◌^◌, ◌||◌, ◌==◌, nat_lt, if◌then◌else◌, List, ◌++◌, length, slice_index_or, slice_set, Option, Some, None, is_some}
 use Rattle.pf_model.specs.declared.geometry.Tri.{Tri}
 use Rattle.draw_list.specs.declared.items.Span.{Span}
 

@@ -1,5 +1,5 @@
 -- What clauses see of a draw list.
-use Rattle.std.specs.Prelude.{ℕ, ◌<◌, List, map, length, slice_get}
+use Rattle.std.specs.Prelude.{◌<◌, List, map, length}
 use Rattle.std.specs.List.{All}
 use Rattle.pf_model.specs.Walks.{Instance}
 use Rattle.draw_list.specs.Joints.{JointList}

@@ -1,5 +1,5 @@
 -- The steps of joints, and the matrices that they stand for.
-use Rattle.std.specs.Prelude.{◌≡◌, List, [], ◌∷◌, Option, ℤ, pos, neg_ℤ}
+use Rattle.std.specs.Prelude.{List, [], ◌∷◌, Option, ℤ, pos, neg_ℤ}
 use Rattle.std.specs.Option.{option_map_or}
 use Rattle.fx_math.specs.Plain.{Matrix, point}
 use Rattle.fx_math.specs.Views.{point_of, matrix_of}

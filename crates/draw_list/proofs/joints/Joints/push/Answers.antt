@@ -1,4 +1,4 @@
-use Rattle.std.proofs.Common.{◌≡◌, ℕ, ◌+◌, ◌-◌, ◌<◌, length, ap, sym, subst, arith}
+use Rattle.std.proofs.Common.{◌≡◌, ◌-◌, length, ap, sym, subst, arith}
 use Rattle.std.specs.Prelude.{map}
 use Rattle.draw_list.specs.Steps.{step_matrix}
 use Rattle.draw_list.specs.Joints.{JointList, AreBefore}
