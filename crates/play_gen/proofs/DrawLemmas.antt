@@ -48,4 +48,5 @@ no_buffers s = refl
 
 pub buffers_more : (k s : ℕ) → buffers (k + 1) s ≡ buffers k s ++ buffer (k + 1) (state_after (293 * k) s)
 unfolding buffers
-buffers_more k s = ap (λ (n : ℕ). buffers n s) (next_number k) ∙ ap (λ (n : ℕ). buffers k s ++ buffer n (state_after (293 * k) s)) (sym (next_number k))
+buffers_more k s = ap (λ (n : ℕ). buffers n s) (next_number k)
+    ∙ ap (λ (n : ℕ). buffers k s ++ buffer n (state_after (293 * k) s)) (sym (next_number k))

@@ -4,8 +4,9 @@ ghost use Rattle.play_format.specs.Texts.{numbers_text};
 ghost use Rattle.play_format.specs.Spelling.{version_line};
 ghost use Rattle.play_format.specs.declared.places.Version.TheVariants as version;
 ghost use Rattle.play_gen.specs.Draws.{state_after};
-ghost use Rattle.play_gen.specs.Lines.{opening, turn, turns, coordinate, colour, corner, triangle, triangles, geode, side, ahead, height, place, heading, placed, buffer, buffers};
-ghost use Rattle.play_gen.specs.Lines.{generated_text};
+ghost use Rattle.play_gen.specs.Lines.{opening, turn, turns, coordinate, colour, corner, triangle};
+ghost use Rattle.play_gen.specs.Lines.{triangles, geode, side, ahead, height, place, heading};
+ghost use Rattle.play_gen.specs.Lines.{placed, buffer, buffers, generated_text};
 ghost use Rattle.play_gen.specs.Texts.{entry_text, lines_text};
 
 use crate::draws::Draws;
@@ -73,7 +74,8 @@ fn colour(draws: &mut Draws) -> i64
 /// Adds a vertex with its colour.
 #[tactic(auto, unfolding(crate::specs::Draws::state_after, crate::specs::Lines::corner))]
 fn push_corner(out: &mut Vec<u8>, draws: &mut Draws) -> Result<(), NoMemory>
-    ensures text { OnOk result (out.new.items ≡ out.old.items ++ numbers_text (corner draws.old.state)) }
+    ensures text { OnOk result
+        (out.new.items ≡ out.old.items ++ numbers_text (corner draws.old.state)) }
     ensures state { draws.new.state ≡ state_after 6 draws.old.state }
 {
     let x = coordinate(draws);
@@ -88,7 +90,8 @@ fn push_corner(out: &mut Vec<u8>, draws: &mut Draws) -> Result<(), NoMemory>
 /// Adds a triangle line.
 #[tactic(auto, unfolding(crate::specs::Lines::triangle))]
 fn push_triangle(out: &mut Vec<u8>, draws: &mut Draws) -> Result<(), NoMemory>
-    ensures text { OnOk result (out.new.items ≡ out.old.items ++ entry_text (triangle draws.old.state)) }
+    ensures text { OnOk result
+        (out.new.items ≡ out.old.items ++ entry_text (triangle draws.old.state)) }
     ensures state { OnOk result (draws.new.state ≡ state_after 18 draws.old.state) }
 {
     out.push(b't')?;
@@ -101,7 +104,8 @@ fn push_triangle(out: &mut Vec<u8>, draws: &mut Draws) -> Result<(), NoMemory>
 
 /// Adds the triangle lines of a geode.
 fn push_triangles(out: &mut Vec<u8>, draws: &mut Draws, count: u32) -> Result<(), NoMemory>
-    ensures text { OnOk result (out.new.items ≡ out.old.items ++ lines_text (triangles count draws.old.state)) }
+    ensures text { OnOk result
+        (out.new.items ≡ out.old.items ++ lines_text (triangles count draws.old.state)) }
     ensures state { OnOk result (draws.new.state ≡ state_after (18 * count) draws.old.state) }
 {
     for made in 0..count {
@@ -113,7 +117,8 @@ fn push_triangles(out: &mut Vec<u8>, draws: &mut Draws, count: u32) -> Result<()
 /// Adds a geode with its triangle lines.
 #[tactic(auto, unfolding(crate::specs::Lines::geode))]
 fn push_geode(out: &mut Vec<u8>, draws: &mut Draws, id: u32) -> Result<(), NoMemory>
-    ensures text { OnOk result (out.new.items ≡ out.old.items ++ lines_text (geode id draws.old.state)) }
+    ensures text { OnOk result
+        (out.new.items ≡ out.old.items ++ lines_text (geode id draws.old.state)) }
     ensures state { OnOk result (draws.new.state ≡ state_after 289 draws.old.state) }
 {
     let state = i64::from(draws.below(8));
@@ -149,7 +154,8 @@ fn height(draws: &mut Draws) -> i64
 /// Adds the line that says where the geode stands.
 #[tactic(auto, unfolding(crate::specs::Draws::state_after, crate::specs::Lines::place))]
 fn push_place(out: &mut Vec<u8>, draws: &mut Draws, id: u32) -> Result<(), NoMemory>
-    ensures text { OnOk result (out.new.items ≡ out.old.items ++ entry_text (place id draws.old.state)) }
+    ensures text { OnOk result
+        (out.new.items ≡ out.old.items ++ entry_text (place id draws.old.state)) }
     ensures state { draws.new.state ≡ state_after 3 draws.old.state }
 {
     let x = side(draws);
@@ -161,7 +167,8 @@ fn push_place(out: &mut Vec<u8>, draws: &mut Draws, id: u32) -> Result<(), NoMem
 /// Adds the line of its heading.
 #[tactic(auto, unfolding(crate::specs::Lines::heading))]
 fn push_heading(out: &mut Vec<u8>, draws: &mut Draws, id: u32) -> Result<(), NoMemory>
-    ensures text { OnOk result (out.new.items ≡ out.old.items ++ entry_text (heading id draws.old.state)) }
+    ensures text { OnOk result
+        (out.new.items ≡ out.old.items ++ entry_text (heading id draws.old.state)) }
     ensures state { draws.new.state ≡ state_after 1 draws.old.state }
 {
     let angle = i64::from(draws.below(3600));
@@ -172,7 +179,8 @@ fn push_heading(out: &mut Vec<u8>, draws: &mut Draws, id: u32) -> Result<(), NoM
 #[tactic(auto, unfolding(crate::specs::Lines::placed))]
 fn push_placed(out: &mut Vec<u8>, draws: &mut Draws, i: u32) -> Result<(), NoMemory>
     requires { i ≤ 256 }
-    ensures text { OnOk result (out.new.items ≡ out.old.items ++ lines_text (placed i draws.old.state)) }
+    ensures text { OnOk result
+        (out.new.items ≡ out.old.items ++ lines_text (placed i draws.old.state)) }
     ensures state { OnOk result (draws.new.state ≡ state_after 4 draws.old.state) }
 {
     let dcs = 100 + 2 * i;
@@ -188,7 +196,8 @@ fn push_placed(out: &mut Vec<u8>, draws: &mut Draws, i: u32) -> Result<(), NoMem
 #[tactic(auto, unfolding(crate::specs::Lines::buffer))]
 fn push_buffer(out: &mut Vec<u8>, draws: &mut Draws, i: u32) -> Result<(), NoMemory>
     requires { i ≤ 256 }
-    ensures text { OnOk result (out.new.items ≡ out.old.items ++ lines_text (buffer i draws.old.state)) }
+    ensures text { OnOk result
+        (out.new.items ≡ out.old.items ++ lines_text (buffer i draws.old.state)) }
     ensures state { OnOk result (draws.new.state ≡ state_after 293 draws.old.state) }
 {
     push_line(out, b"await", &[i64::from(i)])?;

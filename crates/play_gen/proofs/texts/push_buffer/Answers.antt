@@ -12,7 +12,8 @@ returns-clause-text c =
     let i = c.args.i in
     let await : c.push_line.new.out.items ≡ c.args.out.now.items ++ entry_text (command.Await, pos i ∷ []) = search rules in
     let buffer : c.push_line-2.new.out.items ≡ c.push_line.new.out.items ++ entry_text (command.Buffer, []) = search rules in
-    let dcs : c.push_line-3.new.out.items ≡ c.push_line-2.new.out.items ++ entry_text (command.Edit form.Dcs, pos (100 + 2 * i) ∷ []) = search rules in
+    let dcs : c.push_line-3.new.out.items ≡ c.push_line-2.new.out.items ++ entry_text
+    (command.Edit form.Dcs, pos (100 + 2 * i) ∷ []) = search rules in
     buffer_text c.args.out.now.items c.push_line.new.out.items c.push_line-2.new.out.items c.push_line-3.new.out.items c.push_geode.new.out.items c.push_placed.new.out.items
     i c.args.draws.now.state c.push_geode.new.draws.state await buffer dcs c.in_ok-push_geode.ensures.text c.in_ok-push_placed.ensures.text c.in_ok-push_geode.ensures.state
 

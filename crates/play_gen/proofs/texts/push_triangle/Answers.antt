@@ -17,5 +17,6 @@ returns-clause-text c =
 pub returns-clause-state : goal.returns-clause-state
 returns-clause-state c =
     let start = c.args.draws.now.state in
-    c.push_corner-3.ensures.state ∙ ap (state_after 6) (c.push_corner-2.ensures.state ∙ ap (state_after 6) c.push_corner.ensures.state ∙ after_is 6 6 12 start refl)
+    c.push_corner-3.ensures.state ∙ ap (state_after 6) (c.push_corner-2.ensures.state ∙ ap (state_after 6) c.push_corner.ensures.state
+    ∙ after_is 6 6 12 start refl)
     ∙ after_is 12 6 18 start refl
