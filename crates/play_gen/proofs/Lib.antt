@@ -1,0 +1,4 @@
+pub mod DrawLemmas
+pub mod TextLemmas
+pub mod FollowLemmas
+pub mod ReadingLemmas
