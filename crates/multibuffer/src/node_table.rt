@@ -1,6 +1,5 @@
 //! The nodes of a copy, in a slot for each id.
 ghost use Rattle.std.specs.Prelude.{◌≡◌, ℕ, ◌<◌, ◌==◌, None, [], if◌then◌else◌, slice_index_or, slice_set, length, IfOk};
-ghost use Rattle.std.specs.Option.{option_copied};
 ghost use Rattle.pf_model.specs.Graphs.{node_at};
 ghost use Rattle.pf_model.specs.Copies.{updated};
 ghost use Rattle.multibuffer.specs.StageCopies.{entry_at};

@@ -1,5 +1,5 @@
 //! Update lists taken into a copy, whose nodes and boxes are then looked at.
-ghost use Rattle.std.specs.Prelude.{ℕ, ◌==◌, if◌then◌else◌, Some, None, []};
+ghost use Rattle.std.specs.Prelude.{◌==◌, if◌then◌else◌, Some, None, []};
 
 use super::*;
 use fx_math::{Box3, Vec3};
