@@ -1,5 +1,5 @@
 //! The lines of entries.
-ghost use Rattle.std.specs.Prelude.{◌≡◌, ◌++◌, OnOk, length, codes, decimal};
+ghost use Rattle.std.specs.Prelude.{◌≡◌, ◌++◌, OnOk, codes, decimal};
 ghost use Rattle.play_format.specs.Spelling.{line_of, view_entry, view_numbers};
 ghost use Rattle.play_format.specs.Texts.{numbers_text};
 ghost use Rattle.play_report.specs.Entries.{caller_text, began_text, command_text, fault_text};
