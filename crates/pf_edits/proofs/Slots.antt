@@ -65,7 +65,7 @@ module _ (slab after : Slab Record) (keys : List (Option ℕ)) (id key : ℕ) (i
         let f : is_some (get slab key) ≡ false = ap (λ o. is_some o) vacant in
         let g : true ≡ false = sym e ∙ f in cc
 
-    put_slots : slots_of after (set keys id (Some key)) ≡ set (slots_of slab keys) id (Some r)
+    pub put_slots : slots_of after (set keys id (Some key)) ≡ set (slots_of slab keys) id (Some r)
     put_slots =
         table_after slab after keys (set keys id (Some key)) id (Some r) (length-set keys id (Some key)) inside
         (ap (option_and_then (get after)) (get_or-set_same keys id (Some key) None inside) ∙ up.changed)
@@ -123,7 +123,7 @@ module _ (slab after : Slab Record) (keys : List (Option ℕ)) (id key : ℕ) (i
     differs : (b k : ℕ) → b ≢ id → get_or keys b None ≡ Some k → k ≢ key
     differs b k other e same = other (indexed.apart b id key (e ∙ ap Some same) at)
 
-    take_slots : slots_of after (set keys id None) ≡ set (slots_of slab keys) id None
+    pub take_slots : slots_of after (set keys id None) ≡ set (slots_of slab keys) id None
     take_slots =
         table_after slab after keys (set keys id None) id None (length-set keys id None) inside
         (ap (option_and_then (get after)) (get_or-set_same keys id None None inside))
