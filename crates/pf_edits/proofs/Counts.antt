@@ -1,13 +1,13 @@
 -- The number of triangles of all records.
-use Rattle.std.proofs.Common.{◌≡◌, ℕ, zero, suc, zero-add, ◌+◌, ◌-◌, ◌<◌, ◌≤◌, List, [], ◌∷◌, map, sum, length, set, Option, Some, None, refl, sym, ◌∙◌, ap, subst, arith}
-use Rattle.std.specs.List.{All, AllByRecursion, sum_by}
-use Rattle.std.specs.Option.{option_and_then, option_map_or}
+use Rattle.std.proofs.Common.{◌≡◌, ℕ, suc, zero-add, ◌+◌, ◌-◌, ◌*◌, ◌<◌, ◌≤◌, List, [], ◌∷◌, map, sum, length, set, Option, Some, None, refl, sym, ◌∙◌, ap, subst, arith}
+use Rattle.std.specs.List.{AllByRecursion}
+use Rattle.std.specs.Option.{option_and_then}
 use Rattle.std.proofs.lemmas.List.Elements.{All-set, All-from_get_or}
 use Rattle.std.proofs.lemmas.List.Sums.{sum_by-set, sum_by-cons, sum_by-le}
 use Rattle.std.proofs.Math.ListN.{length-map}
 use Rattle.slab.specs.Slab.{Slab, get}
 use Rattle.pf_model.specs.declared.nodes.Node.{Node}
-use Rattle.pf_model.specs.Graphs.{Nodes, node_at}
+use Rattle.pf_model.specs.Graphs.{node_at}
 use Rattle.pf_model.specs.Totals.{triangles_of, triangle_count}
 use Rattle.pf_model.proofs.Totals.{triangles_counted}
 use Rattle.pf_edits.specs.declared.records.Record.{Record}
@@ -48,7 +48,7 @@ taken_few slots id t m r within k there is =
 pub take_counted : (slots : Slots) (id t m : ℕ) (r : Record) → id < length slots → AreCounted slots t → record_at slots id ≡ Some r → m ≡ triangles_of r.node.kind
     → AreCounted (set slots id None) (t - m)
 take_counted slots id t m r within k there is = record {
-  light = All-set (λ s. slot_triangles s ≤ 4096) slots id None tt k.light;
+  light = All-set (λ s. slot_triangles s ≤ 4096) slots id None (omega arith) k.light;
   total = total;
 }
   where
@@ -66,7 +66,7 @@ no_triangles (x ∷ xs) none =
 
 pub none_counted : (slots : Slots) → ((b : ℕ) → record_at slots b ≡ None) → AreCounted slots 0
 none_counted slots none = record {
-  light = All-from_get_or (λ s. slot_triangles s ≤ 4096) slots None (λ i l. subst (λ (o : Option Record). slot_triangles o ≤ 4096) (sym (none i)) tt);
+  light = All-from_get_or (λ s. slot_triangles s ≤ 4096) slots None (λ i l. subst (λ (o : Option Record). slot_triangles o ≤ 4096) (sym (none i)) (omega arith));
   total = sym (no_triangles slots none);
 }
 
@@ -85,7 +85,7 @@ listed_below k m (None ∷ rest) l = listed_below (k + 1) m rest (omega arith)
 listed_below k m (Some r ∷ rest) l = (omega arith, listed_below (k + 1) m rest (omega arith))
 
 pub triangles_are : (slots : Slots) → length slots ≤ 65536 → triangles_in slots ≡ triangle_count (node_at (nodes_of slots))
-triangles_are slots l = sym (triangles_counted (nodes_of slots) (rising slots) (listed_below 0 65536 slots l) ∙ listed_sum 0 slots)
+triangles_are slots l = sym (triangles_counted (nodes_of slots) (rising slots) (listed_below 0 65536 slots (omega (arith, l))) ∙ listed_sum 0 slots)
 
 pub slots_wide : (slab : Slab Record) (keys : List (Option ℕ)) → length keys ≡ 65536 → length (slots_of slab keys) ≡ 65536
 slots_wide slab keys wide = length-map keys (option_and_then (get slab)) ∙ wide

@@ -1,12 +1,12 @@
 -- What stands under each id after a change of the slab and of the keys.
-use Rattle.std.proofs.Common.{◌≡◌, ◌≢◌, ℕ, zero, suc, zero-add, ◌++◌, ◌+◌, ◌<◌, ◌≤◌, Bool, true, false, cond, ◌==◌, ◌⊎◌, inl, inr, List, [], ◌∷◌, map, length, get_or, set, Option, Some, None, is_some, refl, sym, ◌∙◌, ap, subst, arith}
+use Rattle.std.proofs.Common.{◌≡◌, ◌≢◌, ℕ, zero, suc, zero-add, ◌++◌, ◌+◌, ◌<◌, ◌≤◌, Bool, true, false, cond, ◌==◌, ◌⊎◌, inl, inr, List, [], ◌∷◌, length, get_or, set, Option, Some, None, is_some, refl, sym, ◌∙◌, ap, subst, arith}
 use Rattle.std.specs.Option.{option_and_then}
 use Rattle.std.specs.List.{count_by}
 use Rattle.std.proofs.lemmas.List.{ext_get_or, get_or-set_same, get_or-set_other, length-set, get_or_read}
 use Rattle.std.proofs.lemmas.Bool.{eqb-true}
 use Rattle.std.proofs.lemmas.List.Sums.{sum_by-set, sum_by-cons}
-use Rattle.std.proofs.Math.ListN.{get_or-map, get_or-eq_default, length-map}
-use Rattle.std.proofs.lemmas.Bool.Decides.{eqb_tells, nat_tests}
+use Rattle.std.proofs.Math.ListN.{get_or-map, length-map}
+use Rattle.std.proofs.lemmas.Bool.Decides.{eqb_tells}
 use Rattle.slab.specs.Slab.{Slab, get, slab_len, Updates}
 use Rattle.pf_edits.specs.declared.records.Record.{Record}
 use Rattle.pf_edits.specs.Tables.{Slots, record_at, slots_of, IsIndexed}

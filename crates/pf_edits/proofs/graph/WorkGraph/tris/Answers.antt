@@ -1,4 +1,4 @@
-use Rattle.std.proofs.Common.{◌≡◌, ◌≤◌, ℕ, ◌∙◌, ap, sym, subst, length, arith}
+use Rattle.std.proofs.Common.{◌≡◌, ◌∙◌, ap, length, arith}
 use Rattle.pf_model.specs.Graphs.{SceneGraph, node_at}
 use Rattle.pf_model.specs.Totals.{triangle_count}
 use Rattle.pf_edits.proofs.Counts.{triangles_are}

@@ -1,7 +1,6 @@
-use Rattle.std.proofs.Common.{◌≡◌, ◌≤◌, ℕ, refl, sym, ◌∙◌, ap, subst, rules, arith}
-use Rattle.slab.specs.Slab.{Slab, slab_len}
-use Rattle.pf_edits.specs.declared.records.Record.{Record}
-use Rattle.pf_edits.specs.Tables.{IsIndexed, IsKept, AreCounted, Slots, record_at, slots_of}
+use Rattle.std.proofs.Common.{◌≡◌, refl}
+use Rattle.slab.specs.Slab.{slab_len}
+use Rattle.pf_edits.specs.Tables.{slots_of}
 use Rattle.pf_edits.proofs.Slots.{empty_indexed, no_slot, no_count}
 use Rattle.pf_edits.proofs.Counts.{none_counted}
 use Rattle.pf_edits.proofs.records.Records.new.Goals as goal

@@ -1,11 +1,11 @@
-use Rattle.std.proofs.Common.{◌≡◌, ◌<◌, ◌≤◌, ◌+◌, ◌==◌, cond, ℕ, Option, Some, None, get_or, set, length, sym, ◌∙◌, ap, subst, rules, arith}
-use Rattle.pf_edits.specs.Tables.{IsIndexed, IsKept, AreCounted, Table, record_at, slots_of}
+use Rattle.std.proofs.Common.{◌≡◌, ◌<◌, ◌≤◌, ◌+◌, ◌==◌, cond, ℕ, Some, set, length, sym, ◌∙◌, ap, subst, arith}
+use Rattle.pf_edits.specs.Tables.{IsKept, AreCounted, Table, record_at, slots_of}
 use Rattle.pf_edits.proofs.Slots.{put_indexed, put_at, put_slots}
 use Rattle.pf_edits.proofs.Counts.{put_counted, total_small, slots_wide}
 use Rattle.pf_edits.proofs.records.Records.put.Goals as goal
 
-pub overflow_add : goal.overflow_add
-overflow_add c =
+pub overflow_add-self : goal.overflow_add-self
+overflow_add-self c =
     let l : c.self.inside.tris ≤ 268435456 =
     total_small (slots_of c.self.inside.slab c.self.inside.keys.items) c.self.inside.tris c.self.invariant.counted (slots_wide c.self.inside.slab c.self.inside.keys.items c.self.invariant.indexed.wide) in
     let m : c.triangles-more.result ≤ 4096 = c.triangles-more.ensures.bound in

@@ -1,9 +1,19 @@
-use Rattle.std.proofs.Common.{◌≡◌, ◌<◌, ◌+◌, ◌-◌, ◌==◌, cond, ℕ, Option, Some, None, true, is_some, get_or, set, length, sym, ◌∙◌, ap, subst, rules, arith}
-use Rattle.slab.specs.Slab.{Slab, get, slab_len, Updates}
-use Rattle.pf_edits.specs.Tables.{IsIndexed, IsKept, AreCounted, Table, record_at, slots_of}
+use Rattle.std.proofs.Common.{◌≡◌, ◌<◌, ◌-◌, ◌==◌, cond, ℕ, Some, None, get_or, set, length, sym, ◌∙◌, ap, subst, arith}
+use Rattle.pf_edits.specs.Tables.{IsKept, AreCounted, Table, record_at, slots_of}
 use Rattle.pf_edits.proofs.Slots.{take_indexed, take_at, taken_at, take_slots, key_at, no_record, none_stays}
 use Rattle.pf_edits.proofs.Counts.{taken_few, take_counted, slots_wide}
 use Rattle.pf_edits.proofs.records.Records.take.Goals as goal
+
+pub overflow_sub-self : goal.overflow_sub-self
+overflow_sub-self c =
+    let within : c.args.id < 65536 = omega arith in
+    let slab = c.self.inside.slab in
+    let keys = c.self.inside.keys.items in
+    let at : get_or c.self.inside.keys.items c.args.id None ≡ Some c.in-Some.key =
+    key_at c.self.inside.keys.items c.from.result c.args.id c.index.result.now c.self.invariant.indexed.wide c.from.ensures within c.index.ensures ∙ c.in-Some.is in
+    let wide : length (slots_of c.self.inside.slab c.self.inside.keys.items) ≡ 65536 = slots_wide slab keys c.self.invariant.indexed.wide in
+    taken_few (slots_of slab keys) c.args.id c.self.inside.tris c.triangles.result c.remove-record.result (omega (arith, within, wide)) c.self.invariant.counted
+    (taken_at slab c.remove-record.new.self keys c.args.id c.in-Some.key c.self.invariant.indexed within at c.remove-record.ensures.updates ∙ c.remove-record.ensures.value) c.triangles.ensures.value
 
 pub invariant_of-self : goal.invariant_of-self
 invariant_of-self c =

@@ -1,4 +1,4 @@
-use Rattle.std.proofs.Common.{◌≡◌, ◌∙◌, ap, sym, length}
+use Rattle.std.proofs.Common.{◌∙◌, ap, sym, length}
 use Rattle.pf_edits.specs.Tables.{Table, triangles_in}
 use Rattle.pf_edits.proofs.Counts.{slots_wide}
 use Rattle.pf_edits.proofs.records.Records.tris.Goals as goal
