@@ -9,6 +9,7 @@ pub mod Relinks
 pub mod Rewrites
 pub mod Uses
 pub mod Climbs
+pub mod Trials
 pub mod Sounds
 pub mod Works
 pub mod Ends

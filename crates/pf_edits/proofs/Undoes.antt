@@ -23,7 +23,7 @@ use Rattle.pf_edits.specs.Undoing.{graph_before, parents_before, CanUndo, AllUnd
 use Rattle.pf_edits.proofs.Listed.{found, looks, rising}
 use Rattle.pf_edits.proofs.Relinks.{put_back}
 
-changed_rising : (slots : Slots) (id : ℕ) (f : Node → Node) → IsRising (map (λ e. e.0) (change id f (nodes_of slots)))
+pub changed_rising : (slots : Slots) (id : ℕ) (f : Node → Node) → IsRising (map (λ e. e.0) (change id f (nodes_of slots)))
 changed_rising slots id f = subst (λ (is : List ℕ). IsRising is) (sym (ids_change f id (nodes_of slots))) (rising slots)
 
 -- the old children put back

@@ -176,16 +176,16 @@ reckoned_same f g x (c ∷ cs) same out e =
     second true q h = absurd (cc)
     second false q h = h
 
--- the node at the head of a way reckoned anew: extents now meet the recursion there too
-pub meets_step : (look : Look) (f g : ℕ → Extent) (x : ℕ) (xs : List ℕ) → LeadUp look (x ∷ xs) → MeetBut look f (x ∷ xs)
+-- a node reckoned anew whose parents are all on a way: extents now meet the recursion there too
+pub meets_by : (look : Look) (f g : ℕ → Extent) (x : ℕ) (xs : List ℕ) → ((y : ℕ) → has_child look y x ≡ true → is_in y xs ≡ true) → MeetBut look f (x ∷ xs)
     → ((b : ℕ) → g b ≡ cond (b == x) (reckoned f (children_of look x)) (f b)) → MeetBut look g xs
-meets_step look f g x xs leads meets set id out = by (id == x) refl
+meets_by look f g x xs up meets set id out = by (id == x) refl
   where
     others : (b : ℕ) → (b == x) ≡ false → g b ≡ f b
     others b e = set b ∙ ap (λ t. cond t (reckoned f (children_of look x)) (f b)) e
 
     no_child : is_in x (children_of look id) ≡ false
-    no_child = no_true (is_in x (children_of look id)) (λ h. not_true (leads.0 id h) out)
+    no_child = no_true (is_in x (children_of look id)) (λ h. not_true (up id h) out)
 
     same : reckoned g (children_of look id) ≡ reckoned f (children_of look id)
     same = reckoned_same f g x (children_of look id) others no_child leaf
@@ -193,6 +193,11 @@ meets_step look f g x xs leads meets set id out = by (id == x) refl
     by : (t : Bool) → (id == x) ≡ t → g id ≡ reckoned g (children_of look id)
     by true e = set id ∙ ap (λ t. cond t (reckoned f (children_of look x)) (f id)) e ∙ ap (λ n. reckoned f (children_of look n)) (sym (eqb-true id x e)) ∙ sym same
     by false e = others id e ∙ meets id (in_cons x id xs e ∙ out) ∙ sym same
+
+-- the node at the head of a way
+pub meets_step : (look : Look) (f g : ℕ → Extent) (x : ℕ) (xs : List ℕ) → LeadUp look (x ∷ xs) → MeetBut look f (x ∷ xs)
+    → ((b : ℕ) → g b ≡ cond (b == x) (reckoned f (children_of look x)) (f b)) → MeetBut look g xs
+meets_step look f g x xs leads meets set = meets_by look f g x xs leads.0 meets set
 
 -- the rest of a way from its end
 pub rest_of : (xs : List ℕ) (i d : ℕ) → i < length xs → reverse (take (i + 1) xs) ≡ get_or xs i d ∷ reverse (take i xs)

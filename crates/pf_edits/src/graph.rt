@@ -1,6 +1,7 @@
 //! The working graph: a scene graph whose edits cost what the node that they name and its ancestors cost.
 ghost use Rattle.std.specs.Prelude.{◌≡◌, ◌+◌, ◌-◌, ◌^◌, ◌<◌, [], true, None, Some, IfOk, IfErr, OnOk, OnErr, length};
 ghost use Rattle.std.specs.Option.{option_copied};
+ghost use Rattle.std.specs.Result.{IsErrOf};
 ghost use Rattle.pf_model.specs.Graphs.{SceneGraph, node_at, size_of, empty_scene};
 ghost use Rattle.pf_model.specs.Limits.{IsGraphWithinLimits};
 ghost use Rattle.pf_model.specs.Totals.{triangle_count};
@@ -100,13 +101,14 @@ impl WorkGraph {
         mem::replace(&mut self.work.gone, Vec::new(alloc))
     }
 
-    /// Applies an edit, or refuses it for its fault or for want of memory and stays as it was.
+    /// Applies an edit, or refuses it for its fault, or where it has none for want of memory, and stays as it was.
     pub fn edit(&mut self, e: &Edit) -> Result<(), EditError>
         requires serials { self.old.next_serial < 2 ^ 32 - 1 }
         requires fits { fits e.now ≡ true }
         ensures done { OnOk result (fault_of self.old e.now ≡ None) }
         ensures after { OnOk result (self.new ≡ after self.old e.now) }
         ensures fault { IfErr result (λ r. Refuses r (fault_of self.old e.now)) }
+        ensures memory { IsErrOf result EditError.NoMemory → fault_of self.old e.now ≡ None }
         ensures unchanged { OnErr result (self.new ≡ self.old) }
     {
         self.work.edit(e)?;

@@ -12,10 +12,10 @@ more n h = grind (arith, nat_tests)
 not_more : (n : ℕ) → n ≤ 4096 → nat_lt 4096 n ≡ false
 not_more n h = grind (arith, nat_tests)
 
-pub returns-then-len-gt4096-clause-fault : goal.returns-then-len-gt4096-clause-fault
-returns-then-len-gt4096-clause-fault c =
+pub returns-then-len-gt4096 : goal.returns-then-len-gt4096
+returns-then-len-gt4096 c =
     sym (ap (λ t. when t (fault.Many 4097)) (more (length (nodes_of c.args.records.now.slots)) (subst (λ (n : ℕ). 4096 < n) (c.len.ensures.value ∙ sym (count_is 0 c.args.records.now.slots)) c.if-len-gt4096.true)))
 
-pub returns-clause-fault : goal.returns-clause-fault
-returns-clause-fault c =
+pub returns : goal.returns
+returns c =
     sym (ap (λ t. when t (fault.Many 4097)) (not_more (length (nodes_of c.args.records.now.slots)) (subst (λ (n : ℕ). n ≤ 4096) (c.len.ensures.value ∙ sym (count_is 0 c.args.records.now.slots)) c.if-len-gt4096.false)))

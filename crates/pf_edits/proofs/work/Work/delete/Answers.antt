@@ -26,14 +26,14 @@ pub remove-requires-clause-unused : goal.remove-requires-clause-unused
 remove-requires-clause-unused c =
     let w = c.args.self.now in
     let nodes : Nodes = nodes_of w.records.slots in
-    let none : None ≡ first (delete_rules (nodes_of w.records.slots) c.args.id) = search rules in
+    let none : None ≡ first (delete_rules (nodes_of w.records.slots) c.args.id) = c.requires.none in
     λ y. no_true (has_child (look_of w.records.slots) y c.args.id) (λ h. not_true (listed nodes y c.args.id (subst (λ (f : Look). has_child f y c.args.id ≡ true) (sym (looks w.records.slots)) h))
     (when_not (list_any (λ e. list_any (λ d. d == c.args.id) e.1.children) nodes) (fault.InUse c.args.id) (all_passed (delete_rules nodes c.args.id) none).1.1.0))
 
 pub unreachable-requires : goal.unreachable-requires
 unreachable-requires c =
     let w = c.args.self.now in
-    let none : None ≡ first (delete_rules (nodes_of w.records.slots) c.args.id) = search rules in
+    let none : None ≡ first (delete_rules (nodes_of w.records.slots) c.args.id) = c.requires.none in
     let e : is_some {T = Node} None ≡ true =
     ap (λ (o : Option Record). is_some (option_map (λ r. r.node) o)) c.in-None.ensures.record
     ∙ ap (λ (o : Option Node). is_some o) (sym (found w.records.slots c.args.id)) ∙ there_from (nodes_of w.records.slots) c.args.id (all_passed (delete_rules (nodes_of w.records.slots) c.args.id) none).0 in
@@ -56,7 +56,7 @@ returns-clause-after c =
 pub returns-clause-working : goal.returns-clause-working
 returns-clause-working c =
     let w = c.args.self.now in
-    let none : None ≡ first (delete_rules (nodes_of w.records.slots) c.args.id) = search rules in
+    let none : None ≡ first (delete_rules (nodes_of w.records.slots) c.args.id) = c.requires.none in
     record {
       sound = c.remove.ensures.sound;
       free = c.requires.working.free;
@@ -69,14 +69,18 @@ returns-clause-working c =
 pub returns-clause-undo : goal.returns-clause-undo
 returns-clause-undo c =
     let w = c.args.self.now in
-    let some : record_at w.records.slots c.args.id ≡ Some c.in-Some-remove.record = sym c.in-Some-remove.ensures.record in
-    let nodes = back_deleted w.records.slots c.remove.new.records.slots c.args.id c.in-Some-remove.record.node (ap (option_map (λ (r : Record). r.node)) some) c.remove.ensures.nodes in
+    let some : record_at w.records.slots c.args.id ≡ Some c.in-Some.record = sym c.in-Some.ensures.record in
+    let nodes = back_deleted w.records.slots c.remove.new.records.slots c.args.id c.in-Some.record.node (ap (option_map (λ (r : Record). r.node)) some) c.remove.ensures.nodes in
     let gone = without_last w.gone.items c.bury.new.gone.items c.in_ok-remains.remains (c.bury.ensures ∙ ap (λ xs. xs ++ c.in_ok-remains.remains ∷ []) c.reserve.ensures.items) in
     record {
       can = (
         made_there w.records.slots c.remove.new.records.slots c.args.id None c.remove.ensures.nodes,
-        taken_noted w.records.slots c.remove.new.records.slots c.requires.working.sound (low_of w c.requires.working) c.args.id c.in-Some-remove.record some c.remove.ensures.parents,
+        taken_noted w.records.slots c.remove.new.records.slots c.requires.working.sound (low_of w c.requires.working) c.args.id c.in-Some.record some c.remove.ensures.parents,
       );
       before = both w _ _ _ _ nodes gone;
-      parents = taken_parents w.records.slots c.remove.new.records.slots c.args.id c.in-Some-remove.record some c.remove.ensures.parents;
+      parents = taken_parents w.records.slots c.remove.new.records.slots c.args.id c.in-Some.record some c.remove.ensures.parents;
     }
+
+pub remains_of-requires : goal.remains_of-requires
+remains_of-requires c =
+    there_from (nodes_of c.args.self.now.records.slots) c.args.id (all_passed (delete_rules (nodes_of c.args.self.now.records.slots) c.args.id) c.requires.none).0
