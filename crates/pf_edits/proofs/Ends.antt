@@ -1,5 +1,5 @@
 -- From a change of a node's children to the clauses of an edit of its links.
-use Rattle.std.proofs.Common.{◌≡◌, ℕ, Bool, true, false, ◌||◌, ◌==◌, ◌⊎◌, inl, inr, List, [], ◌∷◌, ◌++◌, length, Option, None, is_some, Result, OnOk, IfErr, refl, sym, ◌∙◌, ap, subst}
+use Rattle.std.proofs.Common.{◌<◌, ◌≤◌, Bool, false, not, nat_le, nat_lt, arith, Some, ◌≡◌, ℕ, true, ◌||◌, ◌==◌, ◌⊎◌, inl, inr, List, [], ◌∷◌, ◌++◌, length, Option, None, Result, OnOk, IfErr, refl, sym, ◌∙◌, ap, subst}
 use Rattle.std.specs.List.{insert}
 use Rattle.pf_model.specs.declared.edits.EditError.{EditError}
 use Rattle.pf_model.specs.declared.edits.Fault.{Fault}
@@ -10,7 +10,10 @@ use Rattle.pf_model.specs.Graphs.{Nodes, SceneGraph, node_at, children_of, chang
 use Rattle.pf_model.specs.Limits.{IsGraphWithinLimits}
 use Rattle.pf_model.specs.NodeEdits.{with_children}
 use Rattle.pf_model.specs.Edits.{first, when, size_rules, add_rules, insert_rules, replace_rules, remove_rules, with_nodes, fault_of, effect, Refuses}
-use Rattle.pf_model.proofs.Rules.{first_passes, all_passed, there_from}
+use Rattle.pf_model.specs.Fits.{fits}
+use Rattle.pf_model.proofs.EditLimits.{limits_effect}
+use Rattle.pf_model.proofs.Rules.{first_passes, all_passed, there_from, when_not}
+use Rattle.std.proofs.lemmas.Bool.Decides.{nat_tests}
 use Rattle.pf_model.proofs.Changes.{change_children}
 use Rattle.pf_model.proofs.Members.{holds_inserted, holds_replaced, holds_dropped}
 use Rattle.std.proofs.lemmas.Bool.{eq-eqb}
@@ -54,24 +57,48 @@ remove_is g p c cs none is =
     ap (λ xs. with_nodes (change p (with_children xs)) g) is
     ∙ ap (graph_with g) (change_children (drop_first c) p g.nodes (there_from g.nodes p (all_passed (remove_rules g.nodes p c) none).0))
 
--- The clauses
+-- The rules of an edit of links, where it has no fault
 
-module _ (g : SceneGraph) (e : Edit) (rules : List (Option Fault)) (p : ℕ) (cs : List ℕ) (is : with_nodes (change p (with_children cs)) g ≡ effect g e)
-    (none : None ≡ first rules) (shape : fault_of g e ≡ first (rules ++ size_rules (effect g e).nodes)) where
-  fault_is : fault_of g e ≡ first (size_rules (change p (with_children cs) g.nodes))
-  fault_is = shape ∙ first_passes rules (size_rules (effect g e).nodes) none ∙ ap (λ (h : SceneGraph). first (size_rules h.nodes)) (sym is)
+passed_front : (xs ys : List (Option Fault)) → None ≡ first (xs ++ ys) → None ≡ first xs
+passed_front [] ys h = refl
+passed_front (None ∷ xs) ys h = passed_front xs ys h
+passed_front (Some f ∷ xs) ys h = absurd (cc)
 
-  pub ends_within : (None ≡ fault_of g e → IsGraphWithinLimits (effect g e)) → None ≡ first (size_rules (change p (with_children cs) g.nodes)) → IsGraphWithinLimits (with_nodes (change p (with_children cs)) g)
-  ends_within keeps passed = subst IsGraphWithinLimits (sym is) (keeps (passed ∙ sym fault_is))
+pub add_passed : (g : SceneGraph) (p c : ℕ) → None ≡ fault_of g (edit.Add p c) → None ≡ first (add_rules g.nodes p c)
+add_passed g p c none = passed_front (add_rules g.nodes p c) (size_rules (effect g (edit.Add p c)).nodes) none
 
-  pub ends_done : {T E : Type 0} (r : Result T E) → OnOk r (first (size_rules (change p (with_children cs) g.nodes)) ≡ None) → OnOk r (fault_of g e ≡ None)
-  ends_done r done = subst (λ (o : Option Fault). OnOk r (o ≡ None)) (sym fault_is) done
+pub insert_passed : (g : SceneGraph) (p i c : ℕ) → None ≡ fault_of g (edit.Insert p i c) → None ≡ first (insert_rules g.nodes p i c)
+insert_passed g p i c none = passed_front (insert_rules g.nodes p i c) (size_rules (effect g (edit.Insert p i c)).nodes) none
 
-  pub ends_fault : {T : Type 0} (r : Result T EditError) → IfErr r (λ x. Refuses x (first (size_rules (change p (with_children cs) g.nodes)))) → IfErr r (λ x. Refuses x (fault_of g e))
-  ends_fault r fault = subst (λ (o : Option Fault). IfErr r (λ x. Refuses x o)) (sym fault_is) fault
+pub replace_passed : (g : SceneGraph) (p c b : ℕ) → None ≡ fault_of g (edit.Replace p c b) → None ≡ first (replace_rules g.nodes p c b)
+replace_passed g p c b none = passed_front (replace_rules g.nodes p c b) (size_rules (effect g (edit.Replace p c b)).nodes) none
+
+-- What such an edit can still fail on are the sizes of the graph after it
+
+pub fault_is : (g : SceneGraph) (e : Edit) (rules : List (Option Fault)) (p : ℕ) (cs : List ℕ) → with_nodes (change p (with_children cs)) g ≡ effect g e → None ≡ first rules
+    → fault_of g e ≡ first (rules ++ size_rules (effect g e).nodes) → fault_of g e ≡ first (size_rules (change p (with_children cs) g.nodes))
+fault_is g e rules p cs is none shape = shape ∙ first_passes rules (size_rules (effect g e).nodes) none ∙ ap (λ (h : SceneGraph). first (size_rules h.nodes)) (sym is)
+
+pub ends_within : (g : SceneGraph) (e : Edit) (p : ℕ) (cs : List ℕ) → with_nodes (change p (with_children cs)) g ≡ effect g e → IsGraphWithinLimits g → fits e ≡ true → None ≡ fault_of g e
+    → IsGraphWithinLimits (with_nodes (change p (with_children cs)) g)
+ends_within g e p cs is within fit none = subst IsGraphWithinLimits (sym is) (limits_effect g e within fit none)
 
 pub ends_after : {T E : Type 0} (r : Result T E) (n g h : SceneGraph) → g ≡ h → OnOk r (n ≡ g) → OnOk r (n ≡ h)
 ends_after r n g h same after = subst (λ (x : SceneGraph). OnOk r (n ≡ x)) same after
+
+-- a parent that is not full
+pub not_full : (n : ℕ) (f : Fault) → None ≡ when (nat_le 256 n) f → n < 256
+not_full n f none = by n (when_not (nat_le 256 n) f none)
+  where
+    by : (n : ℕ) → nat_le 256 n ≡ false → n < 256
+    by n h = grind (arith, nat_tests)
+
+-- a place that is not too far
+pub not_far : (n i : ℕ) (f : Fault) → None ≡ when (nat_lt n i) f → i ≤ n
+not_far n i f none = by n i (when_not (nat_lt n i) f none)
+  where
+    by : (n i : ℕ) → nat_lt n i ≡ false → i ≤ n
+    by n i h = grind (arith, nat_tests)
 
 -- Members of the new children
 

@@ -1,4 +1,5 @@
 pub mod Slots
+pub mod Counts
 pub mod Marks
 pub mod Ups
 pub mod Greatest
@@ -8,6 +9,7 @@ pub mod Relinks
 pub mod Rewrites
 pub mod Uses
 pub mod Climbs
+pub mod Trials
 pub mod Sounds
 pub mod Works
 pub mod Ends

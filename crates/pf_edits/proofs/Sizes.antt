@@ -1,14 +1,14 @@
 -- The greatest height and the greatest size of a graph from those along a way.
-use Rattle.std.proofs.Common.{◌≡◌, ℕ, ◌<◌, ◌≤◌, min, max, Bool, true, false, cond, ◌||◌, ◌==◌, nat_lt, ◌⊎◌, inl, inr, List, [], ◌∷◌, map, reverse, Option, Some, None, refl, sym, ◌∙◌, ap, subst, arith}
+use Rattle.std.proofs.Common.{◌≡◌, ℕ, ◌<◌, ◌≤◌, min, max, Bool, true, false, cond, ◌||◌, ◌==◌, nat_lt, List, [], ◌∷◌, map, Option, Some, None, refl, sym, ◌∙◌, ap, subst, arith}
 use Rattle.std.specs.List.{list_any, AllByRecursion}
 use Rattle.std.specs.Option.{option_map_or}
 use Rattle.std.proofs.lemmas.Bool.{eqb-true, eq-eqb}
 use Rattle.std.proofs.lemmas.Bool.Decides.{nat_tests}
 use Rattle.pf_model.specs.declared.nodes.Node.{Node}
-use Rattle.pf_model.specs.declared.edits.Fault.{Fault}
 use Rattle.pf_model.specs.declared.edits.Fault.TheVariants as fault
-use Rattle.pf_model.specs.Graphs.{Look, Nodes, node_at, has_id, children_of, greatest, height_of, size_of}
+use Rattle.pf_model.specs.Graphs.{Look, Nodes, node_at, has_id, greatest, height_of, size_of}
 use Rattle.pf_model.specs.Edits.{first, when, greatest_height, deep, large, size_rules}
+use Rattle.pf_model.specs.Limits.{IsRising}
 use Rattle.pf_model.specs.Laws.{AreLow}
 use Rattle.pf_model.proofs.Places.{node_at_step, all_found, from_found}
 use Rattle.pf_edits.specs.declared.extents.Extent.{Extent}
@@ -16,8 +16,7 @@ use Rattle.pf_edits.specs.Tables.{Slots}
 use Rattle.pf_edits.specs.Ways.{is_in}
 use Rattle.pf_edits.specs.Extents.{look_of, extent_at, reckoned, Meets, IsWithin}
 use Rattle.pf_edits.specs.Listed.{nodes_of}
-use Rattle.pf_edits.proofs.Marks.{in_reverse}
-use Rattle.pf_edits.proofs.Ups.{head_or_rest, height_above, heights_are, sizes_are, ahead, behind, not_true, no_true}
+use Rattle.pf_edits.proofs.Ups.{height_above, heights_are, sizes_are, ahead, behind}
 use Rattle.pf_edits.proofs.Listed.{looks, found, rising}
 
 -- Nodes and a number of each
@@ -78,105 +77,104 @@ reached f (x ∷ xs) l = by (reached f xs) (nat_lt (f x) (greatest (map f xs))) 
 -- The faults of a graph of which all nodes off the way are within the limits
 
 -- those who have more than a leaf's extent have a node
-present : (slots : Slots) → Meets (look_of slots) (extent_at slots) → (b : ℕ) → (look_of slots b ≡ None → ⊥) → (n : Option Node) → look_of slots b ≡ n → (m : Node) × (look_of slots b ≡ Some m)
-present slots meets b some None e = absurd (some e)
-present slots meets b some (Some m) e = (m, e)
+present : (nodes : Nodes) (ext : ℕ → Extent) → Meets (node_at nodes) ext → (b : ℕ) → (node_at nodes b ≡ None → ⊥) → (n : Option Node) → node_at nodes b ≡ n → (m : Node) × (node_at nodes b ≡ Some m)
+present nodes ext meets b some None e = absurd (some e)
+present nodes ext meets b some (Some m) e = (m, e)
 
-leaf_of : (slots : Slots) → Meets (look_of slots) (extent_at slots) → (b : ℕ) → look_of slots b ≡ None → extent_at slots b ≡ record { height = 1; size = 1 }
-leaf_of slots meets b none = meets b ∙ ap (λ o. reckoned (extent_at slots) (option_map_or (λ (m : Node). m.children) o [])) none
+leaf_of : (nodes : Nodes) (ext : ℕ → Extent) → Meets (node_at nodes) ext → (b : ℕ) → node_at nodes b ≡ None → ext b ≡ record { height = 1; size = 1 }
+leaf_of nodes ext meets b none = meets b ∙ ap (λ o. reckoned ext (option_map_or (λ (m : Node). m.children) o [])) none
 
-module _ (slots : Slots) (way : List ℕ) (meets : Meets (look_of slots) (extent_at slots)) (outside : (b : ℕ) → is_in b way ≡ false → IsWithin (extent_at slots b)) where
+module _ (nodes : Nodes) (up : IsRising (map (λ e. e.0) nodes)) (ext : ℕ → Extent) (way : List ℕ) (meets : Meets (node_at nodes) ext) (outside : (b : ℕ) → is_in b way ≡ false → IsWithin (ext b)) where
+  height_is : (b : ℕ) → height_of (node_at nodes) b ≡ (ext b).height
+  height_is b = sym (heights_are (node_at nodes) ext meets b)
 
-  height_is : (b : ℕ) → height_of (node_at (nodes_of slots)) b ≡ (extent_at slots b).height
-  height_is b = ap (λ f. height_of f b) (looks slots) ∙ sym (heights_are (look_of slots) (extent_at slots) meets b)
-
-  each_height : (m b : ℕ) → 32 ≤ m → greatest (map (λ b. (extent_at slots b).height) way) ≤ m → height_of (node_at (nodes_of slots)) b ≤ m
+  each_height : (m b : ℕ) → 32 ≤ m → greatest (map (λ b. (ext b).height) way) ≤ m → height_of (node_at nodes) b ≤ m
   each_height m b l g = by (is_in b way) refl
     where
-      same : height_of (node_at (nodes_of slots)) b ≡ (extent_at slots b).height
+      same : height_of (node_at nodes) b ≡ (ext b).height
       same = height_is b
 
-      by : (t : Bool) → is_in b way ≡ t → height_of (node_at (nodes_of slots)) b ≤ m
-      by true e = let k : (extent_at slots b).height ≤ greatest (map (λ b. (extent_at slots b).height) way) = height_above (λ b. (extent_at slots b).height) b way e in let s = same in omega (arith, s)
-      by false e = let k : (extent_at slots b).height ≤ 32 = (outside b e).low in let s = same in omega (arith, s)
+      by : (t : Bool) → is_in b way ≡ t → height_of (node_at nodes) b ≤ m
+      by true e = let k : (ext b).height ≤ greatest (map (λ b. (ext b).height) way) = height_above (λ b. (ext b).height) b way e in let s = same in omega (arith, s)
+      by false e = let k : (ext b).height ≤ 32 = (outside b e).low in let s = same in omega (arith, s)
 
-  greatest_at_most : (m : ℕ) → 32 ≤ m → greatest (map (λ b. (extent_at slots b).height) way) ≤ m → greatest_height (nodes_of slots) ≤ m
+  greatest_at_most : (m : ℕ) → 32 ≤ m → greatest (map (λ b. (ext b).height) way) ≤ m → greatest_height nodes ≤ m
   greatest_at_most m l g =
-      at_most (height_of (node_at (nodes_of slots))) m (nodes_of slots)
-      (from_found (λ e. height_of (node_at (nodes_of slots)) e.0 ≤ m) (nodes_of slots) (nodes_of slots) (λ e f. each_height m e.0 l g) (all_found (nodes_of slots) (rising slots)))
+      at_most (height_of (node_at nodes)) m nodes
+      (from_found (λ e. height_of (node_at nodes) e.0 ≤ m) nodes nodes (λ e f. each_height m e.0 l g) (all_found nodes up))
 
-  greatest_reached : 32 < greatest (map (λ b. (extent_at slots b).height) way) → greatest (map (λ b. (extent_at slots b).height) way) ≤ greatest_height (nodes_of slots)
-  greatest_reached l = by (reached (λ b. (extent_at slots b).height) way (omega arith))
+  greatest_reached : 32 < greatest (map (λ b. (ext b).height) way) → greatest (map (λ b. (ext b).height) way) ≤ greatest_height nodes
+  greatest_reached l = by (reached (λ b. (ext b).height) way (omega arith))
     where
-      by : Reached (λ b. (extent_at slots b).height) way → greatest (map (λ b. (extent_at slots b).height) way) ≤ greatest_height (nodes_of slots)
+      by : Reached (λ b. (ext b).height) way → greatest (map (λ b. (ext b).height) way) ≤ greatest_height nodes
       by r =
-          let s : (extent_at slots r.who).height ≡ greatest (map (λ b. (extent_at slots b).height) way) = r.same in
-          let p = present slots meets r.who (λ none. absurd (let e : (extent_at slots r.who).height ≡ 1 = ap (λ (x : Extent). x.height) (leaf_of slots meets r.who none) in omega arith)) (look_of slots r.who) refl in
-          let k : height_of (node_at (nodes_of slots)) r.who ≤ greatest_height (nodes_of slots) = at_least (height_of (node_at (nodes_of slots))) (nodes_of slots) r.who p.0 (found slots r.who ∙ p.1) in
-          let h : height_of (node_at (nodes_of slots)) r.who ≡ (extent_at slots r.who).height = height_is r.who in
+          let s : (ext r.who).height ≡ greatest (map (λ b. (ext b).height) way) = r.same in
+          let p = present nodes ext meets r.who (λ none. absurd (let e : (ext r.who).height ≡ 1 = ap (λ (x : Extent). x.height) (leaf_of nodes ext meets r.who none) in omega arith)) (node_at nodes r.who) refl in
+          let k : height_of (node_at nodes) r.who ≤ greatest_height nodes = at_least (height_of (node_at nodes)) nodes r.who p.0 (p.1) in
+          let h : height_of (node_at nodes) r.who ≡ (ext r.who).height = height_is r.who in
           omega arith
 
-  pub is_deep : 32 < greatest (map (λ b. (extent_at slots b).height) way) → first (size_rules (nodes_of slots)) ≡ Some (fault.Deep (greatest (map (λ b. (extent_at slots b).height) way)))
+  pub is_deep : 32 < greatest (map (λ b. (ext b).height) way) → first (size_rules nodes) ≡ Some (fault.Deep (greatest (map (λ b. (ext b).height) way)))
   is_deep l =
-      ap (λ g. first (when (nat_lt 32 g) (fault.Deep g) ∷ large (nodes_of slots) ∷ [])) same
-      ∙ ap (λ t. first (when t (fault.Deep (greatest (map (λ b. (extent_at slots b).height) way))) ∷ large (nodes_of slots) ∷ [])) (more (greatest (map (λ b. (extent_at slots b).height) way)) l)
+      ap (λ g. first (when (nat_lt 32 g) (fault.Deep g) ∷ large nodes ∷ [])) same
+      ∙ ap (λ t. first (when t (fault.Deep (greatest (map (λ b. (ext b).height) way))) ∷ large nodes ∷ [])) (more (greatest (map (λ b. (ext b).height) way)) l)
     where
-      same : greatest_height (nodes_of slots) ≡ greatest (map (λ b. (extent_at slots b).height) way)
+      same : greatest_height nodes ≡ greatest (map (λ b. (ext b).height) way)
       same =
-          let a : greatest_height (nodes_of slots) ≤ greatest (map (λ b. (extent_at slots b).height) way) = greatest_at_most (greatest (map (λ b. (extent_at slots b).height) way)) (omega arith) (omega arith) in
-          let b : greatest (map (λ b. (extent_at slots b).height) way) ≤ greatest_height (nodes_of slots) = greatest_reached l in
+          let a : greatest_height nodes ≤ greatest (map (λ b. (ext b).height) way) = greatest_at_most (greatest (map (λ b. (ext b).height) way)) (omega arith) (omega arith) in
+          let b : greatest (map (λ b. (ext b).height) way) ≤ greatest_height nodes = greatest_reached l in
           omega arith
 
       more : (n : ℕ) → 32 < n → nat_lt 32 n ≡ true
       more n h = grind (arith, nat_tests)
 
-  module _ (shallow : greatest (map (λ b. (extent_at slots b).height) way) ≤ 32) where
-    not_deep : deep (nodes_of slots) ≡ None
-    not_deep = ap (λ t. when t (fault.Deep (greatest_height (nodes_of slots)))) (not_more (greatest_height (nodes_of slots)) (greatest_at_most 32 (omega arith) shallow))
+  module _ (shallow : greatest (map (λ b. (ext b).height) way) ≤ 32) where
+    not_deep : deep nodes ≡ None
+    not_deep = ap (λ t. when t (fault.Deep (greatest_height nodes))) (not_more (greatest_height nodes) (greatest_at_most 32 (omega arith) shallow))
       where
         not_more : (n : ℕ) → n ≤ 32 → nat_lt 32 n ≡ false
         not_more n h = grind (arith, nat_tests)
 
-    low : AreLow (look_of slots)
-    low b = subst (λ (f : Look). height_of f b ≤ 32) (looks slots) (each_height 32 b (omega arith) shallow)
+    low : AreLow (node_at nodes)
+    low b = each_height 32 b (omega arith) shallow
 
-    size_is : (b : ℕ) → (extent_at slots b).size ≡ min 131073 (size_of (node_at (nodes_of slots)) b)
-    size_is b = sizes_are (look_of slots) (extent_at slots) meets low b ∙ ap (λ f. min 131073 (size_of f b)) (sym (looks slots))
+    size_is : (b : ℕ) → (ext b).size ≡ min 131073 (size_of (node_at nodes) b)
+    size_is b = sizes_are (node_at nodes) ext meets low b
 
-    pub is_large : 131072 < greatest (map (λ b. (extent_at slots b).size) way) → first (size_rules (nodes_of slots)) ≡ Some fault.Large
-    is_large l = by (reached (λ b. (extent_at slots b).size) way (omega arith))
+    pub is_large : 131072 < greatest (map (λ b. (ext b).size) way) → first (size_rules nodes) ≡ Some fault.Large
+    is_large l = by (reached (λ b. (ext b).size) way (omega arith))
       where
         more : (n : ℕ) → 131072 < min 131073 n → nat_lt 131072 n ≡ true
         more n h = grind (arith, nat_tests)
 
-        by : Reached (λ b. (extent_at slots b).size) way → first (size_rules (nodes_of slots)) ≡ Some fault.Large
+        by : Reached (λ b. (ext b).size) way → first (size_rules nodes) ≡ Some fault.Large
         by r =
-            let s : (extent_at slots r.who).size ≡ greatest (map (λ b. (extent_at slots b).size) way) = r.same in
-            let p = present slots meets r.who (λ none. absurd (let e : (extent_at slots r.who).size ≡ 1 = ap (λ (x : Extent). x.size) (leaf_of slots meets r.who none) in omega arith)) (look_of slots r.who) refl in
-            let k : (extent_at slots r.who).size ≡ min 131073 (size_of (node_at (nodes_of slots)) r.who) = size_is r.who in
-            ap (λ o. first (o ∷ large (nodes_of slots) ∷ [])) not_deep
+            let s : (ext r.who).size ≡ greatest (map (λ b. (ext b).size) way) = r.same in
+            let p = present nodes ext meets r.who (λ none. absurd (let e : (ext r.who).size ≡ 1 = ap (λ (x : Extent). x.size) (leaf_of nodes ext meets r.who none) in omega arith)) (node_at nodes r.who) refl in
+            let k : (ext r.who).size ≡ min 131073 (size_of (node_at nodes) r.who) = size_is r.who in
+            ap (λ o. first (o ∷ large nodes ∷ [])) not_deep
             ∙ ap (λ t. first (when t fault.Large ∷ []))
-            (any_at (λ b. nat_lt 131072 (size_of (node_at (nodes_of slots)) b)) (nodes_of slots) r.who p.0 (found slots r.who ∙ p.1) (more (size_of (node_at (nodes_of slots)) r.who) (omega arith)))
+            (any_at (λ b. nat_lt 131072 (size_of (node_at nodes) b)) nodes r.who p.0 (p.1) (more (size_of (node_at nodes) r.who) (omega arith)))
 
-    pub is_fine : greatest (map (λ b. (extent_at slots b).size) way) ≤ 131072 → first (size_rules (nodes_of slots)) ≡ None
+    pub is_fine : greatest (map (λ b. (ext b).size) way) ≤ 131072 → first (size_rules nodes) ≡ None
     is_fine l =
-        ap (λ o. first (o ∷ large (nodes_of slots) ∷ [])) not_deep
+        ap (λ o. first (o ∷ large nodes ∷ [])) not_deep
         ∙ ap (λ t. first (when t fault.Large ∷ []))
-        (any_none (λ b. nat_lt 131072 (size_of (node_at (nodes_of slots)) b)) (nodes_of slots)
-        (from_found (λ e. nat_lt 131072 (size_of (node_at (nodes_of slots)) e.0) ≡ false) (nodes_of slots) (nodes_of slots) (λ e f. each e.0) (all_found (nodes_of slots) (rising slots))))
+        (any_none (λ b. nat_lt 131072 (size_of (node_at nodes) b)) nodes
+        (from_found (λ e. nat_lt 131072 (size_of (node_at nodes) e.0) ≡ false) nodes nodes (λ e f. each e.0) (all_found nodes up)))
       where
         not_more : (n : ℕ) → min 131073 n ≤ 131072 → nat_lt 131072 n ≡ false
         not_more n h = grind (arith, nat_tests)
 
-        each : (b : ℕ) → nat_lt 131072 (size_of (node_at (nodes_of slots)) b) ≡ false
+        each : (b : ℕ) → nat_lt 131072 (size_of (node_at nodes) b) ≡ false
         each b = by (is_in b way) refl
           where
-            by : (t : Bool) → is_in b way ≡ t → nat_lt 131072 (size_of (node_at (nodes_of slots)) b) ≡ false
+            by : (t : Bool) → is_in b way ≡ t → nat_lt 131072 (size_of (node_at nodes) b) ≡ false
             by true e =
-                let k : (extent_at slots b).size ≤ greatest (map (λ b. (extent_at slots b).size) way) = height_above (λ b. (extent_at slots b).size) b way e in
-                let s : (extent_at slots b).size ≡ min 131073 (size_of (node_at (nodes_of slots)) b) = size_is b in
-                not_more (size_of (node_at (nodes_of slots)) b) (omega arith)
+                let k : (ext b).size ≤ greatest (map (λ b. (ext b).size) way) = height_above (λ b. (ext b).size) b way e in
+                let s : (ext b).size ≡ min 131073 (size_of (node_at nodes) b) = size_is b in
+                not_more (size_of (node_at nodes) b) (omega arith)
             by false e =
-                let k : (extent_at slots b).size ≤ 131072 = (outside b e).small in
-                let s : (extent_at slots b).size ≡ min 131073 (size_of (node_at (nodes_of slots)) b) = size_is b in
-                not_more (size_of (node_at (nodes_of slots)) b) (omega arith)
+                let k : (ext b).size ≤ 131072 = (outside b e).small in
+                let s : (ext b).size ≡ min 131073 (size_of (node_at nodes) b) = size_is b in
+                not_more (size_of (node_at nodes) b) (omega arith)

@@ -1,24 +1,21 @@
 -- Ways up from a node, and extents reckoned along them.
-use Rattle.std.proofs.Common.{◌≡◌, ◌≢◌, ℕ, zero, suc, ◌+◌, ◌-◌, ◌<◌, ◌≤◌, min, max, Bool, true, false, cond, ◌||◌, ◌==◌, ◌⊎◌, inl, inr, List, [], ◌∷◌, ◌++◌, map, sum, length, get_or, take, reverse, Option, Some, None, refl, sym, ◌∙◌, ap, subst, arith, zero-add}
-use Rattle.std.specs.List.{list_any, fold, AllByRecursion}
-use Rattle.std.specs.Option.{option_map, option_map_or}
+use Rattle.std.proofs.Common.{◌≡◌, ℕ, zero, suc, ◌+◌, ◌-◌, ◌<◌, ◌≤◌, min, max, Bool, true, false, cond, ◌||◌, ◌==◌, ◌⊎◌, inl, inr, List, [], ◌∷◌, map, sum, length, get_or, take, reverse, refl, sym, ◌∙◌, ap, subst, arith}
+use Rattle.std.specs.List.{fold, AllByRecursion}
 use Rattle.std.proofs.lemmas.List.{take_more, reverse-append}
 use Rattle.std.proofs.lemmas.List.Sums.{sum_by-cons}
 use Rattle.std.proofs.lemmas.List.Folds.{list_any_at}
 use Rattle.pf_edits.proofs.Marks.{in_reverse}
 use Rattle.std.proofs.lemmas.Bool.{eqb-true, eq-eqb}
-use Rattle.std.proofs.lemmas.Bool.Decides.{eqb_tells, nat_tests}
-use Rattle.pf_model.specs.declared.nodes.Node.{Node}
-use Rattle.pf_model.specs.Graphs.{Look, children_of, greatest, height_in, size_in, levels, height_of, size_of, is_below}
+use Rattle.std.proofs.lemmas.Bool.Decides.{nat_tests}
+use Rattle.pf_model.specs.Graphs.{Look, children_of, greatest, height_in, size_in, height_of, size_of}
 use Rattle.pf_model.specs.Limits.{has_child}
 use Rattle.pf_model.specs.Laws.{AreLow}
 use Rattle.pf_model.proofs.Places.{funext}
-use Rattle.pf_model.proofs.Levels.{levels_are, height_at_most, height_step, size_step, height_is, size_at_limit, low_at, children_low, no_height, all_map}
-use Rattle.pf_edits.specs.declared.records.Record.{Record}
+use Rattle.pf_model.proofs.Levels.{levels_are, height_at_most, height_step, size_step, size_at_limit, low_at, children_low, no_height, all_map}
 use Rattle.pf_edits.specs.declared.extents.Extent.{Extent}
-use Rattle.pf_edits.specs.Tables.{Slots, record_at}
+use Rattle.pf_edits.specs.Tables.{Slots}
 use Rattle.pf_edits.specs.Ways.{is_in, LeadUp}
-use Rattle.pf_edits.specs.Extents.{look_of, parents_of, leaf, joined, reckoned, extent_at, Meets, MeetBut, IsSound}
+use Rattle.pf_edits.specs.Extents.{look_of, leaf, joined, reckoned, extent_at, Meets, MeetBut, IsSound}
 
 -- Truth values
 
@@ -179,16 +176,16 @@ reckoned_same f g x (c ∷ cs) same out e =
     second true q h = absurd (cc)
     second false q h = h
 
--- the node at the head of a way reckoned anew: extents now meet the recursion there too
-pub meets_step : (look : Look) (f g : ℕ → Extent) (x : ℕ) (xs : List ℕ) → LeadUp look (x ∷ xs) → MeetBut look f (x ∷ xs)
+-- a node reckoned anew whose parents are all on a way: extents now meet the recursion there too
+pub meets_by : (look : Look) (f g : ℕ → Extent) (x : ℕ) (xs : List ℕ) → ((y : ℕ) → has_child look y x ≡ true → is_in y xs ≡ true) → MeetBut look f (x ∷ xs)
     → ((b : ℕ) → g b ≡ cond (b == x) (reckoned f (children_of look x)) (f b)) → MeetBut look g xs
-meets_step look f g x xs leads meets set id out = by (id == x) refl
+meets_by look f g x xs up meets set id out = by (id == x) refl
   where
     others : (b : ℕ) → (b == x) ≡ false → g b ≡ f b
     others b e = set b ∙ ap (λ t. cond t (reckoned f (children_of look x)) (f b)) e
 
     no_child : is_in x (children_of look id) ≡ false
-    no_child = no_true (is_in x (children_of look id)) (λ h. not_true (leads.0 id h) out)
+    no_child = no_true (is_in x (children_of look id)) (λ h. not_true (up id h) out)
 
     same : reckoned g (children_of look id) ≡ reckoned f (children_of look id)
     same = reckoned_same f g x (children_of look id) others no_child leaf
@@ -196,6 +193,11 @@ meets_step look f g x xs leads meets set id out = by (id == x) refl
     by : (t : Bool) → (id == x) ≡ t → g id ≡ reckoned g (children_of look id)
     by true e = set id ∙ ap (λ t. cond t (reckoned f (children_of look x)) (f id)) e ∙ ap (λ n. reckoned f (children_of look n)) (sym (eqb-true id x e)) ∙ sym same
     by false e = others id e ∙ meets id (in_cons x id xs e ∙ out) ∙ sym same
+
+-- the node at the head of a way
+pub meets_step : (look : Look) (f g : ℕ → Extent) (x : ℕ) (xs : List ℕ) → LeadUp look (x ∷ xs) → MeetBut look f (x ∷ xs)
+    → ((b : ℕ) → g b ≡ cond (b == x) (reckoned f (children_of look x)) (f b)) → MeetBut look g xs
+meets_step look f g x xs leads meets set = meets_by look f g x xs leads.0 meets set
 
 -- the rest of a way from its end
 pub rest_of : (xs : List ℕ) (i d : ℕ) → i < length xs → reverse (take (i + 1) xs) ≡ get_or xs i d ∷ reverse (take i xs)

@@ -1,12 +1,13 @@
 //! Going up from a node, and extents reckoned anew along the way.
-ghost use Rattle.std.specs.Prelude.{◌≡◌, ◌≤◌, ◌<◌, ◌==◌, ◌||◌, ℕ, true, false, if◌then◌else◌, reverse, map, max, Some, None, is_some, OnSome};
+ghost use Rattle.std.specs.Prelude.{◌≡◌, ◌≤◌, ◌<◌, ◌==◌, ◌||◌, ◌∷◌, [], length, slice_set, ℕ, true, false, if◌then◌else◌, reverse, map, max, Some, None, is_some, OnSome};
+ghost use Rattle.std.specs.List.{fold};
 ghost use Rattle.std.specs.Option.{option_copied, option_map};
 ghost use Rattle.pf_model.specs.Graphs.{children_of, greatest, is_below};
 ghost use Rattle.pf_model.specs.Limits.{has_child};
 ghost use Rattle.pf_model.specs.Laws.{AreLow};
 ghost use Rattle.pf_edits.specs.Tables.{record_at};
 ghost use Rattle.pf_edits.specs.Ways.{is_in, LeadUp};
-ghost use Rattle.pf_edits.specs.Extents.{look_of, parents_of, extent_at, with_extent, reckoned, Meets, MeetBut, IsSound};
+ghost use Rattle.pf_edits.specs.Extents.{look_of, parents_of, extent_at, with_extent, joined, reckoned, Meets, MeetBut, IsSound};
 
 use crate::extents::{Extent, LEAF};
 use crate::records::Records;
@@ -60,15 +61,32 @@ pub(crate) fn extent_at(records: &Records, id: u16) -> Extent
     }
 }
 
-/// The extent of a node with these children.
-fn over_children(records: &Records, children: &[u16]) -> Extent
-    ensures { result ≡ reckoned (extent_at records.now.slots) children.now }
+/// An extent with more children.
+fn over_more(records: &Records, start: Extent, children: &[u16]) -> Extent
+    ensures { result ≡ fold (λ e c. joined e (extent_at records.now.slots c)) start children.now }
 {
-    let mut extent = LEAF;
+    let mut extent = start;
     for child in children {
         extent = extent.over(extent_at(records, *child));
     }
     extent
+}
+
+/// The extent of a node with these children.
+pub(crate) fn over_children(records: &Records, children: &[u16]) -> Extent
+    ensures { result ≡ reckoned (extent_at records.now.slots) children.now }
+{
+    over_more(records, LEAF, children)
+}
+
+/// The extent of a node with children of which one is another.
+pub(crate) fn over_swapped(records: &Records, children: &[u16], place: usize, by: u16) -> Extent
+    requires { place < length children.now }
+    ensures { result ≡ reckoned (extent_at records.now.slots) (slice_set children.now place by) }
+{
+    let front = over_children(records, &children[..place]);
+    let middle = front.over(extent_at(records, by));
+    over_more(records, middle, &children[place + 1..])
 }
 
 /// The extent of a node from those of its children.
@@ -82,10 +100,10 @@ fn reckoned(records: &Records, id: u16) -> Extent
 }
 
 /// Sets the extent of a node, where it is there.
-fn set_extent(records: &mut Records, id: u16, extent: Extent)
+pub(crate) fn set_extent(records: &mut Records, id: u16, extent: Extent)
     ensures { (b : ℕ) → record_at records.new.slots b
         ≡ (if b == id then option_map (with_extent extent) (record_at records.old.slots b)
-            else record_at records.old.slots b) }
+        else record_at records.old.slots b) }
 {
     if let Some(mut record) = records.take(id) {
         record.extent = extent;
@@ -99,7 +117,7 @@ pub(crate) fn reckon(records: &mut Records, id: u16)
     ensures parents { (b : ℕ) → parents_of records.new.slots b ≡ parents_of records.old.slots b }
     ensures extents { (b : ℕ) → extent_at records.new.slots b
         ≡ (if b == id then reckoned (extent_at records.old.slots) (children_of (look_of records.old.slots) id)
-            else extent_at records.old.slots b) }
+        else extent_at records.old.slots b) }
 {
     let extent = reckoned(records, id);
     set_extent(records, id, extent);
@@ -119,6 +137,38 @@ pub(crate) fn reckon_all(records: &mut Records, way: &[u16])
     while left > 0 {
         left -= 1;
         reckon(records, way[left]);
+    }
+}
+
+/// Reckons the extent of a node anew, but for one node.
+fn reckon_other(records: &mut Records, at: u16, id: u16)
+    ensures nodes { (b : ℕ) → look_of records.new.slots b ≡ look_of records.old.slots b }
+    ensures parents { (b : ℕ) → parents_of records.new.slots b ≡ parents_of records.old.slots b }
+    ensures same { (at == id) ≡ true → (b : ℕ) → extent_at records.new.slots b ≡ extent_at records.old.slots b }
+    ensures extents { (at == id) ≡ false → (b : ℕ) → extent_at records.new.slots b
+        ≡ (if b == at then reckoned (extent_at records.old.slots) (children_of (look_of records.old.slots) at)
+        else extent_at records.old.slots b) }
+{
+    if at != id {
+        reckon(records, at);
+    }
+}
+
+/// Reckons extents anew along a way, from its end to its start, but for one node.
+pub(crate) fn reckon_others(records: &mut Records, way: &[u16], id: u16)
+    requires leads { LeadUp (look_of records.old.slots) (reverse way.now) }
+    requires meets { MeetBut (look_of records.old.slots) (extent_at records.old.slots) (id ∷ reverse way.now) }
+    ensures meets { MeetBut (look_of records.new.slots) (extent_at records.new.slots) (id ∷ []) }
+    ensures nodes { (b : ℕ) → look_of records.new.slots b ≡ look_of records.old.slots b }
+    ensures parents { (b : ℕ) → parents_of records.new.slots b ≡ parents_of records.old.slots b }
+    ensures others { (b : ℕ) → is_in b (reverse way.now) ≡ false
+        → extent_at records.new.slots b ≡ extent_at records.old.slots b }
+    ensures kept { extent_at records.new.slots id ≡ extent_at records.old.slots id }
+{
+    let mut left = way.len();
+    while left > 0 {
+        left -= 1;
+        reckon_other(records, way[left], id);
     }
 }
 

@@ -1,10 +1,10 @@
 //! Faults of edits, in the order of their rules.
-ghost use Rattle.std.specs.Prelude.{◌≡◌, ◌==◌, ◌||◌, ◌∷◌, ◌<◌, [], ℕ, true, false, nat_lt, length, None, is_some};
+ghost use Rattle.std.specs.Prelude.{◌≡◌, ◌==◌, ◌||◌, ◌∷◌, ◌<◌, [], ℕ, true, false, nat_lt, length, map, None, is_some};
 ghost use Rattle.std.specs.List.{list_any};
 ghost use Rattle.std.specs.Option.{option_copied};
 ghost use Rattle.pf_model.specs.Kinds.{is_geode};
-ghost use Rattle.pf_model.specs.Graphs.{node_at, is_below};
-ghost use Rattle.pf_model.specs.Limits.{has_child};
+ghost use Rattle.pf_model.specs.Graphs.{Nodes, node_at, is_below};
+ghost use Rattle.pf_model.specs.Limits.{has_child, IsRising};
 ghost use Rattle.pf_model.specs.Laws.{AreLow};
 ghost use Rattle.pf_model.specs.Edits.{first, when, absent, has_kind, child_count, is_child, cycle, full, make_rules, link_rules, room_rules};
 ghost use Rattle.pf_model.specs.Edits.{add_rules, insert_rules, swap_rules, replace_rules, remove_rules, delete_rules, size_rules};
@@ -139,7 +139,12 @@ fn cycle_or_full(records: &Records, way: &mut Way, parent: u16, child: u16) -> O
 }
 
 /// The fault of an Add that does not speak of the graph after it.
-pub(crate) fn fault_of_add(records: &Records, way: &mut Way, parent: u16, child: u16) -> Option<Fault>
+pub(crate) fn fault_of_add(
+    records: &Records,
+    way: &mut Way,
+    parent: u16,
+    child: u16,
+) -> Option<Fault>
     requires way { way.old ≡ [] }
     requires sound { IsSound records.now.slots }
     requires low { AreLow (look_of records.now.slots) }
@@ -296,8 +301,7 @@ fn taken(records: &Records, id: u16) -> Option<Fault>
 
 /// As many nodes as a graph may have.
 fn crowded(records: &Records) -> Option<Fault>
-    ensures fault { result ≡ when (nat_lt 4096 (length (nodes_of records.now.slots))) (Fault.Many 4097) }
-    ensures room { result ≡ None → 0 < records.now.spare }
+    ensures { result ≡ when (nat_lt 4096 (length (nodes_of records.now.slots))) (Fault.Many 4097) }
 {
     if records.len() > 4_096 {
         return Some(Fault::Many(4_097));
@@ -307,8 +311,7 @@ fn crowded(records: &Records) -> Option<Fault>
 
 /// The fault of making a node.
 pub(crate) fn fault_of_make(records: &Records, id: u16) -> Option<Fault>
-    ensures fault { result ≡ first (make_rules (nodes_of records.now.slots) id) }
-    ensures room { result ≡ None → 0 < records.now.spare }
+    ensures { result ≡ first (make_rules (nodes_of records.now.slots) id) }
 {
     if let Some(fault) = taken(records, id) {
         return Some(fault);
@@ -316,11 +319,12 @@ pub(crate) fn fault_of_make(records: &Records, id: u16) -> Option<Fault>
     crowded(records)
 }
 
-/// A chain or an unfolded size above the limits, where all such nodes are on a way.
+/// A chain or an unfolded size above the limits, of nodes whose extents these are and of which all off a way are within
+/// them.
 pub(crate) fn excess(records: &Records, way: &[u16]) -> Option<Fault>
-    requires meets { Meets (look_of records.now.slots) (extent_at records.now.slots) }
-    requires outside { (b : ℕ) → is_in b way.now ≡ false → IsWithin (extent_at records.now.slots b) }
-    ensures { result ≡ first (size_rules (nodes_of records.now.slots)) }
+    ensures { (nodes : Nodes) → IsRising (map (λ e. e.0) nodes) → Meets (node_at nodes) (extent_at records.now.slots)
+        → ((b : ℕ) → is_in b way.now ≡ false → IsWithin (extent_at records.now.slots b))
+        → result ≡ first (size_rules nodes) }
 {
     let greatest = climb::greatest_along(records, way);
     if greatest.height > 32 {

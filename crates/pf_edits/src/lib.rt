@@ -6,6 +6,7 @@ pub mod errors;
 pub(crate) mod extents;
 pub(crate) mod faults;
 pub mod graph;
+pub(crate) mod judge;
 pub(crate) mod links;
 pub(crate) mod nodes;
 pub(crate) mod parents;
@@ -17,3 +18,6 @@ pub(crate) mod work;
 
 pub use errors::EditsError;
 pub use graph::WorkGraph;
+
+#[cfg(test)]
+mod tests;

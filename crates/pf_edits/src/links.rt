@@ -1,5 +1,5 @@
 //! Other children of a node, with extents reckoned anew along the way up from it.
-ghost use Rattle.std.specs.Prelude.{◌≡◌, ◌≤◌, ◌==◌, ◌||◌, ◌∷◌, ◌++◌, [], ℕ, true, false, if◌then◌else◌, reverse, Some, None, is_some, IfOk, IfErr, OnOk, OnErr};
+ghost use Rattle.std.specs.Prelude.{◌≡◌, ◌≤◌, ◌==◌, ◌||◌, ◌∷◌, ◌++◌, [], ℕ, List, true, false, if◌then◌else◌, reverse, Some, is_some, OnOk, OnErr};
 ghost use Rattle.std.specs.Option.{option_map};
 ghost use Rattle.pf_model.specs.Graphs.{children_of, change, size_of, is_below};
 ghost use Rattle.pf_model.specs.Limits.{has_child};
@@ -7,10 +7,11 @@ ghost use Rattle.pf_model.specs.Laws.{AreLow};
 ghost use Rattle.pf_model.specs.NodeEdits.{with_children};
 ghost use Rattle.pf_model.specs.Edits.{first, size_rules};
 ghost use Rattle.pf_edits.specs.Ways.{is_in, LeadUp};
-ghost use Rattle.pf_edits.specs.Extents.{look_of, parents_of, extent_at, child_list, Meets, IsSound};
+ghost use Rattle.pf_edits.specs.Extents.{look_of, parents_of, extent_at, reckoned, child_list, Meets, IsSound};
 ghost use Rattle.pf_edits.specs.Listed.{nodes_of};
 
-use crate::climb::{climb, has_child, reckon_all};
+use crate::climb::{climb, has_child, reckon_all, reckon_others, set_extent};
+use crate::extents::Extent;
 use crate::faults::excess;
 use crate::records::Records;
 use crate::way::Way;
@@ -24,7 +25,7 @@ fn swap_children(records: &mut Records, id: u16, children: Ids) -> Ids
     ensures back { option_map child_list (look_of records.old.slots id) ≡ Some result }
     ensures nodes { (b : ℕ) → look_of records.new.slots b
         ≡ (if b == id then option_map (with_children children) (look_of records.old.slots b)
-            else look_of records.old.slots b) }
+        else look_of records.old.slots b) }
     ensures parents { (b : ℕ) → parents_of records.new.slots b ≡ parents_of records.old.slots b }
     ensures extents { (b : ℕ) → extent_at records.new.slots b ≡ extent_at records.old.slots b }
 {
@@ -48,7 +49,7 @@ fn relink_along(records: &mut Records, way: &[u16], id: u16, children: Ids) -> I
     ensures back { option_map child_list (look_of records.old.slots id) ≡ Some result }
     ensures nodes { (b : ℕ) → look_of records.new.slots b
         ≡ (if b == id then option_map (with_children children) (look_of records.old.slots b)
-            else look_of records.old.slots b) }
+        else look_of records.old.slots b) }
     ensures parents { (b : ℕ) → parents_of records.new.slots b ≡ parents_of records.old.slots b }
     ensures meets { Meets (look_of records.new.slots) (extent_at records.new.slots) }
     ensures others { (b : ℕ) → is_in b (reverse way.now) ≡ false
@@ -72,7 +73,7 @@ pub(crate) fn relink_freely(records: &mut Records, way: &mut Way, id: u16, child
     ensures back { option_map child_list (look_of records.old.slots id) ≡ Some result }
     ensures nodes { (b : ℕ) → look_of records.new.slots b
         ≡ (if b == id then option_map (with_children children) (look_of records.old.slots b)
-            else look_of records.old.slots b) }
+        else look_of records.old.slots b) }
     ensures parents { (b : ℕ) → parents_of records.new.slots b ≡ parents_of records.old.slots b }
     ensures sound { IsSound records.new.slots }
 {
@@ -82,47 +83,34 @@ pub(crate) fn relink_freely(records: &mut Records, way: &mut Way, id: u16, child
     older
 }
 
-/// Gives a node other children, all of which have it noted as a parent, unless the graph would grow too deep or too
-/// large.
-pub(crate) fn relink(
+/// The fault of depth or size that a graph would have where a node had other children, with which its extent is known. All
+/// stays as it is.
+pub(crate) fn fault_with(
     records: &mut Records,
     way: &mut Way,
     id: u16,
-    children: Ids,
-) -> Result<Ids, Fault>
+    extent: Extent,
+) -> Option<Fault>
     requires way { way.old ≡ [] }
     requires sound { IsSound records.old.slots }
     requires low { AreLow (look_of records.old.slots) }
     requires small { (b : ℕ) → size_of (look_of records.old.slots) b ≤ 131072 }
     requires there { is_some (look_of records.old.slots id) ≡ true }
-    requires noted { (x : ℕ) → is_in x children ≡ true → is_in id (parents_of records.old.slots x) ≡ true }
-    requires apart { (x : ℕ) → is_in x children ≡ true
-        → (x == id || is_below (look_of records.old.slots) x id) ≡ false }
+    ensures fault { (cs : List ℕ) → extent ≡ reckoned (extent_at records.old.slots) cs
+        → ((x : ℕ) → is_in x cs ≡ true → (x == id || is_below (look_of records.old.slots) x id) ≡ false)
+        → result ≡ first (size_rules (change id (with_children cs) (nodes_of records.old.slots))) }
     ensures way { way.new ≡ [] }
-    ensures back { IfOk result (λ cs. option_map child_list (look_of records.old.slots id) ≡ Some cs) }
-    ensures nodes { OnOk result ((b : ℕ) → look_of records.new.slots b
-        ≡ (if b == id then option_map (with_children children) (look_of records.old.slots b)
-            else look_of records.old.slots b)) }
-    ensures same { OnErr result ((b : ℕ) → look_of records.new.slots b ≡ look_of records.old.slots b) }
-    ensures none { OnOk result (first (size_rules (change id (with_children children) (nodes_of records.old.slots))) ≡ None) }
-    ensures fault { IfErr result (λ f.
-        first (size_rules (change id (with_children children) (nodes_of records.old.slots))) ≡ Some f) }
+    ensures nodes { (b : ℕ) → look_of records.new.slots b ≡ look_of records.old.slots b }
     ensures parents { (b : ℕ) → parents_of records.new.slots b ≡ parents_of records.old.slots b }
     ensures sound { IsSound records.new.slots }
 {
     climb(records, way, id);
-    let older = relink_along(records, way.as_slice(), id, children);
-    match excess(records, way.as_slice()) {
-        None => {
-            way.clear();
-            Ok(older)
-        }
-        Some(fault) => {
-            relink_along(records, way.as_slice(), id, older);
-            way.clear();
-            Err(fault)
-        }
-    }
+    set_extent(records, id, extent);
+    reckon_others(records, way.as_slice(), id);
+    let fault = excess(records, way.as_slice());
+    reckon_all(records, way.as_slice());
+    way.clear();
+    fault
 }
 
 /// Notes a parent of a node.

@@ -8,7 +8,8 @@ ghost use Rattle.pf_model.specs.Limits.{is_there, IsGraphWithinLimits};
 ghost use Rattle.pf_model.specs.Children.{replace_first, drop_first};
 ghost use Rattle.pf_model.specs.Copies.{named_by};
 ghost use Rattle.pf_model.specs.NodeEdits.{with_children, node_after, kind_after, is_attribute};
-ghost use Rattle.pf_model.specs.Edits.{first, size_rules, child_count, with_nodes, remains, fault_of, effect, Refuses};
+ghost use Rattle.std.specs.Result.{IsErrOf};
+ghost use Rattle.pf_model.specs.Edits.{child_count, with_nodes, remains, fault_of, effect, Refuses};
 ghost use Rattle.pf_model.specs.Fits.{fits};
 ghost use Rattle.pf_edits.specs.Ways.{is_in};
 ghost use Rattle.pf_edits.specs.Extents.{look_of};
@@ -16,18 +17,15 @@ ghost use Rattle.pf_edits.specs.Listed.{nodes_of};
 ghost use Rattle.pf_edits.specs.Working.{told, IsWorking};
 ghost use Rattle.pf_edits.specs.Undoing.{IsUndo, KeepsParents};
 
-use crate::faults::{
-    child_count, fault_of_add, fault_of_delete, fault_of_insert, fault_of_make, fault_of_remove,
-    fault_of_replace, find_node,
-};
-use crate::links::{note_link, relink, relink_freely};
+use crate::faults::{child_count, find_node};
+use crate::links::{note_link, relink_freely};
 use crate::nodes::{insert, remove, swap_kind};
 use crate::parents::Parents;
 use crate::records::Records;
 use crate::undo::{Older, Undo};
 use crate::way::Way;
 use pf_io::NoMemory;
-use pf_model::{Edit, EditError, Fault, Gone, Ids, Kind, Node, attribute_fault, kind_after};
+use pf_model::{Edit, EditError, Gone, Ids, Kind, Node, kind_after};
 use std::alloc::Global;
 
 /// Records with a way that is empty between edits, the number of the frame in preparation, the next serial, and the
@@ -117,21 +115,20 @@ impl Work {
     }
 
     /// Makes a node without children, born in the frame in preparation.
-    fn make(&mut self, id: u16, kind: Kind) -> Result<Undo, EditError>
+    fn make(&mut self, id: u16, kind: &Kind) -> Result<Undo, NoMemory>
         requires working { IsWorking self.old }
         requires serials { self.old.next_serial < 2 ^ 32 - 1 }
-        requires fits { fits (Edit.Make id kind) ≡ true }
+        requires fits { fits (Edit.Make id kind.now) ≡ true }
+        requires none { None ≡ fault_of (told self.old) (Edit.Make id kind.now) }
         ensures working { IsWorking self.new }
-        ensures done { OnOk result (fault_of (told self.old) (Edit.Make id kind) ≡ None) }
-        ensures after { OnOk result (told self.new ≡ effect (told self.old) (Edit.Make id kind)) }
-        ensures fault { IfErr result (λ e. Refuses e (fault_of (told self.old) (Edit.Make id kind))) }
+        ensures after { OnOk result (told self.new ≡ effect (told self.old) (Edit.Make id kind.now)) }
         ensures unchanged { OnErr result (told self.new ≡ told self.old) }
         ensures undo { IfOk result (λ u. IsUndo u self.old self.new) }
         ensures kept { OnErr result (KeepsParents self.old self.new) }
     {
-        if let Some(fault) = fault_of_make(&self.records, id) {
-            return Err(EditError::Fault(fault));
-        }
+        let kind = kind.copy()?;
+        let count = self.records.len();
+        prove!(count < 4_097);
         let alloc = *self.gone.allocator();
         let node = Node {
             serial: self.next_serial,
@@ -147,28 +144,23 @@ impl Work {
         })
     }
 
-    /// Gives a parent other children, of which one may be new, unless the graph would grow too deep or too large.
-    fn link(&mut self, parent: u16, child: u16, children: Ids) -> Result<Undo, EditError>
+    /// Gives a parent other children, of which one may be new.
+    fn link(&mut self, parent: u16, child: u16, children: Ids) -> Result<Undo, NoMemory>
         requires working { IsWorking self.old }
         requires there { is_there (node_at (nodes_of self.old.records.slots)) parent ≡ true }
         requires child { is_there (node_at (nodes_of self.old.records.slots)) child ≡ true }
         requires members { (x : ℕ) → is_in x children ≡ true
             → (is_in x (children_of (node_at (nodes_of self.old.records.slots)) parent) || child == x) ≡ true }
         requires apart { (child == parent || is_below (node_at (nodes_of self.old.records.slots)) child parent) ≡ false }
-        requires within { None ≡ first (size_rules (change parent (with_children children) (nodes_of self.old.records.slots)))
-            → IsGraphWithinLimits (with_nodes (change parent (with_children children)) (told self.old)) }
+        requires within { IsGraphWithinLimits (with_nodes (change parent (with_children children)) (told self.old)) }
         ensures working { IsWorking self.new }
-        ensures done { OnOk result
-            (first (size_rules (change parent (with_children children) (nodes_of self.old.records.slots))) ≡ None) }
         ensures after { OnOk result (told self.new ≡ with_nodes (change parent (with_children children)) (told self.old)) }
-        ensures fault { IfErr result (λ e. Refuses e
-            (first (size_rules (change parent (with_children children) (nodes_of self.old.records.slots))))) }
         ensures unchanged { OnErr result (told self.new ≡ told self.old) }
         ensures undo { IfOk result (λ u. IsUndo u self.old self.new) }
         ensures kept { OnErr result (KeepsParents self.old self.new) }
     {
         note_link(&mut self.records, child, parent)?;
-        let older = relink(&mut self.records, &mut self.way, parent, children)?;
+        let older = relink_freely(&mut self.records, &mut self.way, parent, children);
         Ok(Undo {
             id: parent,
             older: Older::Children(older),
@@ -176,73 +168,59 @@ impl Work {
     }
 
     /// Appends a child.
-    fn add(&mut self, parent: u16, child: u16) -> Result<Undo, EditError>
+    fn add(&mut self, parent: u16, child: u16) -> Result<Undo, NoMemory>
         requires working { IsWorking self.old }
+        requires none { None ≡ fault_of (told self.old) (Edit.Add parent child) }
         ensures working { IsWorking self.new }
-        ensures done { OnOk result (fault_of (told self.old) (Edit.Add parent child) ≡ None) }
         ensures after { OnOk result (told self.new ≡ effect (told self.old) (Edit.Add parent child)) }
-        ensures fault { IfErr result (λ e. Refuses e (fault_of (told self.old) (Edit.Add parent child))) }
         ensures unchanged { OnErr result (told self.new ≡ told self.old) }
         ensures undo { IfOk result (λ u. IsUndo u self.old self.new) }
         ensures kept { OnErr result (KeepsParents self.old self.new) }
     {
-        if let Some(fault) = fault_of_add(&self.records, &mut self.way, parent, child) {
-            return Err(EditError::Fault(fault));
-        }
-        let children = lengthened(&self.records, parent, child_count(&self.records, parent), child)?;
+        let place = child_count(&self.records, parent);
+        let children = lengthened(&self.records, parent, place, child)?;
         self.link(parent, child, children)
     }
 
     /// Puts a child before a place.
-    fn insert(&mut self, parent: u16, place: u16, child: u16) -> Result<Undo, EditError>
+    fn insert(&mut self, parent: u16, place: u16, child: u16) -> Result<Undo, NoMemory>
         requires working { IsWorking self.old }
+        requires fits { fits (Edit.Insert parent place child) ≡ true }
+        requires none { None ≡ fault_of (told self.old) (Edit.Insert parent place child) }
         ensures working { IsWorking self.new }
-        ensures done { OnOk result (fault_of (told self.old) (Edit.Insert parent place child) ≡ None) }
         ensures after { OnOk result (told self.new ≡ effect (told self.old) (Edit.Insert parent place child)) }
-        ensures fault { IfErr result (λ e. Refuses e (fault_of (told self.old) (Edit.Insert parent place child))) }
         ensures unchanged { OnErr result (told self.new ≡ told self.old) }
         ensures undo { IfOk result (λ u. IsUndo u self.old self.new) }
         ensures kept { OnErr result (KeepsParents self.old self.new) }
     {
-        if let Some(fault) = fault_of_insert(&self.records, &mut self.way, parent, place, child) {
-            return Err(EditError::Fault(fault));
-        }
         let children = lengthened(&self.records, parent, usize::from(place), child)?;
         self.link(parent, child, children)
     }
 
     /// Puts `by` at the first place that holds the child.
-    fn replace(&mut self, parent: u16, child: u16, by: u16) -> Result<Undo, EditError>
+    fn replace(&mut self, parent: u16, child: u16, by: u16) -> Result<Undo, NoMemory>
         requires working { IsWorking self.old }
+        requires none { None ≡ fault_of (told self.old) (Edit.Replace parent child by) }
         ensures working { IsWorking self.new }
-        ensures done { OnOk result (fault_of (told self.old) (Edit.Replace parent child by) ≡ None) }
         ensures after { OnOk result (told self.new ≡ effect (told self.old) (Edit.Replace parent child by)) }
-        ensures fault { IfErr result (λ e. Refuses e (fault_of (told self.old) (Edit.Replace parent child by))) }
         ensures unchanged { OnErr result (told self.new ≡ told self.old) }
         ensures undo { IfOk result (λ u. IsUndo u self.old self.new) }
         ensures kept { OnErr result (KeepsParents self.old self.new) }
     {
-        if let Some(fault) = fault_of_replace(&self.records, &mut self.way, parent, child, by) {
-            return Err(EditError::Fault(fault));
-        }
         let children = replaced(&self.records, parent, child, by)?;
         self.link(parent, by, children)
     }
 
     /// Takes out the first place that holds the child.
-    fn remove(&mut self, parent: u16, child: u16) -> Result<Undo, EditError>
+    fn remove(&mut self, parent: u16, child: u16) -> Result<Undo, NoMemory>
         requires working { IsWorking self.old }
+        requires none { None ≡ fault_of (told self.old) (Edit.Remove parent child) }
         ensures working { IsWorking self.new }
-        ensures done { OnOk result (fault_of (told self.old) (Edit.Remove parent child) ≡ None) }
         ensures after { OnOk result (told self.new ≡ effect (told self.old) (Edit.Remove parent child)) }
-        ensures fault { IfErr result (λ e. Refuses e (fault_of (told self.old) (Edit.Remove parent child))) }
         ensures unchanged { OnErr result (told self.new ≡ told self.old) }
         ensures undo { IfOk result (λ u. IsUndo u self.old self.new) }
         ensures kept { OnErr result (KeepsParents self.old self.new) }
     {
-        if let Some(fault) = fault_of_remove(&self.records, parent, child) {
-            return Err(EditError::Fault(fault));
-        }
         let children = shortened(&self.records, parent, child)?;
         let older = relink_freely(&mut self.records, &mut self.way, parent, children);
         Ok(Undo {
@@ -252,19 +230,15 @@ impl Work {
     }
 
     /// Takes a node out of the graph; its children stay.
-    fn delete(&mut self, id: u16) -> Result<Undo, EditError>
+    fn delete(&mut self, id: u16) -> Result<Undo, NoMemory>
         requires working { IsWorking self.old }
+        requires none { None ≡ fault_of (told self.old) (Edit.Delete id) }
         ensures working { IsWorking self.new }
-        ensures done { OnOk result (fault_of (told self.old) (Edit.Delete id) ≡ None) }
         ensures after { OnOk result (told self.new ≡ effect (told self.old) (Edit.Delete id)) }
-        ensures fault { IfErr result (λ e. Refuses e (fault_of (told self.old) (Edit.Delete id))) }
         ensures unchanged { OnErr result (told self.new ≡ told self.old) }
         ensures undo { IfOk result (λ u. IsUndo u self.old self.new) }
         ensures kept { OnErr result (KeepsParents self.old self.new) }
     {
-        if let Some(fault) = fault_of_delete(&self.records, id) {
-            return Err(EditError::Fault(fault));
-        }
         let remains = remains_of(&self.records, id)?;
         self.gone.reserve(1)?;
         match remove(&mut self.records, id) {
@@ -280,22 +254,18 @@ impl Work {
     }
 
     /// Changes the kind of one node.
-    fn set_attribute(&mut self, edit: &Edit) -> Result<Undo, EditError>
+    fn set_attribute(&mut self, edit: &Edit) -> Result<Undo, NoMemory>
         requires working { IsWorking self.old }
         requires attribute { is_attribute edit.now ≡ true }
         requires fits { fits edit.now ≡ true }
+        requires none { None ≡ fault_of (told self.old) edit.now }
         ensures working { IsWorking self.new }
-        ensures done { OnOk result (fault_of (told self.old) edit.now ≡ None) }
         ensures after { OnOk result (told self.new ≡ effect (told self.old) edit.now) }
-        ensures fault { IfErr result (λ e. Refuses e (fault_of (told self.old) edit.now)) }
         ensures unchanged { OnErr result (told self.new ≡ told self.old) }
         ensures undo { IfOk result (λ u. IsUndo u self.old self.new) }
         ensures kept { OnErr result (KeepsParents self.old self.new) }
     {
         let id = edit.named();
-        if let Some(fault) = attribute_fault(find_node(&self.records, id), edit) {
-            return Err(EditError::Fault(fault));
-        }
         let kind = new_kind(&self.records, self.time, edit)?;
         let older = swap_kind(&mut self.records, id, kind);
         Ok(Undo {
@@ -304,24 +274,20 @@ impl Work {
         })
     }
 
-    /// Makes an edit, or refuses it and stays as it was.
-    pub(crate) fn edit(&mut self, e: &Edit) -> Result<Undo, EditError>
+    /// Makes an edit without fault. Only want of memory can stop it.
+    fn apply(&mut self, e: &Edit) -> Result<Undo, NoMemory>
         requires working { IsWorking self.old }
         requires serials { self.old.next_serial < 2 ^ 32 - 1 }
         requires fits { fits e.now ≡ true }
+        requires none { None ≡ fault_of (told self.old) e.now }
         ensures working { IsWorking self.new }
-        ensures done { OnOk result (fault_of (told self.old) e.now ≡ None) }
         ensures after { OnOk result (told self.new ≡ effect (told self.old) e.now) }
-        ensures fault { IfErr result (λ r. Refuses r (fault_of (told self.old) e.now)) }
         ensures unchanged { OnErr result (told self.new ≡ told self.old) }
         ensures undo { IfOk result (λ u. IsUndo u self.old self.new) }
         ensures kept { OnErr result (KeepsParents self.old self.new) }
     {
         match e {
-            Edit::Make { id, kind } => {
-                let kind = kind.copy()?;
-                self.make(*id, kind)
-            }
+            Edit::Make { id, kind } => self.make(*id, kind),
             Edit::Add { parent, child } => self.add(*parent, *child),
             Edit::Insert {
                 parent,
@@ -342,6 +308,29 @@ impl Work {
             | Edit::Run { .. }
             | Edit::Stop { .. }
             | Edit::Verts { .. } => self.set_attribute(e),
+        }
+    }
+
+    /// Makes an edit, or refuses it and stays as it was. All its faults are tested before memory is asked.
+    pub(crate) fn edit(&mut self, e: &Edit) -> Result<Undo, EditError>
+        requires working { IsWorking self.old }
+        requires serials { self.old.next_serial < 2 ^ 32 - 1 }
+        requires fits { fits e.now ≡ true }
+        ensures working { IsWorking self.new }
+        ensures done { OnOk result (fault_of (told self.old) e.now ≡ None) }
+        ensures after { OnOk result (told self.new ≡ effect (told self.old) e.now) }
+        ensures fault { IfErr result (λ r. Refuses r (fault_of (told self.old) e.now)) }
+        ensures memory { IsErrOf result EditError.NoMemory → fault_of (told self.old) e.now ≡ None }
+        ensures unchanged { OnErr result (told self.new ≡ told self.old) }
+        ensures undo { IfOk result (λ u. IsUndo u self.old self.new) }
+        ensures kept { OnErr result (KeepsParents self.old self.new) }
+    {
+        if let Some(fault) = self.judge(e) {
+            return Err(EditError::Fault(fault));
+        }
+        match self.apply(e) {
+            Ok(undo) => Ok(undo),
+            Err(NoMemory) => Err(EditError::NoMemory),
         }
     }
 }

@@ -1,24 +1,45 @@
-use Rattle.std.proofs.Common.{◌≡◌, ℕ, List, None, refl, sym, ◌∙◌, ap, rules, length}
+use Rattle.std.proofs.Common.{◌≡◌, ◌<◌, ◌≤◌, ◌==◌, ◌||◌, ℕ, List, Option, None, true, false, is_some, nat_lt, nat_le, length, refl, sym, ◌∙◌, ap, subst, arith}
 use Rattle.std.specs.List.{insert}
-use Rattle.pf_model.specs.declared.edits.Edit.{Edit}
+use Rattle.pf_model.specs.Children.{replace_first}
 use Rattle.pf_model.specs.declared.edits.Edit.TheVariants as edit
-use Rattle.pf_model.specs.Graphs.{SceneGraph, node_at, children_of, change}
+use Rattle.pf_model.specs.declared.edits.Fault.TheVariants as fault
+use Rattle.pf_model.specs.Graphs.{SceneGraph, node_at, children_of, change, is_below}
 use Rattle.pf_model.specs.NodeEdits.{with_children}
-use Rattle.pf_model.specs.Edits.{first, add_rules, size_rules, with_nodes, effect}
-use Rattle.pf_model.proofs.Rules.{first_stops}
-use Rattle.pf_model.proofs.LinkLimits.{limits_add}
+use Rattle.pf_model.specs.Edits.{first, child_count, add_rules, insert_rules, replace_rules, with_nodes, effect}
+use Rattle.pf_model.proofs.Rules.{all_passed, when_not, there_from}
+use Rattle.pf_edits.specs.Ways.{is_in}
 use Rattle.pf_edits.specs.Working.{told}
-use Rattle.pf_edits.proofs.Works.{low_of}
-use Rattle.pf_edits.proofs.Ends.{add_is, ends_within, ends_done, ends_after, ends_fault}
+use Rattle.pf_edits.proofs.Ends.{add_is, insert_is, replace_is, add_passed, insert_passed, replace_passed, ends_within, ends_after, not_full, not_far, inserted_members, replaced_members}
 use Rattle.pf_edits.proofs.work.Work.add.Goals as goal
 
-pub fault_of_add-requires-clause-low : goal.fault_of_add-requires-clause-low
-fault_of_add-requires-clause-low c = low_of c.args.self.now c.requires.working
-
-pub returns-in-Some-clause-fault : goal.returns-in-Some-clause-fault
-returns-in-Some-clause-fault c =
+pub lengthened-requires-clause-there : goal.lengthened-requires-clause-there
+lengthened-requires-clause-there c =
     let g : SceneGraph = told c.args.self.now in
-    first_stops (add_rules g.nodes c.args.parent c.args.child) (size_rules (effect g (edit.Add c.args.parent c.args.child)).nodes) c.in-Some.fault (sym c.in-Some.is ∙ c.fault_of_add.ensures.fault)
+    there_from g.nodes c.args.parent (all_passed (add_rules g.nodes c.args.parent c.args.child) (add_passed g c.args.parent c.args.child c.requires.none)).0
+
+pub lengthened-requires-clause-room : goal.lengthened-requires-clause-room
+lengthened-requires-clause-room c =
+    let g : SceneGraph = told c.args.self.now in
+    not_full (child_count g.nodes c.args.parent) (fault.Many 257) (all_passed (add_rules g.nodes c.args.parent c.args.child) (add_passed g c.args.parent c.args.child c.requires.none)).1.1.1.1.1.0
+
+pub link-requires-clause-there : goal.link-requires-clause-there
+link-requires-clause-there c =
+    let g : SceneGraph = told c.args.self.now in
+    there_from g.nodes c.args.parent (all_passed (add_rules g.nodes c.args.parent c.args.child) (add_passed g c.args.parent c.args.child c.requires.none)).0
+
+pub link-requires-clause-child : goal.link-requires-clause-child
+link-requires-clause-child c =
+    let g : SceneGraph = told c.args.self.now in
+    there_from g.nodes c.args.child (all_passed (add_rules g.nodes c.args.parent c.args.child) (add_passed g c.args.parent c.args.child c.requires.none)).1.0
+
+pub link-requires-clause-members : goal.link-requires-clause-members
+link-requires-clause-members c = inserted_members (children_of (node_at (told c.args.self.now).nodes) c.args.parent) c.child_count-place.result c.args.child c.in_ok-children.children c.in_ok-children.ensures
+
+pub link-requires-clause-apart : goal.link-requires-clause-apart
+link-requires-clause-apart c =
+    let g : SceneGraph = told c.args.self.now in
+    when_not (c.args.child == c.args.parent || is_below (node_at g.nodes) c.args.child c.args.parent) (fault.Cycle c.args.parent c.args.child)
+    (all_passed (add_rules g.nodes c.args.parent c.args.child) (add_passed g c.args.parent c.args.child c.requires.none)).1.1.1.1.0
 
 made : (g : SceneGraph) (p c n : ℕ) (cs : List ℕ) → None ≡ first (add_rules g.nodes p c) → cs ≡ insert (children_of (node_at g.nodes) p) n c → n ≡ length (children_of (node_at g.nodes) p)
     → with_nodes (change p (with_children cs)) g ≡ effect g (edit.Add p c)
@@ -27,30 +48,13 @@ made g p c n cs none is len = add_is g p c cs none (is ∙ ap (λ m. insert (chi
 pub link-requires-clause-within : goal.link-requires-clause-within
 link-requires-clause-within c =
     let g : SceneGraph = told c.args.self.now in
-    let none : None ≡ first (add_rules g.nodes c.args.parent c.args.child) = search rules in
-    ends_within g (edit.Add c.args.parent c.args.child) (add_rules g.nodes c.args.parent c.args.child) c.args.parent c.in_ok-children.children
-    (made g c.args.parent c.args.child c.child_count.result c.in_ok-children.children none c.in_ok-children.ensures c.child_count.ensures) none refl
-    (limits_add g c.args.parent c.args.child c.requires.working.within)
-
-pub returns-clause-done : goal.returns-clause-done
-returns-clause-done c =
-    let g : SceneGraph = told c.args.self.now in
-    let none : None ≡ first (add_rules g.nodes c.args.parent c.args.child) = search rules in
-    ends_done g (edit.Add c.args.parent c.args.child) (add_rules g.nodes c.args.parent c.args.child) c.args.parent c.in_ok-children.children
-    (made g c.args.parent c.args.child c.child_count.result c.in_ok-children.children none c.in_ok-children.ensures c.child_count.ensures) none refl
-    c.link.result c.link.ensures.done
-
-pub returns-clause-fault : goal.returns-clause-fault
-returns-clause-fault c =
-    let g : SceneGraph = told c.args.self.now in
-    let none : None ≡ first (add_rules g.nodes c.args.parent c.args.child) = search rules in
-    ends_fault g (edit.Add c.args.parent c.args.child) (add_rules g.nodes c.args.parent c.args.child) c.args.parent c.in_ok-children.children
-    (made g c.args.parent c.args.child c.child_count.result c.in_ok-children.children none c.in_ok-children.ensures c.child_count.ensures) none refl
-    c.link.result c.link.ensures.fault
+    ends_within g (edit.Add c.args.parent c.args.child) c.args.parent c.in_ok-children.children
+    (made g c.args.parent c.args.child c.child_count-place.result c.in_ok-children.children (add_passed g c.args.parent c.args.child c.requires.none) c.in_ok-children.ensures c.child_count-place.ensures)
+    c.requires.working.within refl c.requires.none
 
 pub returns-clause-after : goal.returns-clause-after
 returns-clause-after c =
     let g : SceneGraph = told c.args.self.now in
-    let none : None ≡ first (add_rules g.nodes c.args.parent c.args.child) = search rules in
     ends_after c.link.result (told c.link.new.self) (with_nodes (change c.args.parent (with_children c.in_ok-children.children)) g) (effect g (edit.Add c.args.parent c.args.child))
-    (made g c.args.parent c.args.child c.child_count.result c.in_ok-children.children none c.in_ok-children.ensures c.child_count.ensures) c.link.ensures.after
+    (made g c.args.parent c.args.child c.child_count-place.result c.in_ok-children.children (add_passed g c.args.parent c.args.child c.requires.none) c.in_ok-children.ensures c.child_count-place.ensures)
+    c.link.ensures.after

@@ -1,14 +1,14 @@
-use Rattle.std.proofs.Common.{◌≡◌, ℕ, Option, None, true, is_some, refl, sym, ◌∙◌, ap, subst, rules}
+use Rattle.std.proofs.Common.{◌≡◌, Option, None, true, is_some, sym, ◌∙◌, ap, rules}
 use Rattle.pf_model.specs.declared.nodes.Node.{Node}
-use Rattle.pf_model.specs.Graphs.{Nodes, SceneGraph, node_at, change}
+use Rattle.pf_model.specs.Graphs.{node_at, change}
 use Rattle.pf_model.specs.Limits.{is_there}
 use Rattle.pf_model.specs.Copies.{named_by}
-use Rattle.pf_model.specs.NodeEdits.{with_kind, node_after}
-use Rattle.pf_model.specs.Edits.{fault_of, effect}
-use Rattle.pf_model.proofs.Rules.{attribute_effect}
+use Rattle.pf_model.specs.NodeEdits.{with_kind}
+use Rattle.pf_model.specs.Edits.{fault_of}
+use Rattle.pf_model.proofs.Rules.{attribute_effect, attribute_there, attribute_fault_is}
 use Rattle.pf_model.proofs.Changes.{change_kind}
 use Rattle.pf_edits.specs.Listed.{nodes_of}
-use Rattle.pf_edits.specs.Working.{told, IsWorking}
+use Rattle.pf_edits.specs.Working.{told}
 use Rattle.pf_edits.proofs.Listed.{found, changed_nodes}
 use Rattle.pf_edits.proofs.Works.{told_nodes, within_after, there_after}
 use Rattle.pf_edits.proofs.Undoes.{back_kind}
@@ -18,7 +18,8 @@ use Rattle.pf_edits.proofs.work.Work.set_attribute.Goals as goal
 
 pub swap_kind-older-requires-clause-there : goal.swap_kind-older-requires-clause-there
 swap_kind-older-requires-clause-there c =
-    let there : is_there (node_at (nodes_of c.args.self.now.records.slots)) (named_by c.args.edit.now) ≡ true = search rules in
+    let there : is_there (node_at (nodes_of c.args.self.now.records.slots)) (named_by c.args.edit.now) ≡ true =
+    attribute_there c.args.edit.now (node_at (nodes_of c.args.self.now.records.slots) (named_by c.args.edit.now)) c.requires.attribute (c.requires.none ∙ attribute_fault_is (told c.args.self.now) c.args.edit.now c.requires.attribute) in
     ap (λ (o : Option Node). is_some o) (sym (found c.args.self.now.records.slots c.named-id.result) ∙ ap (node_at (nodes_of c.args.self.now.records.slots)) c.named-id.ensures) ∙ there
 
 pub returns-clause-after : goal.returns-clause-after
@@ -35,12 +36,10 @@ pub returns-clause-working : goal.returns-clause-working
 returns-clause-working c =
     let w = c.args.self.now in
     let e = c.args.edit.now in
-    let none : None ≡ fault_of (told w) e =
-    sym c.in_default.is ∙ c.attribute_fault.ensures.fault (told w) (sym (c.find_node.ensures ∙ ap (node_at (nodes_of w.records.slots)) c.named-id.ensures)) in
     record {
       sound = c.swap_kind-older.ensures.sound;
       free = c.requires.working.free;
-      within = within_after (told w) _ e c.requires.working.within c.requires.fits none
+      within = within_after (told w) _ e c.requires.working.within c.requires.fits c.requires.none
           (told_nodes w.time w.next_serial w.gone.items _ _
           (changed_nodes w.records.slots c.swap_kind-older.new.records.slots c.named-id.result (with_kind c.in_ok-kind.kind) c.swap_kind-older.ensures.nodes
           ∙ ap (λ i. change i (with_kind c.in_ok-kind.kind) (nodes_of w.records.slots)) c.named-id.ensures
@@ -51,7 +50,8 @@ returns-clause-working c =
 pub returns-clause-undo : goal.returns-clause-undo
 returns-clause-undo c =
     let w = c.args.self.now in
-    let at : is_there (node_at (nodes_of c.args.self.now.records.slots)) (named_by c.args.edit.now) ≡ true = search rules in
+    let at : is_there (node_at (nodes_of c.args.self.now.records.slots)) (named_by c.args.edit.now) ≡ true =
+    attribute_there c.args.edit.now (node_at (nodes_of c.args.self.now.records.slots) (named_by c.args.edit.now)) c.requires.attribute (c.requires.none ∙ attribute_fault_is (told c.args.self.now) c.args.edit.now c.requires.attribute) in
     let there : is_some (look_of c.args.self.now.records.slots c.named-id.result) ≡ true =
     ap (λ (o : Option Node). is_some o) (sym (found c.args.self.now.records.slots c.named-id.result) ∙ ap (node_at (nodes_of c.args.self.now.records.slots)) c.named-id.ensures) ∙ at in
     record {
@@ -60,3 +60,7 @@ returns-clause-undo c =
           (back_kind w.records.slots c.swap_kind-older.new.records.slots c.named-id.result c.in_ok-kind.kind c.swap_kind-older.result c.swap_kind-older.ensures.back c.swap_kind-older.ensures.nodes);
       parents = λ b p h. ap (is_in p) (c.swap_kind-older.ensures.parents b) ∙ h;
     }
+
+pub new_kind-requires-clause-there : goal.new_kind-requires-clause-there
+new_kind-requires-clause-there c =
+    attribute_there c.args.edit.now (node_at (nodes_of c.args.self.now.records.slots) (named_by c.args.edit.now)) c.requires.attribute (c.requires.none ∙ attribute_fault_is (told c.args.self.now) c.args.edit.now c.requires.attribute)
