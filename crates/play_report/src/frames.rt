@@ -45,7 +45,8 @@ impl Totals {
         ensures shown { result.shown ≡ self.shown + stats.shown }
         ensures states { result.states ≡ self.states + stats.states }
         ensures visited { result.visited ≡ self.visited + stats.visited }
-        ensures bound { (stats.shown < 2 ^ 32) × (stats.states < 2 ^ 32) × (stats.visited < 2 ^ 32) }
+        ensures bound { (stats.shown < 2 ^ 32) × (stats.states < 2 ^ 32)
+            × (stats.visited < 2 ^ 32) }
     {
         Totals {
             shown: self.shown + u128::from(stats.shown),

@@ -1,4 +1,5 @@
-//! The report of a play: a line for each entry of its history and for each frame; and its summary in one line.
+//! The report of a play: a line for each entry of its history and for each frame; and its
+//! summary in one line.
 #![tactic(auto)]
 
 mod entries;

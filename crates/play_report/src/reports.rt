@@ -14,16 +14,19 @@ use pf_history::{Command, Entry, History};
 use pf_io::NoMemory;
 use std::alloc::Global;
 
-/// Appends the report of a history: a line for each entry, and then a line for each frame, whose numbers are handed in in
-/// turn, summed over the channels. Where memory runs out, `out` is as before.
+/// Appends the report of a history: a line for each entry, and then a line for each frame, whose
+/// numbers are handed in in turn, summed over the channels. Where memory runs out, `out` is as
+/// before.
 pub fn append_report(
     alloc: Global,
     out: &mut Vec<u8>,
     history: &History,
     stats: &[Stats],
 ) -> Result<(), NoMemory>
-    ensures text { OnOk result (out.new.items ≡ out.old.items ++ report_text history.now.entries stats.now) }
-    ensures report { (lens : Lens) (channels : ℕ) → stats.now ≡ stats_of_frames lens channels history.now.entries
+    ensures text { OnOk result (out.new.items
+        ≡ out.old.items ++ report_text history.now.entries stats.now) }
+    ensures report { (lens : Lens) (channels : ℕ)
+        → stats.now ≡ stats_of_frames lens channels history.now.entries
         → OnOk result (out.new.items ≡ out.old.items ++ report lens channels history.now.entries) }
     ensures kept { OnErr result (out.new.items ≡ out.old.items) }
 {
@@ -87,8 +90,9 @@ fn merges_in(entries: &[(u32, Entry)]) -> usize
     merges
 }
 
-/// Appends the summary of the history of a play that was made from the number `n`, in one line: how many Frames and merges
-/// it has, the numbers of all frames summed, and `sum`. Where memory runs out, `out` is as before.
+/// Appends the summary of the history of a play that was made from the number `n`, in one line:
+/// how many Frames and merges it has, the numbers of all frames summed, and `sum`. Where memory
+/// runs out, `out` is as before.
 pub fn append_summary(
     alloc: Global,
     out: &mut Vec<u8>,
@@ -97,9 +101,12 @@ pub fn append_summary(
     stats: &[Stats],
     sum: u64,
 ) -> Result<(), NoMemory>
-    ensures text { OnOk result (out.new.items ≡ out.old.items ++ summary_text n history.now.entries stats.now sum) }
-    ensures summary { (lens : Lens) (channels : ℕ) → stats.now ≡ stats_of_frames lens channels history.now.entries
-        → OnOk result (out.new.items ≡ out.old.items ++ summary lens channels n history.now.entries sum) }
+    ensures text { OnOk result (out.new.items
+        ≡ out.old.items ++ summary_text n history.now.entries stats.now sum) }
+    ensures summary { (lens : Lens) (channels : ℕ)
+        → stats.now ≡ stats_of_frames lens channels history.now.entries
+        → OnOk result (out.new.items
+        ≡ out.old.items ++ summary lens channels n history.now.entries sum) }
     ensures kept { OnErr result (out.new.items ≡ out.old.items) }
 {
     let entries = history.as_slice();

@@ -236,7 +236,8 @@ fn each_fault(rt: HostRuntime) -> Result<(), Fail> {
     let alloc = rt.alloc();
     let text = b"app run 3 : fault Absent 5\napp run 3 : fault Taken 5\napp run 3 : fault Kind 5\n\
 app run 3 : fault Place 9\napp run 3 : fault NotChild 1 2\napp run 3 : fault Cycle 1 2\n\
-app run 3 : fault Many 257\napp run 3 : fault Deep 33\napp run 3 : fault Large\napp run 3 : fault InUse 5\n";
+app run 3 : fault Many 257\napp run 3 : fault Deep 33\n\
+app run 3 : fault Large\napp run 3 : fault InUse 5\n";
     reports(&rt, alloc, faulty(alloc)?, &[], text)?;
     Ok(())
 }
