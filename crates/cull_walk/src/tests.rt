@@ -4,13 +4,14 @@ ghost use Rattle.std.specs.Option.{option_map};
 ghost use Rattle.fx_math.specs.Views.{bounds_of};
 
 use crate::{Stats, cull};
-use draw_list::DrawList;
+use draw_list::{DrawList, Span};
 use fx_math::{Box3, Lens, MAX_COORDINATE, Vec3, hull};
 use pf_model::{
     Euler, Geom, Ids, Kind, Node, NodeView, Pose, Ranges, SceneView, Steps, Tri, View, box_of_tris,
 };
 use std::alloc::Global;
 use std::marker::Brand;
+use std::process::Abort;
 use std::sync::ledger::{Blank, Ledger};
 use std::test::Fail;
 
@@ -137,26 +138,45 @@ fn facing(depth: i32) -> Result<Tri, Fail> {
     ))
 }
 
+/// A triangle whose box begins at x, at the right edge of the picture.
+fn beside(x: i32) -> Result<Tri, Fail> {
+    Ok(tri(
+        point(x, 4_096, 0)?,
+        point(8_192, 4_096, -1_000)?,
+        point(8_192, 4_096, 1_000)?,
+    ))
+}
+
+fn geom(alloc: Global, t: Tri) -> Result<Geom, Fail> {
+    Ok(Geom::new(Vec::from_slice(alloc, &[t])?)?)
+}
+
 fn geode(alloc: Global, state: u16, t: Tri) -> Result<Kind, Fail> {
-    let geom = Geom::new(Vec::from_slice(alloc, &[t])?)?;
+    let geom = geom(alloc, t)?;
     Ok(Kind::Geode { state, geom })
 }
 
-fn levels(alloc: Global, centre: Vec3, at: [u32; 3]) -> Result<Kind, Fail> {
-    let mut ranges = Ranges::new(alloc);
-    ranges.insert(0, at[0])?;
-    ranges.insert(1, at[1])?;
-    ranges.insert(2, at[2])?;
-    Ok(Kind::Lod { centre, ranges })
-}
-
 fn pane(alloc: Global, t: Tri) -> Result<Kind, Fail> {
-    let geom = Geom::new(Vec::from_slice(alloc, &[t])?)?;
+    let geom = geom(alloc, t)?;
     Ok(Kind::Glass {
         state: 0,
         alpha: 128,
         geom,
     })
+}
+
+fn ranges(alloc: Global, at: [u32; 3]) -> Result<Ranges, Fail> {
+    let mut ranges = Ranges::new(alloc);
+    ranges.insert(0, at[0])?;
+    ranges.insert(1, at[1])?;
+    ranges.insert(2, at[2])?;
+    Ok(ranges)
+}
+
+fn levels(alloc: Global, depth: i32, at: [u32; 3]) -> Result<Kind, Fail> {
+    let centre = point(0, depth, 0)?;
+    let ranges = ranges(alloc, at)?;
+    Ok(Kind::Lod { centre, ranges })
 }
 
 fn turned(h: i32, t: Vec3) -> Result<Kind, Fail> {
@@ -172,8 +192,30 @@ fn turned(h: i32, t: Vec3) -> Result<Kind, Fail> {
     })))
 }
 
-fn moved(t: Vec3) -> Result<Kind, Fail> {
-    turned(0, t)
+fn moved(x: i32, y: i32) -> Result<Kind, Fail> {
+    turned(0, point(x, y, 0)?)
+}
+
+/// A scene of one geode.
+fn alone(alloc: Global, t: Tri) -> Result<Scene, Fail> {
+    let mut scene = Scene::new(alloc)?;
+    let only = scene.put(geode(alloc, 0, t)?, &[])?;
+    scene.above(&[only])
+}
+
+/// Appends two nodes without children, and answers their ids.
+fn put_two(scene: &mut Scene, first: Kind, second: Kind) -> Result<[u16; 2], Fail> {
+    let first = scene.put(first, &[])?;
+    let second = scene.put(second, &[])?;
+    Ok([first, second])
+}
+
+/// A scene of two nodes below one of this kind.
+fn below(alloc: Global, kind: Kind, first: Kind, second: Kind) -> Result<Scene, Fail> {
+    let mut scene = Scene::new(alloc)?;
+    let children = put_two(&mut scene, first, second)?;
+    let only = scene.put(kind, &children)?;
+    scene.above(&[only])
 }
 
 fn culled<L: Ledger>(
@@ -206,123 +248,134 @@ fn numbers(
 }
 
 /// The numbers through a lens of two by two pixels.
-fn seen_from(view: &View, scene: &Scene, out: &mut DrawList) -> Result<(u32, u32, u32), Fail> {
+fn seen(view: &View, scene: &Scene, out: &mut DrawList) -> Result<(u32, u32, u32), Fail> {
     let lens = Lens::new(2, 2, 1, 1, MAX_COORDINATE).ok_or("a lens out of range")?;
     numbers(scene, 1, view, &lens, out)
 }
 
-fn seen(scene: &Scene, out: &mut DrawList) -> Result<(u32, u32, u32), Fail> {
-    seen_from(&View::home(), scene, out)
+/// The list of a scene, which has these numbers.
+fn listed(
+    rt: &impl Abort,
+    alloc: Global,
+    scene: &Scene,
+    wanted: (u32, u32, u32),
+) -> Result<DrawList, Fail> {
+    let mut list = DrawList::new(alloc);
+    let got = seen(&View::home(), scene, &mut list)?;
+    assert_eq!(rt; got, wanted);
+    Ok(list)
 }
 
-/// A geode under the scene whose box begins at x.
-fn edge(alloc: Global, x: i32) -> Result<Scene, Fail> {
-    let t = tri(
-        point(x, 4_096, 0)?,
-        point(8_192, 4_096, -1_000)?,
-        point(8_192, 4_096, 1_000)?,
-    );
-    let mut scene = Scene::new(alloc)?;
-    let only = scene.put(geode(alloc, 0, t)?, &[])?;
-    scene.above(&[only])
+/// The state of an item, its place, and how much nearer it is drawn.
+fn row(list: &DrawList, i: usize) -> Option<(u16, u32, u32)> {
+    let item = list.item(i)?;
+    Some((item.state, item.place, item.shift))
+}
+
+/// Where the origin of an item's coordinates lies.
+fn origin_of(list: &DrawList, i: usize) -> Option<Vec3> {
+    match list.item(i) {
+        Some(item) => Some(list.eye(item.joint, Vec3::ORIGIN)),
+        None => None,
+    }
+}
+
+fn kept_at(list: &DrawList, i: usize) -> Option<Span> {
+    Some(list.item(i)?.geom)
 }
 
 #[test]
 fn box_at_the_edge(rt: HostRuntime) -> Result<(), Fail> {
-    let mut list = DrawList::new(rt.alloc());
-    assert_eq!(rt; seen(&edge(rt.alloc(), 2_048)?, &mut list)?, (1, 1, 2));
-    assert_eq!(rt; list.len(), 1);
-    assert_eq!(rt; seen(&edge(rt.alloc(), 2_049)?, &mut list)?, (0, 0, 1));
-    assert_eq!(rt; list.len(), 0);
+    let at_the_edge = alone(rt.alloc(), beside(2_048)?)?;
+    listed(&rt, rt.alloc(), &at_the_edge, (1, 1, 2))?;
+    let outside = alone(rt.alloc(), beside(2_049)?)?;
+    listed(&rt, rt.alloc(), &outside, (0, 0, 1))?;
     Ok(())
 }
 
 /// One geode under two coordinate systems, of which the second is farther.
+fn shared(alloc: Global) -> Result<Scene, Fail> {
+    let mut scene = Scene::new(alloc)?;
+    let only = scene.put(geode(alloc, 0, facing(4_096)?)?, &[])?;
+    let near = scene.put(moved(0, 0)?, &[only])?;
+    let far = scene.put(moved(0, 4_096)?, &[only])?;
+    scene.above(&[near, far])
+}
+
 #[test]
 fn two_parents(rt: HostRuntime) -> Result<(), Fail> {
-    let mut scene = Scene::new(rt.alloc())?;
-    let shared = scene.put(geode(rt.alloc(), 0, facing(4_096)?)?, &[])?;
-    let near = scene.put(moved(Vec3::ORIGIN)?, &[shared])?;
-    let far = scene.put(moved(point(0, 4_096, 0)?)?, &[shared])?;
-    let scene = scene.above(&[near, far])?;
-    let mut list = DrawList::new(rt.alloc());
-    assert_eq!(rt; seen(&scene, &mut list)?, (2, 1, 5));
-    let first = *list.item(0).ok_or("no item")?;
-    let second = *list.item(1).ok_or("no item")?;
-    assert_eq!(rt; first.geom, second.geom);
-    assert_eq!(rt; list.eye(second.joint, Vec3::ORIGIN), point(0, 4_096, 0)?);
+    let list = listed(&rt, rt.alloc(), &shared(rt.alloc())?, (2, 1, 5))?;
+    assert_eq!(rt; kept_at(&list, 0), kept_at(&list, 1));
+    assert_eq!(rt; origin_of(&list, 1), Vec3::new(0, 4_096, 0));
     Ok(())
 }
 
 /// A scene that is its own child, which no graph may have: the walk ends after 32 nodes.
 #[test]
 fn cycle(rt: HostRuntime) -> Result<(), Fail> {
-    let mut scene = Scene::new(rt.alloc())?;
-    let only = scene.put(geode(rt.alloc(), 0, facing(4_096)?)?, &[])?;
-    let scene = scene.above(&[only])?.above(&[0])?;
-    let mut list = DrawList::new(rt.alloc());
-    assert_eq!(rt; seen(&scene, &mut list)?, (0, 0, 32));
+    let scene = alone(rt.alloc(), facing(4_096)?)?.above(&[0])?;
+    listed(&rt, rt.alloc(), &scene, (0, 0, 32))?;
     Ok(())
+}
+
+/// Two geodes of these states at one depth, below a node of this kind.
+fn geodes_below(alloc: Global, kind: Kind, states: [u16; 2]) -> Result<Scene, Fail> {
+    let first = geode(alloc, states[0], facing(4_096)?)?;
+    let second = geode(alloc, states[1], facing(4_096)?)?;
+    below(alloc, kind, first, second)
 }
 
 /// The distance of a level of detail is exactly the second range.
 #[test]
 fn level_on_a_range(rt: HostRuntime) -> Result<(), Fail> {
-    let mut scene = Scene::new(rt.alloc())?;
-    let nearer = scene.put(geode(rt.alloc(), 5, facing(4_096)?)?, &[])?;
-    let farther = scene.put(geode(rt.alloc(), 7, facing(4_096)?)?, &[])?;
-    let levels = levels(rt.alloc(), point(0, 4_096, 0)?, [0, 4_096, 8_192])?;
-    let level = scene.put(levels, &[nearer, farther])?;
-    let scene = scene.above(&[level])?;
-    let mut list = DrawList::new(rt.alloc());
-    assert_eq!(rt; seen(&scene, &mut list)?, (1, 1, 3));
-    assert_eq!(rt; list.item(0).ok_or("no item")?.state, 7);
+    let kind = levels(rt.alloc(), 4_096, [0, 4_096, 8_192])?;
+    let scene = geodes_below(rt.alloc(), kind, [5, 7])?;
+    let list = listed(&rt, rt.alloc(), &scene, (1, 1, 3))?;
+    assert_eq!(rt; row(&list, 0), Some((7, 0, 0)));
     Ok(())
 }
 
 /// The second child of a layer lies nearer by one step.
 #[test]
 fn decal_layer(rt: HostRuntime) -> Result<(), Fail> {
-    let mut scene = Scene::new(rt.alloc())?;
-    let ground = scene.put(geode(rt.alloc(), 0, facing(4_096)?)?, &[])?;
-    let decal = scene.put(geode(rt.alloc(), 0, facing(4_096)?)?, &[])?;
-    let layer = scene.put(Kind::Layer, &[ground, decal])?;
-    let scene = scene.above(&[layer])?;
-    let mut list = DrawList::new(rt.alloc());
-    assert_eq!(rt; seen(&scene, &mut list)?, (2, 1, 4));
-    assert_eq!(rt; list.item(0).ok_or("no item")?.shift, 0);
-    assert_eq!(rt; list.item(1).ok_or("no item")?.shift, 16);
+    let scene = geodes_below(rt.alloc(), Kind::Layer, [0, 0])?;
+    let list = listed(&rt, rt.alloc(), &scene, (2, 1, 4))?;
+    assert_eq!(rt; row(&list, 0), Some((0, 0, 0)));
+    assert_eq!(rt; row(&list, 1), Some((0, 1, 16)));
     Ok(())
+}
+
+fn panes(alloc: Global) -> Result<Scene, Fail> {
+    let mut scene = Scene::new(alloc)?;
+    let near = scene.put(pane(alloc, facing(2_048)?)?, &[])?;
+    let far = scene.put(pane(alloc, facing(8_192)?)?, &[])?;
+    scene.above(&[near, far])
 }
 
 /// Glass has no state, and the farther pane comes first.
 #[test]
 fn two_panes(rt: HostRuntime) -> Result<(), Fail> {
-    let mut scene = Scene::new(rt.alloc())?;
-    let near = scene.put(pane(rt.alloc(), facing(2_048)?)?, &[])?;
-    let far = scene.put(pane(rt.alloc(), facing(8_192)?)?, &[])?;
-    let scene = scene.above(&[near, far])?;
-    let mut list = DrawList::new(rt.alloc());
-    assert_eq!(rt; seen(&scene, &mut list)?, (2, 0, 3));
-    assert_eq!(rt; list.order(), 0);
-    assert_eq!(rt; list.item(0).ok_or("no item")?.place, 1);
+    let mut list = listed(&rt, rt.alloc(), &panes(rt.alloc())?, (2, 0, 3))?;
+    list.order();
+    assert_eq!(rt; row(&list, 0), Some((0, 1, 0)));
     Ok(())
 }
 
-/// The second channel looks the other way.
-#[test]
-fn two_channels(rt: HostRuntime) -> Result<(), Fail> {
-    let mut scene = Scene::new(rt.alloc())?;
-    let only = scene.put(geode(rt.alloc(), 0, facing(4_096)?)?, &[])?;
-    let scene = scene.above(&[only])?;
-    let back = View {
+fn backward() -> View {
+    View {
         eye: Vec3::ORIGIN,
         h: 1_800,
         p: 0,
         r: 0,
-    };
-    let mut list = DrawList::new(rt.alloc());
-    assert_eq!(rt; seen_from(&View::home(), &scene, &mut list)?, (1, 1, 2));
-    assert_eq!(rt; seen_from(&back, &scene, &mut list)?, (0, 0, 1));
+    }
+}
+
+/// The second channel looks the other way; one list serves both.
+#[test]
+fn two_channels(rt: HostRuntime) -> Result<(), Fail> {
+    let scene = alone(rt.alloc(), facing(4_096)?)?;
+    let mut list = listed(&rt, rt.alloc(), &scene, (1, 1, 2))?;
+    let got = seen(&backward(), &scene, &mut list)?;
+    assert_eq!(rt; got, (0, 0, 1));
     Ok(())
 }
