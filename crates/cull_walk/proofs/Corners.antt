@@ -1,6 +1,6 @@
 -- Triangles whose box is outside hit no pixel.
-use Rattle.std.proofs.Common.{◌≡◌, ◌∙◌, ℕ, zero, suc, ◌<◌, List, [], ◌∷◌, ◌++◌, length, Bool, true, false, Option, Some, None, ap, sym, refl, subst, arith}
-use Rattle.std.specs.Prelude.{map, fold, flat_map, IsTrue}
+use Rattle.std.proofs.Common.{◌≡◌, ℕ, zero, suc, ◌<◌, List, [], ◌∷◌, ◌++◌, length, true, false, Option, Some, None, arith}
+use Rattle.std.specs.Prelude.{map, fold, flat_map}
 use Rattle.std.specs.List.{All, AllByRecursion, slice_index_or}
 use Rattle.std.specs.Option.{option_map}
 use Rattle.std.proofs.lemmas.Int.{ints}
@@ -12,7 +12,6 @@ use Rattle.fx_math.specs.Steps.{origin}
 use Rattle.fx_math.specs.declared.vectors.Vec3.{Vec3}
 use Rattle.fx_math.specs.declared.lenses.Lens.{Lens}
 use Rattle.fx_math.proofs.Containment.{hull-first, hull-second, inside_same, inside_trans, inside_holds, carry-holds}
-use Rattle.pf_bounds.specs.Outside.{is_outside}
 use Rattle.pf_bounds.proofs.Culling.{outside_hidden}
 use Rattle.pf_model.specs.declared.geometry.Tri.{Tri}
 use Rattle.pf_model.specs.Boxes.{box_of_tris, corners}

@@ -1,7 +1,5 @@
 -- The picture of what is shown, in any order, is that of the whole walk.
-use Rattle.std.proofs.Common.{◌≡◌, ◌∙◌, ℕ, ◌<◌, List, [], ◌∷◌, Bool, true, false, cond, not, ap, sym, refl, subst}
-use Rattle.std.specs.Prelude.{filter}
-use Rattle.std.specs.List.{All}
+use Rattle.std.proofs.Common.{◌≡◌, ℕ, ◌<◌, List, [], ◌∷◌, Bool, true, false, cond, not, sym, refl, subst}
 use Rattle.std.specs.List.Sorted.{IsPermutation}
 use Rattle.std.proofs.lemmas.List.Elements.{All-nil, All-cons}
 use Rattle.std.proofs.lemmas.List.Sorted.{IsPermutation-refl, IsPermutation-sym, IsPermutation-cons, IsPermutation-trans, IsPermutation-middle}
@@ -12,7 +10,6 @@ use Rattle.pf_model.specs.Walks.{Instance, instance_box, instances, walk}
 use Rattle.pf_model.proofs.Numbering.{places_rise}
 use Rattle.draw_list.specs.Order.{draw_order, put_in, in_draw_order}
 use Rattle.draw_list.specs.Shown.{is_off, shown, draw_list}
-use Rattle.tri_cover.specs.Labels.{renumbered}
 use Rattle.tri_cover.specs.LeftOut.{HasNoHit, LeavesOutNoHit}
 use Rattle.tri_cover.proofs.Rising.{culled}
 use Rattle.tri_cover.proofs.Unseen.{missed_by_all}

@@ -1,31 +1,30 @@
 -- Where there is room, the cull adds what is shown, and tests each node that is visited once.
-use Rattle.std.proofs.Common.{◌≡◌, ◌∙◌, ℕ, zero, suc, ◌+◌, ◌*◌, ◌≤◌, ◌<◌, List, [], ◌∷◌, ◌++◌, length, Bool, true, false, cond, not, ◌||◌, Option, Some, None, ap, sym, refl, subst, arith, append_assoc, min}
-use Rattle.std.specs.Prelude.{map, filter, count_by, flat_map, filter_map, sum, fold, option_map, nat_lt}
+use Rattle.std.proofs.Common.{◌≡◌, ◌∙◌, ℕ, zero, suc, ◌+◌, ◌*◌, ◌≤◌, ◌<◌, List, [], ◌∷◌, ◌++◌, length, Bool, true, false, cond, not, ◌||◌, Option, Some, None, ap, sym, refl, subst, arith}
+use Rattle.std.specs.Prelude.{map, filter, count_by, flat_map, filter_map, sum, option_map, nat_lt}
 use Rattle.std.specs.List.{cons_option, enumerate_from, slice_get}
 use Rattle.std.specs.Option.{option_map_or, option_and_then, option_to_list}
-use Rattle.std.proofs.lemmas.List.{map-append, append-nil}
+use Rattle.std.proofs.lemmas.List.{map-append}
 use Rattle.std.proofs.lemmas.List.Elements.{filter_map-append}
 use Rattle.std.proofs.lemmas.List.Sums.{sum_by-cons, sum_by-append}
 use Rattle.std.proofs.lemmas.Bool.Decides.{nat_tests}
 use Rattle.fx_math.specs.Plain.{Matrix, Bounds}
 use Rattle.fx_math.specs.declared.lenses.Lens.{Lens}
-use Rattle.pf_bounds.specs.Outside.{is_outside}
 use Rattle.pf_model.specs.declared.nodes.Chosen.{Chosen}
 use Rattle.pf_model.specs.declared.nodes.Chosen.TheVariants as chosen
 use Rattle.pf_model.specs.declared.nodes.Node.{Node}
-use Rattle.pf_model.specs.Graphs.{Look, children_of, size_in}
+use Rattle.pf_model.specs.Graphs.{Look, size_in}
 use Rattle.pf_model.specs.Kinds.{Surface, surface_of, own_steps, decal}
 use Rattle.pf_model.specs.Boxes.{AreBoxes, carried_tris_box, eye_box}
 use Rattle.pf_model.specs.Laws.{HasNodeBox}
 use Rattle.std.specs.List.{AllByRecursion}
-use Rattle.pf_model.specs.Walks.{Occurrence, Instance, instance_of, surface_in, instances_of, shown_children, chosen_in, child_of, children_in, under, walk_in}
+use Rattle.pf_model.specs.Walks.{Occurrence, Instance, instance_of, surface_in, shown_children, chosen_in, child_of, children_in, under, walk_in}
 use Rattle.pf_model.proofs.Numbering.{boxed}
 use Rattle.draw_list.specs.Joints.{steps_at}
 use Rattle.draw_list.specs.Shown.{is_off, is_culled, is_in_sight, is_visited}
 use Rattle.draw_list.specs.Lists.{Drawables}
 use Rattle.cull_walk.specs.Working.{Scene, Work, At, counted, tested, in_frustum, box_in_sight, own_pose, joint_below, with_drawn, with_below, child_at, over, below, entered, met, culled}
 use Rattle.cull_walk.proofs.Pruning.{AreRight, filter-append, out_of_sight, none_visited, has_off_above}
-use Rattle.cull_walk.proofs.Adding.{IsSound, Extends, Adds, adds_none, adds_trans, adds_wider, extends_itself, extends_trans}
+use Rattle.cull_walk.proofs.Adding.{IsSound, Extends, Adds, adds_none, adds_trans, adds_wider}
 use Rattle.cull_walk.proofs.Own.{IsAt, own, own_list, own_adds, IsLower, lowered}
 
 -- what occurrences draw, without ids and places

@@ -1,6 +1,6 @@
 -- Instances whose places rise have one order in which they are drawn.
-use Rattle.std.proofs.Common.{◌≡◌, ◌∙◌, ℕ, zero, suc, ◌+◌, ◌≤◌, List, [], ◌∷◌, length, Bool, true, false, cond, not, ◌&&◌, ◌||◌, ap, sym, refl, subst, arith, get_or, eq-eqb, add-one}
-use Rattle.std.specs.Prelude.{filter, count_by, ◌==◌, is_none, Option, Some, None}
+use Rattle.std.proofs.Common.{◌≡◌, ◌∙◌, ℕ, ◌+◌, ◌≤◌, List, [], ◌∷◌, Bool, true, false, cond, not, ◌&&◌, ◌||◌, ap, sym, refl, subst, arith, get_or, eq-eqb, add-one}
+use Rattle.std.specs.Prelude.{count_by, ◌==◌}
 use Rattle.std.specs.Cmp.{IsStrictWeakOrder}
 use Rattle.std.specs.List.Sorted.{IsPermutation, IsSortedBy, ties}
 use Rattle.std.proofs.lemmas.Bool.Decides.{nat_tests}

@@ -1,6 +1,6 @@
 -- What a node adds by itself: the item of a geode, the joint of a coordinate system.
-use Rattle.std.proofs.Common.{◌≡◌, ◌∙◌, ℕ, zero, suc, ◌+◌, ◌-◌, ◌≤◌, ◌<◌, List, [], ◌∷◌, ◌++◌, length, take, drop, Bool, true, false, cond, ◌||◌, Option, Some, None, ap, sym, refl, subst, arith, get_or, set, length-append, length-set, get_or-set_same, get_or-set_other, take_all, eq-eqb, true≢false}
-use Rattle.std.specs.Prelude.{map, is_some, ◌==◌, nat_lt, nat_le, option_map, ◌≢◌}
+use Rattle.std.proofs.Common.{◌≡◌, ◌∙◌, ℕ, zero, suc, ◌+◌, ◌-◌, ◌≤◌, ◌<◌, List, [], ◌∷◌, ◌++◌, length, take, drop, Bool, true, false, cond, ◌||◌, Option, Some, None, ap, sym, refl, subst, arith, set, length-append, length-set, get_or-set_same, get_or-set_other, take_all, eq-eqb, true≢false}
+use Rattle.std.specs.Prelude.{is_some, ◌==◌, nat_lt, nat_le, option_map, ◌≢◌}
 use Rattle.std.specs.Option.{option_map_or, option_to_list}
 use Rattle.std.proofs.lemmas.Bool.{eqb-true}
 use Rattle.std.proofs.lemmas.List.{append-nil}
@@ -18,13 +18,13 @@ use Rattle.pf_model.specs.Totals.{triangles_of}
 use Rattle.pf_model.specs.Walks.{Occurrence, Instance, instance_of, distance_of}
 use Rattle.draw_list.specs.declared.items.Span.{Span}
 use Rattle.draw_list.specs.declared.items.Item.{Item}
-use Rattle.draw_list.specs.Joints.{JointList, steps_at, joint_above, with_joint}
+use Rattle.draw_list.specs.Joints.{JointList, steps_at, joint_above}
 use Rattle.draw_list.specs.Items.{ItemList, tris_at, instance_of_item, with_item}
 use Rattle.draw_list.specs.Kept.{KeptTris, span_at, empty_span, next_span, kept_span, with_kept}
 use Rattle.draw_list.specs.Lists.{Drawables}
 use Rattle.cull_walk.specs.Working.{At, tint_at, item_at, with_surface, with_drawn, own_pose, joint_below, with_below}
-use Rattle.cull_walk.proofs.Unkept.{unkept, unkept_at, kept_less, one_unkept}
-use Rattle.cull_walk.proofs.Adding.{IsSpanOf, IsThere, AreThere, IsSound, Extends, Adds, adds_none, still_there, there_both, extends_itself, drawn_in, numbered}
+use Rattle.cull_walk.proofs.Unkept.{unkept_at, kept_less, one_unkept}
+use Rattle.cull_walk.proofs.Adding.{IsSpanOf, AreThere, IsSound, Extends, Adds, adds_none, there_both, extends_itself}
 
 -- where an occurrence stands in a list
 pub record IsAt (d : Drawables) (a : At) (o : Occurrence) : Type 0 where

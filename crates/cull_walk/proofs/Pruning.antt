@@ -8,7 +8,6 @@ use Rattle.fx_math.specs.Plain.{Matrix, Bounds}
 use Rattle.fx_math.specs.Fixed.{carry_box}
 use Rattle.fx_math.specs.declared.lenses.Lens.{Lens}
 use Rattle.fx_math.proofs.Containment.{carry_box-IsBox, carry_box-append}
-use Rattle.pf_bounds.specs.Outside.{is_outside}
 use Rattle.pf_bounds.proofs.Culling.{outside_parts}
 use Rattle.pf_model.specs.declared.geometry.Tri.{Tri}
 use Rattle.pf_model.specs.declared.nodes.Chosen.{Chosen}
@@ -20,7 +19,7 @@ use Rattle.fx_math.specs.Plain.{Point}
 use Rattle.pf_model.specs.Kinds.{geom_of, own_steps, chosen_of}
 use Rattle.pf_model.specs.Graphs.{Look}
 use Rattle.pf_model.specs.Boxes.{box_step, eye_box}
-use Rattle.pf_model.specs.Laws.{Lies, IsBoxOrNone, ChildrenLie}
+use Rattle.pf_model.specs.Laws.{Lies, IsBoxOrNone}
 use Rattle.pf_model.specs.Walks.{Occurrence, shown_children, chosen_in, child_of, children_in, under, walk_in}
 use Rattle.pf_model.proofs.Nesting.{lies_carried, children_lie}
 use Rattle.draw_list.specs.Shown.{is_off, is_culled, is_in_sight, is_visited}

@@ -10,7 +10,7 @@ use Rattle.pf_model.specs.Graphs.{Look}
 use Rattle.pf_model.specs.Kinds.{Surface, surface_of}
 use Rattle.pf_model.specs.Boxes.{box_of, eye_box, carried_tris_box}
 use Rattle.pf_model.specs.Laws.{HasNodeBox}
-use Rattle.pf_model.specs.Walks.{Occurrence, Instance, instance_of, surface_in, instances_of, instances, walk}
+use Rattle.pf_model.specs.Walks.{Occurrence, Instance, instance_of, surface_in, instances, walk}
 use Rattle.pf_model.proofs.Numbering.{boxed_from_scratch}
 use Rattle.draw_list.specs.Shown.{is_off, is_in_sight, shown}
 use Rattle.tri_cover.specs.Labels.{placed, renumbered}

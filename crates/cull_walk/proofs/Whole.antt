@@ -1,19 +1,18 @@
 -- The cull of a whole scene, from a cleared list.
-use Rattle.std.proofs.Common.{◌≡◌, ◌∙◌, ℕ, zero, suc, ◌+◌, ◌≤◌, ◌<◌, List, [], ◌∷◌, ◌++◌, length, Bool, true, false, cond, not, ◌||◌, Option, Some, None, ap, sym, refl, subst, arith}
-use Rattle.std.specs.Prelude.{map, filter, count_by, flat_map, filter_map, sum}
+use Rattle.std.proofs.Common.{◌≡◌, ◌∙◌, ℕ, zero, suc, ◌+◌, ◌≤◌, ◌<◌, List, [], ◌∷◌, ◌++◌, length, Bool, true, false, cond, ◌||◌, Option, Some, None, ap, sym, refl, subst, arith}
+use Rattle.std.specs.Prelude.{map, filter, count_by, flat_map, filter_map}
 use Rattle.std.specs.List.{enumerate_from, list_any}
 use Rattle.std.specs.Option.{option_map_or}
 use Rattle.std.proofs.lemmas.List.Sums.{sum_by-append, sum_by-cons}
 use Rattle.fx_math.specs.Plain.{Matrix, Bounds}
-use Rattle.fx_math.specs.declared.lenses.Lens.{Lens}
 use Rattle.pf_model.specs.Angles.{Viewpoint}
 use Rattle.pf_model.specs.declared.nodes.Node.{Node}
-use Rattle.pf_model.specs.Graphs.{Look, size_in, size_of, children_of}
+use Rattle.pf_model.specs.Graphs.{Look, size_in, size_of}
 use Rattle.pf_model.specs.Kinds.{Surface}
-use Rattle.pf_model.specs.Boxes.{box_of, box_in, box_step}
+use Rattle.pf_model.specs.Boxes.{box_of}
 use Rattle.pf_model.specs.Limits.{KeepsLimits}
 use Rattle.pf_model.specs.Totals.{triangle_count}
-use Rattle.pf_model.specs.Walks.{Occurrence, Instance, instance_of, surface_in, instances_of, shown_children, chosen_in, child_of, children_in, under, walk_in, walk, scene_at, steps_of_view}
+use Rattle.pf_model.specs.Walks.{Occurrence, Instance, instance_of, surface_in, shown_children, chosen_in, child_of, children_in, under, walk_in, walk, scene_at, steps_of_view}
 use Rattle.pf_model.proofs.Levels.{size_at_limit}
 use Rattle.pf_model.proofs.Solutions.{boxes_meet}
 use Rattle.pf_model.proofs.Nesting.{box_is_box}
@@ -25,11 +24,10 @@ use Rattle.draw_list.specs.Shown.{is_in_sight, is_visited, shown, visited}
 use Rattle.draw_list.specs.declared.items.Item.{Item}
 use Rattle.draw_list.specs.declared.items.Span.{Span}
 use Rattle.cull_walk.specs.Working.{Scene, Work, At, culled}
-use Rattle.cull_walk.specs.Premises.{HasRoom, CanBeExact, unnamed}
-use Rattle.cull_walk.proofs.Pruning.{AreRight}
-use Rattle.cull_walk.proofs.Unkept.{unkept, all_unkept}
-use Rattle.cull_walk.proofs.Adding.{IsSound, AreThere, Adds, drawn_in, numbered}
-use Rattle.cull_walk.proofs.Own.{IsAt, own}
+use Rattle.cull_walk.specs.Premises.{CanBeExact, unnamed}
+use Rattle.cull_walk.proofs.Unkept.{all_unkept}
+use Rattle.cull_walk.proofs.Adding.{IsSound, AreThere, drawn_in, numbered}
+use Rattle.cull_walk.proofs.Own.{IsAt}
 use Rattle.cull_walk.proofs.Exact.{IsFit, Does, drawn, unlabelled, exact, sizes, sizes_shown, size_more, visits_next}
 
 -- ---- instances without ids

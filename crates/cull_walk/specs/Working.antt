@@ -1,8 +1,7 @@
 -- The cull as a function of its list: what it does on every scene, also where room is missing.
-use Rattle.std.specs.Prelude.{ℕ, zero, suc, ◌+◌, ◌*◌, min, ◌==◌, if◌then◌else◌, List, [], ◌∷◌, ◌++◌, map, fold, length, Option, Some, None, option_map}
+use Rattle.std.specs.Prelude.{ℕ, zero, suc, ◌+◌, ◌*◌, min, ◌==◌, if◌then◌else◌, List, fold, length, Option, Some, None, option_map}
 use Rattle.std.specs.Option.{option_map_or}
-use Rattle.fx_math.specs.Plain.{Matrix, Bounds}
-use Rattle.fx_math.specs.Fixed.{carry}
+use Rattle.fx_math.specs.Plain.{Bounds}
 use Rattle.fx_math.specs.declared.lenses.Lens.{Lens}
 use Rattle.pf_bounds.specs.Outside.{is_outside}
 use Rattle.pf_model.specs.declared.nodes.Kind.{Kind}
@@ -11,7 +10,7 @@ use Rattle.pf_model.specs.declared.nodes.Node.{Node}
 use Rattle.pf_model.specs.declared.poses.Pose.{Pose}
 use Rattle.pf_model.specs.declared.poses.Pose.TheVariants as pose
 use Rattle.pf_model.specs.Graphs.{Look}
-use Rattle.pf_model.specs.Kinds.{Surface, surface_of, pose_steps, decal, centre_of, chosen_of}
+use Rattle.pf_model.specs.Kinds.{Surface, surface_of, pose_steps, decal}
 use Rattle.pf_model.specs.Boxes.{squared_distance, eye_box}
 use Rattle.pf_model.specs.Walks.{shown_children, chosen_in}
 use Rattle.draw_list.specs.declared.items.Item.{Item}

@@ -1,4 +1,4 @@
-use Rattle.std.proofs.Common.{◌≡◌, ◌∙◌, ℕ, ◌+◌, ◌-◌, ◌*◌, ◌<◌, ◌≤◌, length, None, Some, ap, sym, refl, arith}
+use Rattle.std.proofs.Common.{◌≡◌, ◌∙◌, ℕ, ◌+◌, ◌-◌, ◌*◌, length, ap, arith}
 use Rattle.std.specs.Prelude.{slice_index}
 use Rattle.fx_math.specs.Plain.{Point, Bounds}
 use Rattle.fx_math.specs.Views.{bounds_of}
