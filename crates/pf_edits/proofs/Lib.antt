@@ -10,6 +10,7 @@ pub mod Rewrites
 pub mod Uses
 pub mod Climbs
 pub mod Trials
+pub mod Settles
 pub mod Sounds
 pub mod Works
 pub mod Ends

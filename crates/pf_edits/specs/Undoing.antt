@@ -1,7 +1,7 @@
 -- What undoes an edit.
-use Rattle.std.specs.Prelude.{◌≡◌, ℕ, ◌-◌, ◌==◌, ⊤, true, if◌then◌else◌, List, [], ◌∷◌, take, length, None, is_some}
-use Rattle.pf_model.specs.Graphs.{SceneGraph, node_at, change, put, without}
-use Rattle.pf_model.specs.Limits.{IsGraphWithinLimits}
+use Rattle.std.specs.Prelude.{◌≡◌, ℕ, ◌-◌, ◌==◌, ⊤, true, false, if◌then◌else◌, List, [], ◌∷◌, take, length, None, is_some}
+use Rattle.pf_model.specs.Graphs.{Look, SceneGraph, node_at, change, put, without}
+use Rattle.pf_model.specs.Limits.{has_child, IsGraphWithinLimits}
 use Rattle.pf_model.specs.NodeEdits.{with_children, with_kind}
 use Rattle.pf_model.specs.Edits.{with_nodes}
 use Rattle.pf_edits.specs.declared.undo.Older.{Older}
@@ -41,7 +41,8 @@ CanUndo id (older.Kind k) g parents = is_some (node_at g.nodes id) ≡ true
 pub record IsUndo (u : Undo) (old new : Work) : Type 0 where
   pub can : CanUndo u.id u.older (told new) (parents_of new.records.slots)
   pub before : graph_before u.id u.older (told new) ≡ told old
-  pub parents : (b p : ℕ) → is_in p (parents_of old.records.slots b) ≡ true → is_in p (parents_before u.id u.older (parents_of new.records.slots) b) ≡ true
+  pub parents : (b p : ℕ) → is_in p (parents_of old.records.slots b) ≡ true
+      → is_in p (parents_before u.id u.older (parents_of new.records.slots) b) ≡ true
 
 -- all parents that were noted are noted still
 abbrev pub KeepsParents : Work → Work → Type 0
@@ -58,3 +59,14 @@ AllUndoable g parents (u ∷ us) =
 abbrev pub before_all : SceneGraph → List Undo → SceneGraph
 before_all g [] = g
 before_all g (u ∷ us) = before_all (graph_before u.id u.older g) us
+
+-- the children that a node had before an edit that may have taken some away
+abbrev pub older_children : Older → List ℕ
+older_children older.Made = []
+older_children (older.Deleted r) = r.node.children
+older_children (older.Children cs) = cs
+older_children (older.Kind k) = []
+
+-- those of these nodes that are not its children do not have the id noted as a parent
+abbrev pub AreSettled : Look → (ℕ → List ℕ) → ℕ → List ℕ → Type 0
+AreSettled look parents id cs = (x : ℕ) → is_in x cs ≡ true → has_child look id x ≡ false → is_in id (parents x) ≡ false

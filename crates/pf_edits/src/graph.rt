@@ -111,7 +111,8 @@ impl WorkGraph {
         ensures memory { IsErrOf result EditError.NoMemory → fault_of self.old e.now ≡ None }
         ensures unchanged { OnErr result (self.new ≡ self.old) }
     {
-        self.work.edit(e)?;
+        let undo = self.work.edit(e)?;
+        self.work.settle(&undo);
         Ok(())
     }
 

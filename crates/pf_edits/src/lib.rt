@@ -12,6 +12,7 @@ pub(crate) mod nodes;
 pub(crate) mod parents;
 pub(crate) mod records;
 pub(crate) mod rollback;
+pub(crate) mod settle;
 pub(crate) mod undo;
 pub(crate) mod way;
 pub(crate) mod work;

@@ -10,7 +10,7 @@ ghost use Rattle.pf_edits.specs.Ways.{is_in, LeadUp};
 ghost use Rattle.pf_edits.specs.Extents.{look_of, parents_of, extent_at, reckoned, child_list, Meets, IsSound};
 ghost use Rattle.pf_edits.specs.Listed.{nodes_of};
 
-use crate::climb::{climb, has_child, reckon_all, reckon_others, set_extent};
+use crate::climb::{climb, has_child, is_in, reckon_all, reckon_others, set_extent};
 use crate::extents::Extent;
 use crate::faults::excess;
 use crate::records::Records;
@@ -132,6 +132,16 @@ fn note_parent(records: &mut Records, id: u16, parent: u16) -> Result<(), NoMemo
     }
 }
 
+/// Whether a parent of a node is noted.
+fn is_noted(records: &Records, id: u16, parent: u16) -> bool
+    ensures { result ≡ is_in parent (parents_of records.now.slots id) }
+{
+    match records.find(id) {
+        Some(record) => is_in(parent, record.parents.as_slice()),
+        None => false,
+    }
+}
+
 /// Makes sure that a parent of a node is noted, before the node is its child.
 pub(crate) fn note_link(records: &mut Records, id: u16, parent: u16) -> Result<(), NoMemory>
     requires sound { IsSound records.old.slots }
@@ -142,7 +152,7 @@ pub(crate) fn note_link(records: &mut Records, id: u16, parent: u16) -> Result<(
     ensures kept { (b : ℕ) → (p : ℕ) → is_in p (parents_of records.old.slots b) ≡ true
         → is_in p (parents_of records.new.slots b) ≡ true }
 {
-    if has_child(records, parent, id) {
+    if has_child(records, parent, id) || is_noted(records, id, parent) {
         return Ok(());
     }
     note_parent(records, id, parent)

@@ -1,5 +1,7 @@
 //! The nodes that have a node as a child.
-ghost use Rattle.std.specs.Prelude.{◌≡◌, [], ◌∷◌, ◌++◌, OnOk, OnErr};
+ghost use Rattle.std.specs.Prelude.{◌≡◌, ◌==◌, [], ◌∷◌, ◌++◌, ℕ, false, not, OnOk, OnErr};
+ghost use Rattle.std.specs.List.{filter};
+ghost use Rattle.pf_edits.specs.Ways.{is_in};
 
 use pf_io::NoMemory;
 use std::alloc::Global;
@@ -44,4 +46,19 @@ impl Parents {
         self.ids.push(id)?;
         Ok(())
     }
+
+    /// Forgets a parent.
+    pub(crate) fn forget(&mut self, id: u16)
+        ensures gone { is_in id self.new ≡ false }
+        ensures others { (b : ℕ) → (b == id) ≡ false → is_in b self.new ≡ is_in b self.old }
+    {
+        drop_all(&mut self.ids, id);
+    }
+}
+
+/// Drops each id that is this one.
+fn drop_all(ids: &mut Vec<u16>, id: u16)
+    ensures { ids.new.items ≡ filter (λ b. not (b == id)) ids.old.items }
+{
+    ids.retain(|other| *other != id);
 }

@@ -155,9 +155,11 @@ impl Work {
             place += 1;
             if let Err(error) = self.step(e, &mut done) {
                 self.roll_back(&mut done);
+                self.settle_all_undone(es);
                 return Err(EditsError::at(place, error));
             }
         }
+        self.settle_all(done.as_slice());
         Ok(())
     }
 }
