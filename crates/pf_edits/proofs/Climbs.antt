@@ -1,12 +1,12 @@
 -- Going up from a node, parent by parent.
-use Rattle.std.proofs.Common.{◌≡◌, ℕ, ◌+◌, ◌<◌, Bool, true, false, cond, ◌||◌, ◌==◌, ◌⊎◌, inl, inr, List, [], ◌∷◌, length, get_or, take, refl, sym, ◌∙◌, ap, subst}
+use Rattle.std.proofs.Common.{◌≡◌, ℕ, ◌+◌, ◌<◌, Bool, true, false, cond, ◌||◌, ◌==◌, ◌⊎◌, inl, inr, List, ◌∷◌, length, get_or, take, refl, sym, ◌∙◌, subst}
 use Rattle.std.proofs.lemmas.Bool.{eqb-true, eq-eqb}
 use Rattle.std.proofs.lemmas.List.Folds.{list_any_more}
 use Rattle.pf_model.specs.Graphs.{Look, is_below}
 use Rattle.pf_model.specs.Limits.{has_child}
 use Rattle.pf_model.specs.Laws.{AreLow}
 use Rattle.pf_edits.specs.Ways.{is_in, LeadUp}
-use Rattle.pf_edits.proofs.Ups.{head_or_rest, ahead, behind, not_true}
+use Rattle.pf_edits.proofs.Ups.{head_or_rest, ahead, behind}
 use Rattle.pf_edits.proofs.Relinks.{above_more}
 
 -- What is known of a way up from a node after some of its parents.
@@ -53,7 +53,10 @@ pub climbed_past : (look : Look) (start : List ℕ) (id : ℕ) (parents : List �
     → HasClimbed look start id (take i parents) way → (has_child look (get_or parents i 0) id ≡ true → is_in (get_or parents i 0) way ≡ true)
     → HasClimbed look start id (take (i + 1) parents) way
 climbed_past look start id parents i way h so this = record {
-  leads = so.leads; kept = so.kept; above = so.above; met = met_more look id parents i way way h (λ b k. k) this so.met;
+  leads = so.leads;
+  kept = so.kept;
+  above = so.above;
+  met = met_more look id parents i way way h (λ b k. k) this so.met;
 }
 
 -- the node itself, once all its parents are on the way
@@ -73,7 +76,8 @@ climbed_all look start id parents way more noted so is = subst
         × ((b : ℕ) → is_in b start ≡ true → is_in b (cond t way (id ∷ way)) ≡ true) × ((b : ℕ) → is_in b (cond t way (id ∷ way)) ≡ true → (is_in b start || (b == id || is_below look b id)) ≡ true)
     by true e = (so.leads, e, so.kept, so.above)
     by false e = (
-        (λ y k. so.met y (noted y k) k, so.leads),
-        ahead (id == id) (is_in id way) (eq-eqb id id refl),
-        λ b k. behind (id == b) (is_in b way) (so.kept b k),
-        λ b k. new b (head_or_rest (id == b) (is_in b way) k))
+      (λ y k. so.met y (noted y k) k, so.leads),
+      ahead (id == id) (is_in id way) (eq-eqb id id refl),
+      λ b k. behind (id == b) (is_in b way) (so.kept b k),
+      λ b k. new b (head_or_rest (id == b) (is_in b way) k),
+    )

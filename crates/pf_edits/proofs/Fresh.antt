@@ -1,5 +1,5 @@
 -- Records without nodes, and what the public calls tell.
-use Rattle.std.proofs.Common.{◌≡◌, ℕ, ◌≤◌, min, Bool, true, false, cond, ◌==◌, List, [], ◌∷◌, Option, Some, None, is_some, Result, Ok, Err, OnOk, refl, sym, ◌∙◌, ap, subst, arith}
+use Rattle.std.proofs.Common.{◌≡◌, ℕ, ◌≤◌, min, true, false, cond, ◌==◌, [], Option, None, is_some, Result, Ok, Err, OnOk, sym, ◌∙◌, ap, arith}
 use Rattle.std.specs.List.{list_any}
 use Rattle.std.specs.Option.{option_map, option_map_or}
 use Rattle.pf_model.specs.declared.nodes.Node.{Node}
@@ -9,12 +9,11 @@ use Rattle.pf_model.specs.Graphs.{Look, SceneGraph, node_at, children_of, size_o
 use Rattle.pf_model.specs.Limits.{has_child}
 use Rattle.pf_model.specs.Edits.{fault_of, effect, after}
 use Rattle.pf_edits.specs.declared.records.Record.{Record}
-use Rattle.pf_edits.specs.declared.extents.Extent.{Extent}
 use Rattle.pf_edits.specs.declared.work.Work.{Work}
 use Rattle.pf_edits.specs.Tables.{Slots, record_at}
-use Rattle.pf_edits.specs.Extents.{look_of, parents_of, extent_at, leaf, reckoned, IsSound}
+use Rattle.pf_edits.specs.Extents.{look_of, extent_at, leaf, reckoned, IsSound}
 use Rattle.pf_edits.specs.Listed.{nodes_of}
-use Rattle.pf_edits.specs.Working.{told, IsWorking}
+use Rattle.pf_edits.specs.Working.{IsWorking}
 use Rattle.pf_edits.proofs.Ups.{sizes_are}
 use Rattle.pf_edits.proofs.Listed.{nodes_are, looks}
 use Rattle.pf_edits.proofs.Works.{low_of, small_of}

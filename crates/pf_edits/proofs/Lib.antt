@@ -1,4 +1,5 @@
 pub mod Slots
+pub mod Counts
 pub mod Marks
 pub mod Ups
 pub mod Greatest

@@ -1,19 +1,19 @@
 -- The list of nodes is told by its look-up.
-use Rattle.std.proofs.Common.{◌≡◌, ℕ, zero, suc, ◌+◌, ◌<◌, ◌≤◌, Bool, true, false, cond, ◌==◌, List, [], ◌∷◌, map, length, Option, Some, None, is_some, refl, sym, ◌∙◌, ap, subst, arith, zero-add, add-zero}
+use Rattle.std.proofs.Common.{◌≡◌, ℕ, zero, suc, ◌+◌, ◌<◌, false, cond, ◌==◌, List, [], ◌∷◌, map, length, Option, Some, None, is_some, refl, sym, ◌∙◌, ap, subst, arith, zero-add, add-zero}
 use Rattle.std.specs.List.{AllByRecursion, count_by}
 use Rattle.std.specs.Option.{option_map}
 use Rattle.std.proofs.lemmas.List.Sums.{sum_by-cons}
 use Rattle.std.proofs.lemmas.Bool.{eq-eqb}
 use Rattle.std.proofs.lemmas.Bool.Decides.{nat_tests}
 use Rattle.pf_model.specs.declared.nodes.Node.{Node}
-use Rattle.pf_model.specs.Graphs.{Look, Nodes, node_at, change, put, without}
+use Rattle.pf_model.specs.Graphs.{Nodes, node_at, change, put, without}
 use Rattle.pf_model.specs.Limits.{IsRising}
 use Rattle.pf_model.proofs.Places.{funext, node_at_step, put_rising}
 use Rattle.pf_model.proofs.Changes.{without_rising}
 use Rattle.pf_model.proofs.Finds.{none_above, node_at_change, node_at_without, ids_change}
 use Rattle.pf_model.proofs.Named.{nodes_same, node_at_put_any}
 use Rattle.pf_edits.specs.declared.records.Record.{Record}
-use Rattle.pf_edits.specs.Tables.{Slots, record_at}
+use Rattle.pf_edits.specs.Tables.{Slots}
 use Rattle.pf_edits.specs.Extents.{look_of}
 use Rattle.pf_edits.specs.Listed.{nodes_from, nodes_of}
 

@@ -1,5 +1,5 @@
 -- Other children of one node.
-use Rattle.std.proofs.Common.{◌≡◌, ℕ, zero, suc, min, ◌≤◌, Bool, true, false, cond, ◌||◌, ◌==◌, ◌⊎◌, inl, inr, List, [], ◌∷◌, map, Option, Some, None, is_some, refl, sym, ◌∙◌, ap, subst, arith}
+use Rattle.std.proofs.Common.{◌≡◌, ℕ, zero, suc, ◌≤◌, Bool, true, false, cond, ◌||◌, ◌==◌, ◌⊎◌, inl, inr, List, [], ◌∷◌, Option, Some, None, is_some, refl, sym, ◌∙◌, ap, subst, arith}
 use Rattle.std.specs.List.{list_any}
 use Rattle.std.specs.Option.{option_map, option_map_or}
 use Rattle.std.proofs.lemmas.Bool.{eqb-true, eq-eqb}
@@ -7,9 +7,9 @@ use Rattle.pf_model.specs.declared.nodes.Node.{Node}
 use Rattle.pf_model.specs.Graphs.{Look, children_of, height_of, size_of, is_below, below_in, levels}
 use Rattle.pf_model.specs.Limits.{has_child}
 use Rattle.pf_model.specs.NodeEdits.{with_children}
-use Rattle.pf_model.specs.Laws.{AreLow, HasChildAbove, HasParentBelow}
+use Rattle.pf_model.specs.Laws.{AreLow}
 use Rattle.pf_model.proofs.Levels.{none_below_itself, below_step, below_zero}
-use Rattle.pf_model.proofs.Between.{parent_below, child_above}
+use Rattle.pf_model.proofs.Between.{parent_below}
 use Rattle.pf_edits.specs.declared.extents.Extent.{Extent}
 use Rattle.pf_edits.specs.Tables.{Slots}
 use Rattle.pf_edits.specs.Ways.{is_in, LeadUp}

@@ -1,9 +1,9 @@
 -- What undoing an edit needs, and merges edit by edit.
-use Rattle.std.proofs.Common.{◌≡◌, ℕ, zero, suc, ◌+◌, ◌<◌, ◌≤◌, Bool, true, false, cond, ◌||◌, ◌&&◌, ◌==◌, nat_lt, ◌⊎◌, inl, inr, List, [], ◌∷◌, ◌++◌, map, length, get_or, drop, take, reverse, Option, Some, None, is_some, refl, sym, ◌∙◌, ap, subst, arith}
-use Rattle.std.specs.List.{list_all, count_by, fold}
+use Rattle.std.proofs.Common.{◌≡◌, ℕ, zero, suc, ◌+◌, ◌<◌, ◌≤◌, Bool, true, false, cond, ◌||◌, ◌&&◌, ◌==◌, nat_lt, List, [], ◌∷◌, ◌++◌, length, get_or, reverse, Option, Some, None, is_some, refl, sym, ◌∙◌, ap, subst, arith}
+use Rattle.std.specs.List.{list_all, count_by}
 use Rattle.std.specs.Option.{option_map, option_map_or}
 use Rattle.std.proofs.lemmas.Bool.{eqb-true, eq-eqb}
-use Rattle.std.proofs.lemmas.List.{drop_more, reverse-append}
+use Rattle.std.proofs.lemmas.List.{reverse-append}
 use Rattle.pf_model.specs.declared.nodes.Node.{Node}
 use Rattle.pf_model.specs.declared.edits.Edit.{Edit}
 use Rattle.pf_model.specs.declared.edits.Edit.TheVariants as edit
@@ -19,15 +19,14 @@ use Rattle.pf_model.proofs.Finds.{node_at_change, node_at_without}
 use Rattle.pf_model.proofs.Named.{node_at_put_any}
 use Rattle.pf_model.proofs.Keeping.{all_found_have, length_within}
 use Rattle.pf_model.proofs.Apart.{agree_at}
-use Rattle.pf_edits.specs.declared.records.Record.{Record}
 use Rattle.pf_edits.specs.declared.undo.Undo.{Undo}
 use Rattle.pf_edits.specs.declared.work.Work.{Work}
-use Rattle.pf_edits.specs.Tables.{Slots, record_at}
+use Rattle.pf_edits.specs.Tables.{Slots}
 use Rattle.pf_edits.specs.Ways.{is_in}
 use Rattle.pf_edits.specs.Extents.{look_of, parents_of}
 use Rattle.pf_edits.specs.Listed.{nodes_of}
 use Rattle.pf_edits.specs.Working.{told, IsWorking}
-use Rattle.pf_edits.specs.Undoing.{graph_before, parents_before, CanUndo, IsUndo, KeepsParents, AllUndoable, before_all}
+use Rattle.pf_edits.specs.Undoing.{graph_before, parents_before, IsUndo, KeepsParents, AllUndoable, before_all}
 use Rattle.pf_edits.proofs.Ups.{ahead, not_true, no_true}
 use Rattle.pf_edits.proofs.Relinks.{no_cycle, children_changed}
 use Rattle.pf_edits.proofs.Listed.{found, looks, rising, count_is}
@@ -121,10 +120,11 @@ one_more us u = reverse-append us (u ∷ [])
 pub undoable_next : (old new : Work) (u : Undo) (us : List Undo) → IsWorking old → IsUndo u old new → AllUndoable (told old) (parents_of old.records.slots) us
     → AllUndoable (told new) (parents_of new.records.slots) (u ∷ us)
 undoable_next old new u us working undo h = (
-    undo.can,
-    subst IsGraphWithinLimits (sym undo.before) working.within,
-    subst (λ (g : SceneGraph). AllUndoable g (parents_before u.id u.older (parents_of new.records.slots)) us) (sym undo.before)
-    (undoable_more (told old) (parents_of old.records.slots) (parents_before u.id u.older (parents_of new.records.slots)) us undo.parents h))
+  undo.can,
+  subst IsGraphWithinLimits (sym undo.before) working.within,
+  subst (λ (g : SceneGraph). AllUndoable g (parents_before u.id u.older (parents_of new.records.slots)) us) (sym undo.before)
+      (undoable_more (told old) (parents_of old.records.slots) (parents_before u.id u.older (parents_of new.records.slots)) us undo.parents h),
+)
 
 pub undoable_still : (old new : Work) (us : List Undo) → told new ≡ told old → KeepsParents old new → AllUndoable (told old) (parents_of old.records.slots) us
     → AllUndoable (told new) (parents_of new.records.slots) us

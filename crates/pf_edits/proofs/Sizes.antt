@@ -1,13 +1,12 @@
 -- The greatest height and the greatest size of a graph from those along a way.
-use Rattle.std.proofs.Common.{◌≡◌, ℕ, ◌<◌, ◌≤◌, min, max, Bool, true, false, cond, ◌||◌, ◌==◌, nat_lt, ◌⊎◌, inl, inr, List, [], ◌∷◌, map, reverse, Option, Some, None, refl, sym, ◌∙◌, ap, subst, arith}
+use Rattle.std.proofs.Common.{◌≡◌, ℕ, ◌<◌, ◌≤◌, min, max, Bool, true, false, cond, ◌||◌, ◌==◌, nat_lt, List, [], ◌∷◌, map, Option, Some, None, refl, sym, ◌∙◌, ap, subst, arith}
 use Rattle.std.specs.List.{list_any, AllByRecursion}
 use Rattle.std.specs.Option.{option_map_or}
 use Rattle.std.proofs.lemmas.Bool.{eqb-true, eq-eqb}
 use Rattle.std.proofs.lemmas.Bool.Decides.{nat_tests}
 use Rattle.pf_model.specs.declared.nodes.Node.{Node}
-use Rattle.pf_model.specs.declared.edits.Fault.{Fault}
 use Rattle.pf_model.specs.declared.edits.Fault.TheVariants as fault
-use Rattle.pf_model.specs.Graphs.{Look, Nodes, node_at, has_id, children_of, greatest, height_of, size_of}
+use Rattle.pf_model.specs.Graphs.{Look, Nodes, node_at, has_id, greatest, height_of, size_of}
 use Rattle.pf_model.specs.Edits.{first, when, greatest_height, deep, large, size_rules}
 use Rattle.pf_model.specs.Laws.{AreLow}
 use Rattle.pf_model.proofs.Places.{node_at_step, all_found, from_found}
@@ -16,8 +15,7 @@ use Rattle.pf_edits.specs.Tables.{Slots}
 use Rattle.pf_edits.specs.Ways.{is_in}
 use Rattle.pf_edits.specs.Extents.{look_of, extent_at, reckoned, Meets, IsWithin}
 use Rattle.pf_edits.specs.Listed.{nodes_of}
-use Rattle.pf_edits.proofs.Marks.{in_reverse}
-use Rattle.pf_edits.proofs.Ups.{head_or_rest, height_above, heights_are, sizes_are, ahead, behind, not_true, no_true}
+use Rattle.pf_edits.proofs.Ups.{height_above, heights_are, sizes_are, ahead, behind}
 use Rattle.pf_edits.proofs.Listed.{looks, found, rising}
 
 -- Nodes and a number of each
@@ -86,7 +84,6 @@ leaf_of : (slots : Slots) → Meets (look_of slots) (extent_at slots) → (b : �
 leaf_of slots meets b none = meets b ∙ ap (λ o. reckoned (extent_at slots) (option_map_or (λ (m : Node). m.children) o [])) none
 
 module _ (slots : Slots) (way : List ℕ) (meets : Meets (look_of slots) (extent_at slots)) (outside : (b : ℕ) → is_in b way ≡ false → IsWithin (extent_at slots b)) where
-
   height_is : (b : ℕ) → height_of (node_at (nodes_of slots)) b ≡ (extent_at slots b).height
   height_is b = ap (λ f. height_of f b) (looks slots) ∙ sym (heights_are (look_of slots) (extent_at slots) meets b)
 

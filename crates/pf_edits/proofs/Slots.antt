@@ -1,12 +1,12 @@
 -- What stands under each id after a change of the slab and of the keys.
-use Rattle.std.proofs.Common.{◌≡◌, ◌≢◌, ℕ, zero, suc, zero-add, ◌++◌, ◌+◌, ◌<◌, ◌≤◌, Bool, true, false, cond, ◌==◌, ◌⊎◌, inl, inr, List, [], ◌∷◌, map, length, get_or, set, Option, Some, None, is_some, refl, sym, ◌∙◌, ap, subst, arith}
+use Rattle.std.proofs.Common.{◌≡◌, ◌≢◌, ℕ, zero, suc, zero-add, ◌++◌, ◌+◌, ◌<◌, ◌≤◌, Bool, true, false, cond, ◌==◌, ◌⊎◌, inl, inr, List, [], ◌∷◌, length, get_or, set, Option, Some, None, is_some, refl, sym, ◌∙◌, ap, subst, arith}
 use Rattle.std.specs.Option.{option_and_then}
 use Rattle.std.specs.List.{count_by}
 use Rattle.std.proofs.lemmas.List.{ext_get_or, get_or-set_same, get_or-set_other, length-set, get_or_read}
 use Rattle.std.proofs.lemmas.Bool.{eqb-true}
 use Rattle.std.proofs.lemmas.List.Sums.{sum_by-set, sum_by-cons}
-use Rattle.std.proofs.Math.ListN.{get_or-map, get_or-eq_default, length-map}
-use Rattle.std.proofs.lemmas.Bool.Decides.{eqb_tells, nat_tests}
+use Rattle.std.proofs.Math.ListN.{get_or-map, length-map}
+use Rattle.std.proofs.lemmas.Bool.Decides.{eqb_tells}
 use Rattle.slab.specs.Slab.{Slab, get, slab_len, Updates}
 use Rattle.pf_edits.specs.declared.records.Record.{Record}
 use Rattle.pf_edits.specs.Tables.{Slots, record_at, slots_of, IsIndexed}
@@ -65,7 +65,7 @@ module _ (slab after : Slab Record) (keys : List (Option ℕ)) (id key : ℕ) (i
         let f : is_some (get slab key) ≡ false = ap (λ o. is_some o) vacant in
         let g : true ≡ false = sym e ∙ f in cc
 
-    put_slots : slots_of after (set keys id (Some key)) ≡ set (slots_of slab keys) id (Some r)
+    pub put_slots : slots_of after (set keys id (Some key)) ≡ set (slots_of slab keys) id (Some r)
     put_slots =
         table_after slab after keys (set keys id (Some key)) id (Some r) (length-set keys id (Some key)) inside
         (ap (option_and_then (get after)) (get_or-set_same keys id (Some key) None inside) ∙ up.changed)
@@ -123,7 +123,7 @@ module _ (slab after : Slab Record) (keys : List (Option ℕ)) (id key : ℕ) (i
     differs : (b k : ℕ) → b ≢ id → get_or keys b None ≡ Some k → k ≢ key
     differs b k other e same = other (indexed.apart b id key (e ∙ ap Some same) at)
 
-    take_slots : slots_of after (set keys id None) ≡ set (slots_of slab keys) id None
+    pub take_slots : slots_of after (set keys id None) ≡ set (slots_of slab keys) id None
     take_slots =
         table_after slab after keys (set keys id None) id None (length-set keys id None) inside
         (ap (option_and_then (get after)) (get_or-set_same keys id None None inside))

@@ -1,5 +1,5 @@
 -- What keeps the extents and the noted parents of records.
-use Rattle.std.proofs.Common.{◌≡◌, ℕ, Bool, true, false, cond, ◌||◌, ◌==◌, ◌⊎◌, inl, inr, List, [], ◌∷◌, Option, Some, None, is_some, refl, sym, ◌∙◌, ap, subst}
+use Rattle.std.proofs.Common.{◌≡◌, ℕ, Bool, true, false, cond, ◌||◌, ◌==◌, [], ◌∷◌, Option, Some, None, refl, sym, ◌∙◌, ap, subst}
 use Rattle.std.specs.Option.{option_map, option_map_or}
 use Rattle.std.proofs.lemmas.Bool.{eqb-true, eq-eqb}
 use Rattle.pf_model.specs.declared.nodes.Kind.{Kind}
@@ -8,11 +8,10 @@ use Rattle.pf_model.specs.Graphs.{Look, children_of}
 use Rattle.pf_model.specs.Limits.{has_child}
 use Rattle.pf_model.specs.NodeEdits.{with_kind}
 use Rattle.pf_model.proofs.Places.{funext}
-use Rattle.pf_edits.specs.declared.extents.Extent.{Extent}
 use Rattle.pf_edits.specs.Tables.{Slots}
-use Rattle.pf_edits.specs.Ways.{is_in, LeadUp}
+use Rattle.pf_edits.specs.Ways.{is_in}
 use Rattle.pf_edits.specs.Extents.{look_of, parents_of, extent_at, leaf, reckoned, Meets, MeetBut, IsSound}
-use Rattle.pf_edits.proofs.Ups.{meets_step, reckoned_same, not_true, no_true, ahead, behind, in_cons}
+use Rattle.pf_edits.proofs.Ups.{meets_step, reckoned_same, not_true, no_true, ahead}
 
 -- The same children and extents, and all parents that were noted
 

@@ -1,12 +1,12 @@
 -- Edits undone.
-use Rattle.std.proofs.Common.{◌≡◌, ℕ, ◌-◌, ◌+◌, Bool, true, false, cond, ◌==◌, List, [], ◌∷◌, ◌++◌, map, length, take, Option, Some, None, is_some, refl, sym, ◌∙◌, ap, subst, arith}
+use Rattle.std.proofs.Common.{◌≡◌, ℕ, ◌-◌, ◌+◌, Bool, true, false, cond, ◌==◌, List, [], ◌∷◌, ◌++◌, map, length, take, Option, Some, None, refl, sym, ◌∙◌, ap, subst, arith}
 use Rattle.std.specs.Option.{option_map}
-use Rattle.std.proofs.lemmas.Bool.{eqb-true, eq-eqb}
+use Rattle.std.proofs.lemmas.Bool.{eqb-true}
 use Rattle.std.proofs.lemmas.List.{take_at, length-append}
 use Rattle.pf_model.specs.declared.nodes.Kind.{Kind}
 use Rattle.pf_model.specs.declared.nodes.Node.{Node}
-use Rattle.pf_model.specs.Graphs.{Look, Nodes, SceneGraph, node_at, change, put, without}
-use Rattle.pf_model.specs.Limits.{IsRising, IsGraphWithinLimits}
+use Rattle.pf_model.specs.Graphs.{Look, SceneGraph, node_at, change, put, without}
+use Rattle.pf_model.specs.Limits.{IsRising}
 use Rattle.pf_model.specs.NodeEdits.{with_children, with_kind}
 use Rattle.pf_model.proofs.Places.{put_rising}
 use Rattle.pf_model.proofs.Changes.{without_rising}
@@ -17,9 +17,9 @@ use Rattle.pf_edits.specs.declared.undo.Older.TheVariants as older
 use Rattle.pf_edits.specs.declared.undo.Undo.{Undo}
 use Rattle.pf_edits.specs.Tables.{Slots}
 use Rattle.pf_edits.specs.Ways.{is_in}
-use Rattle.pf_edits.specs.Extents.{look_of, parents_of, child_list, kind_of}
+use Rattle.pf_edits.specs.Extents.{look_of, child_list, kind_of}
 use Rattle.pf_edits.specs.Listed.{nodes_of}
-use Rattle.pf_edits.specs.Undoing.{graph_before, parents_before, CanUndo, AllNote, AllUndoable, before_all}
+use Rattle.pf_edits.specs.Undoing.{graph_before, parents_before, CanUndo, AllUndoable}
 use Rattle.pf_edits.proofs.Listed.{found, looks, rising}
 use Rattle.pf_edits.proofs.Relinks.{put_back}
 

@@ -1,24 +1,21 @@
 -- Ways up from a node, and extents reckoned along them.
-use Rattle.std.proofs.Common.{◌≡◌, ◌≢◌, ℕ, zero, suc, ◌+◌, ◌-◌, ◌<◌, ◌≤◌, min, max, Bool, true, false, cond, ◌||◌, ◌==◌, ◌⊎◌, inl, inr, List, [], ◌∷◌, ◌++◌, map, sum, length, get_or, take, reverse, Option, Some, None, refl, sym, ◌∙◌, ap, subst, arith, zero-add}
-use Rattle.std.specs.List.{list_any, fold, AllByRecursion}
-use Rattle.std.specs.Option.{option_map, option_map_or}
+use Rattle.std.proofs.Common.{◌≡◌, ℕ, zero, suc, ◌+◌, ◌-◌, ◌<◌, ◌≤◌, min, max, Bool, true, false, cond, ◌||◌, ◌==◌, ◌⊎◌, inl, inr, List, [], ◌∷◌, map, sum, length, get_or, take, reverse, refl, sym, ◌∙◌, ap, subst, arith}
+use Rattle.std.specs.List.{fold, AllByRecursion}
 use Rattle.std.proofs.lemmas.List.{take_more, reverse-append}
 use Rattle.std.proofs.lemmas.List.Sums.{sum_by-cons}
 use Rattle.std.proofs.lemmas.List.Folds.{list_any_at}
 use Rattle.pf_edits.proofs.Marks.{in_reverse}
 use Rattle.std.proofs.lemmas.Bool.{eqb-true, eq-eqb}
-use Rattle.std.proofs.lemmas.Bool.Decides.{eqb_tells, nat_tests}
-use Rattle.pf_model.specs.declared.nodes.Node.{Node}
-use Rattle.pf_model.specs.Graphs.{Look, children_of, greatest, height_in, size_in, levels, height_of, size_of, is_below}
+use Rattle.std.proofs.lemmas.Bool.Decides.{nat_tests}
+use Rattle.pf_model.specs.Graphs.{Look, children_of, greatest, height_in, size_in, height_of, size_of}
 use Rattle.pf_model.specs.Limits.{has_child}
 use Rattle.pf_model.specs.Laws.{AreLow}
 use Rattle.pf_model.proofs.Places.{funext}
-use Rattle.pf_model.proofs.Levels.{levels_are, height_at_most, height_step, size_step, height_is, size_at_limit, low_at, children_low, no_height, all_map}
-use Rattle.pf_edits.specs.declared.records.Record.{Record}
+use Rattle.pf_model.proofs.Levels.{levels_are, height_at_most, height_step, size_step, size_at_limit, low_at, children_low, no_height, all_map}
 use Rattle.pf_edits.specs.declared.extents.Extent.{Extent}
-use Rattle.pf_edits.specs.Tables.{Slots, record_at}
+use Rattle.pf_edits.specs.Tables.{Slots}
 use Rattle.pf_edits.specs.Ways.{is_in, LeadUp}
-use Rattle.pf_edits.specs.Extents.{look_of, parents_of, leaf, joined, reckoned, extent_at, Meets, MeetBut, IsSound}
+use Rattle.pf_edits.specs.Extents.{look_of, leaf, joined, reckoned, extent_at, Meets, MeetBut, IsSound}
 
 -- Truth values
 

@@ -1,17 +1,17 @@
 -- A node is some node's child where one of its noted parents has it as a child.
-use Rattle.std.proofs.Common.{◌≡◌, ℕ, Bool, true, false, cond, ◌||◌, ◌==◌, List, [], ◌∷◌, Option, Some, None, is_some, refl, sym, ◌∙◌, ap, subst, ◌⊎◌, inl, inr}
-use Rattle.std.specs.List.{list_any, AllByRecursion}
-use Rattle.std.specs.Option.{option_map, option_map_or}
-use Rattle.std.proofs.lemmas.Bool.{eqb-true, eq-eqb}
+use Rattle.std.proofs.Common.{◌≡◌, ℕ, Bool, true, false, cond, ◌||◌, ◌==◌, List, [], ◌∷◌, Option, Some, None, refl, sym, ◌∙◌, ap, subst, ◌⊎◌, inl, inr}
+use Rattle.std.specs.List.{list_any}
+use Rattle.std.specs.Option.{option_map_or}
+use Rattle.std.proofs.lemmas.Bool.{eqb-true}
 use Rattle.pf_model.specs.declared.nodes.Node.{Node}
-use Rattle.pf_model.specs.Graphs.{Look, Nodes, node_at, has_id, children_of}
+use Rattle.pf_model.specs.Graphs.{Look, Nodes, node_at, has_id}
 use Rattle.pf_model.specs.Limits.{has_child}
 use Rattle.pf_model.proofs.Places.{node_at_step, all_found, AreFound}
 use Rattle.pf_edits.specs.Tables.{Slots}
 use Rattle.pf_edits.specs.Ways.{is_in}
 use Rattle.pf_edits.specs.Extents.{look_of, parents_of, IsSound}
 use Rattle.pf_edits.specs.Listed.{nodes_of}
-use Rattle.pf_edits.proofs.Ups.{head_or_rest, ahead, behind, not_true, no_true}
+use Rattle.pf_edits.proofs.Ups.{head_or_rest, ahead, behind, not_true}
 use Rattle.pf_edits.proofs.Relinks.{any_case}
 use Rattle.pf_edits.proofs.Listed.{looks, found, rising}
 

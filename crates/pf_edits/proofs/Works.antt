@@ -1,12 +1,12 @@
 -- What a working graph tells, before and after an edit.
-use Rattle.std.proofs.Common.{◌≡◌, ℕ, ◌≤◌, Bool, true, false, cond, ◌||◌, ◌==◌, ◌⊎◌, inl, inr, List, [], Option, Some, None, is_some, Result, Ok, Err, OnOk, OnErr, refl, sym, ◌∙◌, ap, subst}
+use Rattle.std.proofs.Common.{◌≡◌, ℕ, ◌≤◌, Bool, true, false, cond, ◌||◌, ◌==◌, ◌⊎◌, inl, inr, List, [], Option, Some, None, is_some, Result, Ok, Err, OnErr, refl, sym, ◌∙◌, ap, subst}
 use Rattle.std.specs.Option.{option_map, option_map_or}
 use Rattle.std.proofs.lemmas.Bool.{eqb-true, eq-eqb}
 use Rattle.pf_model.specs.declared.nodes.Node.{Node}
 use Rattle.pf_model.specs.declared.nodes.Gone.{Gone}
 use Rattle.pf_model.specs.declared.edits.Edit.{Edit}
 use Rattle.pf_model.specs.Graphs.{Look, Nodes, SceneGraph, node_at, children_of, height_of, size_of, is_below}
-use Rattle.pf_model.specs.Limits.{is_there, has_child, KeepsLimits, IsGraphWithinLimits}
+use Rattle.pf_model.specs.Limits.{has_child, KeepsLimits, IsGraphWithinLimits}
 use Rattle.pf_model.specs.Edits.{fault_of, effect}
 use Rattle.pf_model.specs.Fits.{fits}
 use Rattle.pf_model.specs.Laws.{AreLow}
@@ -18,10 +18,10 @@ use Rattle.pf_edits.specs.Tables.{Slots, record_at}
 use Rattle.pf_edits.specs.Ways.{is_in}
 use Rattle.pf_edits.specs.Extents.{look_of, parents_of, child_list, IsSound}
 use Rattle.pf_edits.specs.Listed.{nodes_of}
-use Rattle.pf_edits.specs.Working.{told, IsWorking}
+use Rattle.pf_edits.specs.Working.{IsWorking}
 use Rattle.pf_edits.proofs.Ups.{head_or_rest, ahead, not_true, no_true}
 use Rattle.pf_edits.proofs.Relinks.{no_cycle}
-use Rattle.pf_edits.proofs.Listed.{found, looks, same_nodes}
+use Rattle.pf_edits.proofs.Listed.{found, looks}
 
 pub on_err : {A E : Type 0} {P : Type 0} (r : Result A E) → P → OnErr r P
 on_err (Ok x) p = tt

@@ -1,5 +1,5 @@
 -- The nodes of the records as the graph lists them.
-use Rattle.std.specs.Prelude.{ℕ, ◌+◌, List, [], ◌∷◌, Some, None}
+use Rattle.std.specs.Prelude.{ℕ, ◌+◌, [], ◌∷◌, Some, None}
 use Rattle.pf_model.specs.Graphs.{Nodes}
 use Rattle.pf_edits.specs.Tables.{Slots}
 

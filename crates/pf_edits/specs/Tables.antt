@@ -1,6 +1,8 @@
 -- The records of the working graph: what stands under each id.
 use Rattle.std.specs.Prelude.{◌≡◌, ℕ, ◌≤◌, List, map, length, count_by, Option, Some, None, is_some, true, slice_index_or}
-use Rattle.std.specs.Option.{option_and_then}
+use Rattle.std.specs.List.{All, sum_by}
+use Rattle.std.specs.Option.{option_and_then, option_map_or}
+use Rattle.pf_model.specs.Totals.{triangles_of}
 use Rattle.slab.specs.Slab.{Slab, get, slab_len}
 use Rattle.pf_edits.specs.declared.records.Record.{Record}
 
@@ -29,3 +31,21 @@ pub record IsIndexed (keys : List (Option ℕ)) (slab : Slab Record) : Type 0 wh
   pub apart : (a b key : ℕ) → slice_index_or keys a None ≡ Some key → slice_index_or keys b None ≡ Some key → a ≡ b
   pub counted : count_by is_some (slots_of slab keys) ≡ slab_len slab
   pub roomy : 4097 ≤ slab.capacity
+
+-- the number of triangles of a record
+abbrev pub slot_triangles : Option Record → ℕ
+slot_triangles slot = option_map_or (λ r. triangles_of r.node.kind) slot 0
+
+-- the number of triangles of all records
+abbrev pub triangles_in : Slots → ℕ
+triangles_in slots = sum_by slot_triangles slots
+
+-- Each record has at most 4,096 triangles, and all have so many.
+pub record AreCounted (slots : Slots) (tris : ℕ) : Type 0 where
+  pub light : All (λ slot. slot_triangles slot ≤ 4096) slots
+  pub total : tris ≡ triangles_in slots
+
+-- What the records keep: each under its id, and the number of their triangles.
+pub record IsKept (keys : List (Option ℕ)) (slab : Slab Record) (tris : ℕ) : Type 0 where
+  pub indexed : IsIndexed keys slab
+  pub counted : AreCounted (slots_of slab keys) tris

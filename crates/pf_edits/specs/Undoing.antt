@@ -1,5 +1,5 @@
 -- What undoes an edit.
-use Rattle.std.specs.Prelude.{◌≡◌, ℕ, ◌-◌, ◌==◌, ⊤, true, if◌then◌else◌, List, [], ◌∷◌, take, length, Option, Some, None, is_some}
+use Rattle.std.specs.Prelude.{◌≡◌, ℕ, ◌-◌, ◌==◌, ⊤, true, if◌then◌else◌, List, [], ◌∷◌, take, length, None, is_some}
 use Rattle.pf_model.specs.Graphs.{SceneGraph, node_at, change, put, without}
 use Rattle.pf_model.specs.Limits.{IsGraphWithinLimits}
 use Rattle.pf_model.specs.NodeEdits.{with_children, with_kind}

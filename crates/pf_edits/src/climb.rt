@@ -85,7 +85,7 @@ fn reckoned(records: &Records, id: u16) -> Extent
 fn set_extent(records: &mut Records, id: u16, extent: Extent)
     ensures { (b : ℕ) → record_at records.new.slots b
         ≡ (if b == id then option_map (with_extent extent) (record_at records.old.slots b)
-            else record_at records.old.slots b) }
+        else record_at records.old.slots b) }
 {
     if let Some(mut record) = records.take(id) {
         record.extent = extent;
@@ -99,7 +99,7 @@ pub(crate) fn reckon(records: &mut Records, id: u16)
     ensures parents { (b : ℕ) → parents_of records.new.slots b ≡ parents_of records.old.slots b }
     ensures extents { (b : ℕ) → extent_at records.new.slots b
         ≡ (if b == id then reckoned (extent_at records.old.slots) (children_of (look_of records.old.slots) id)
-            else extent_at records.old.slots b) }
+        else extent_at records.old.slots b) }
 {
     let extent = reckoned(records, id);
     set_extent(records, id, extent);

@@ -139,7 +139,12 @@ fn cycle_or_full(records: &Records, way: &mut Way, parent: u16, child: u16) -> O
 }
 
 /// The fault of an Add that does not speak of the graph after it.
-pub(crate) fn fault_of_add(records: &Records, way: &mut Way, parent: u16, child: u16) -> Option<Fault>
+pub(crate) fn fault_of_add(
+    records: &Records,
+    way: &mut Way,
+    parent: u16,
+    child: u16,
+) -> Option<Fault>
     requires way { way.old ≡ [] }
     requires sound { IsSound records.now.slots }
     requires low { AreLow (look_of records.now.slots) }

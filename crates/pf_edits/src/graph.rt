@@ -1,8 +1,9 @@
 //! The working graph: a scene graph whose edits cost what the node that they name and its ancestors cost.
-ghost use Rattle.std.specs.Prelude.{◌≡◌, ◌+◌, ◌-◌, ◌^◌, ◌<◌, true, None, Some, IfOk, IfErr, OnOk, OnErr, length};
+ghost use Rattle.std.specs.Prelude.{◌≡◌, ◌+◌, ◌-◌, ◌^◌, ◌<◌, [], true, None, Some, IfOk, IfErr, OnOk, OnErr, length};
 ghost use Rattle.std.specs.Option.{option_copied};
 ghost use Rattle.pf_model.specs.Graphs.{SceneGraph, node_at, size_of, empty_scene};
 ghost use Rattle.pf_model.specs.Limits.{IsGraphWithinLimits};
+ghost use Rattle.pf_model.specs.Totals.{triangle_count};
 ghost use Rattle.pf_model.specs.Edits.{fault_of, after, Refuses};
 ghost use Rattle.pf_model.specs.Merges.{merge_fault, after_all};
 ghost use Rattle.pf_model.specs.Fits.{fits};
@@ -14,9 +15,10 @@ use crate::errors::EditsError;
 use crate::faults::find_node;
 use crate::work::Work;
 use pf_io::NoMemory;
-use pf_model::{Edit, EditError, EditList, Node, NodeView};
+use pf_model::{Edit, EditError, EditList, Gone, Node, NodeView};
 use std::alloc::Global;
 use std::marker::Model;
+use std::mem;
 
 /// A scene graph within the limits that is edited node by node. The cost of an edit grows with the node that it names
 /// and that node's ancestors, never with the scene.
@@ -67,6 +69,13 @@ impl WorkGraph {
         self.work.next_serial
     }
 
+    /// The number of triangles of all geodes, each geode once however often it is a child.
+    pub fn tris(&self) -> u32
+        ensures { result ≡ triangle_count (node_at self.now.nodes) }
+    {
+        self.work.records.tris()
+    }
+
     /// The unfolded size of the scene.
     pub fn size(&self) -> u32
         ensures { result ≡ size_of (node_at self.now.nodes) 0 }
@@ -80,6 +89,15 @@ impl WorkGraph {
         ensures { self.new ≡ record self.old { time = self.old.time + 1 } }
     {
         self.work.time += 1;
+    }
+
+    /// Takes out what is left of the deleted nodes, in the order of their deletion.
+    pub fn take_gone(&mut self) -> Vec<Gone>
+        ensures gone { result.items ≡ self.old.gone }
+        ensures after { self.new ≡ record self.old { gone = [] } }
+    {
+        let alloc = *self.work.gone.allocator();
+        mem::replace(&mut self.work.gone, Vec::new(alloc))
     }
 
     /// Applies an edit, or refuses it for its fault or for want of memory and stays as it was.

@@ -24,7 +24,7 @@ fn swap_children(records: &mut Records, id: u16, children: Ids) -> Ids
     ensures back { option_map child_list (look_of records.old.slots id) ≡ Some result }
     ensures nodes { (b : ℕ) → look_of records.new.slots b
         ≡ (if b == id then option_map (with_children children) (look_of records.old.slots b)
-            else look_of records.old.slots b) }
+        else look_of records.old.slots b) }
     ensures parents { (b : ℕ) → parents_of records.new.slots b ≡ parents_of records.old.slots b }
     ensures extents { (b : ℕ) → extent_at records.new.slots b ≡ extent_at records.old.slots b }
 {
@@ -48,7 +48,7 @@ fn relink_along(records: &mut Records, way: &[u16], id: u16, children: Ids) -> I
     ensures back { option_map child_list (look_of records.old.slots id) ≡ Some result }
     ensures nodes { (b : ℕ) → look_of records.new.slots b
         ≡ (if b == id then option_map (with_children children) (look_of records.old.slots b)
-            else look_of records.old.slots b) }
+        else look_of records.old.slots b) }
     ensures parents { (b : ℕ) → parents_of records.new.slots b ≡ parents_of records.old.slots b }
     ensures meets { Meets (look_of records.new.slots) (extent_at records.new.slots) }
     ensures others { (b : ℕ) → is_in b (reverse way.now) ≡ false
@@ -72,7 +72,7 @@ pub(crate) fn relink_freely(records: &mut Records, way: &mut Way, id: u16, child
     ensures back { option_map child_list (look_of records.old.slots id) ≡ Some result }
     ensures nodes { (b : ℕ) → look_of records.new.slots b
         ≡ (if b == id then option_map (with_children children) (look_of records.old.slots b)
-            else look_of records.old.slots b) }
+        else look_of records.old.slots b) }
     ensures parents { (b : ℕ) → parents_of records.new.slots b ≡ parents_of records.old.slots b }
     ensures sound { IsSound records.new.slots }
 {
@@ -102,7 +102,7 @@ pub(crate) fn relink(
     ensures back { IfOk result (λ cs. option_map child_list (look_of records.old.slots id) ≡ Some cs) }
     ensures nodes { OnOk result ((b : ℕ) → look_of records.new.slots b
         ≡ (if b == id then option_map (with_children children) (look_of records.old.slots b)
-            else look_of records.old.slots b)) }
+        else look_of records.old.slots b)) }
     ensures same { OnErr result ((b : ℕ) → look_of records.new.slots b ≡ look_of records.old.slots b) }
     ensures none { OnOk result (first (size_rules (change id (with_children children) (nodes_of records.old.slots))) ≡ None) }
     ensures fault { IfErr result (λ f.

@@ -56,7 +56,7 @@ pub(crate) fn swap_kind(records: &mut Records, id: u16, kind: Kind) -> Kind
     ensures back { option_map kind_of (look_of records.old.slots id) ≡ Some result }
     ensures nodes { (b : ℕ) → look_of records.new.slots b
         ≡ (if b == id then option_map (with_kind kind) (look_of records.old.slots b)
-            else look_of records.old.slots b) }
+        else look_of records.old.slots b) }
     ensures parents { (b : ℕ) → parents_of records.new.slots b ≡ parents_of records.old.slots b }
     ensures sound { IsSound records.new.slots }
 {

@@ -1,12 +1,13 @@
 //! The records of the working graph: a node a record, found by its id in one step.
-ghost use Rattle.std.specs.Prelude.{◌≡◌, ◌<◌, ◌==◌, if◌then◌else◌, Some, None, is_some, IsSome, OnSome, IfOk, slice_index_or, length, count_by, ℕ};
+ghost use Rattle.std.specs.Prelude.{◌≡◌, ◌<◌, ◌≤◌, ◌==◌, if◌then◌else◌, Some, None, is_some, IsSome, OnSome, IfOk, slice_index_or, length, count_by, ℕ};
 ghost use Rattle.std.specs.Option.{option_copied};
-ghost use Rattle.pf_edits.specs.Tables.{record_at};
+ghost use Rattle.pf_model.specs.Totals.{triangles_of};
+ghost use Rattle.pf_edits.specs.Tables.{record_at, triangles_in};
 
 use crate::extents::Extent;
 use crate::parents::Parents;
 use pf_io::NoMemory;
-use pf_model::Node;
+use pf_model::{Kind, Node};
 use slab::Slab;
 use std::alloc::Global;
 use std::marker::Model;
@@ -19,23 +20,24 @@ pub(crate) struct Record {
     pub(crate) extent: Extent,
 }
 
-/// Records by their ids, with room for as many as a graph has nodes.
+/// Records by their ids, with room for as many as a graph has nodes, and the number of all their triangles.
 #[derive(Debug, Drop)]
 pub(crate) struct Records {
     keys: Vec<Option<usize>>,
     slab: Slab<Record>,
+    tris: u32,
 }
 
 impl Model for Records {
     ghost use Rattle.std.specs.Prelude.{◌-◌};
     ghost use Rattle.slab.specs.Slab.{slab_len};
-    ghost use Rattle.pf_edits.specs.Tables.{Table, slots_of, IsIndexed};
+    ghost use Rattle.pf_edits.specs.Tables.{Table, slots_of, IsKept};
 
     ghost Value = { Table };
 
     ghost view = { λ r. record { slots = slots_of r.slab r.keys.items; spare = r.slab.capacity - slab_len r.slab } };
 
-    ghost invariant = { λ r. IsIndexed r.keys.items r.slab };
+    ghost invariant = { λ r. IsKept r.keys.items r.slab r.tris };
 }
 
 impl Records {
@@ -48,6 +50,7 @@ impl Records {
         Ok(Records {
             keys: no_keys(alloc)?,
             slab: Slab::with_capacity(alloc, 4_097)?,
+            tris: 0,
         })
     }
 
@@ -57,6 +60,14 @@ impl Records {
         ensures room { result < 4097 → 0 < self.now.spare }
     {
         self.slab.len()
+    }
+
+    /// The number of triangles of all records.
+    pub(crate) fn tris(&self) -> u32
+        ensures value { result ≡ triangles_in self.now.slots }
+        ensures wide { length self.now.slots ≡ 65536 }
+    {
+        self.tris
     }
 
     /// The record of an id.
@@ -73,8 +84,10 @@ impl Records {
         requires absent { record_at self.old.slots id ≡ None }
         ensures { (b : ℕ) → record_at self.new.slots b ≡ (if b == id then Some entry else record_at self.old.slots b) }
     {
+        let more = triangles(&entry.node.kind);
         let key = self.slab.insert_reserved(entry);
         self.keys[usize::from(id)] = Some(key);
+        self.tris += more;
     }
 
     /// Takes out the record of an id.
@@ -86,10 +99,23 @@ impl Records {
         match self.keys[usize::from(id)] {
             Some(key) => {
                 self.keys[usize::from(id)] = None;
-                self.slab.try_remove(key)
+                let record = self.slab.remove(key);
+                self.tris -= triangles(&record.node.kind);
+                Some(record)
             }
             None => None,
         }
+    }
+}
+
+/// The number of triangles of a kind, 0 where it is no geode.
+fn triangles(kind: &Kind) -> u32
+    ensures value { result ≡ triangles_of kind.now }
+    ensures bound { result ≤ 4096 }
+{
+    match kind {
+        Kind::Geode { geom, .. } | Kind::Glass { geom, .. } => geom.len() as u32,
+        _ => 0,
     }
 }
 

@@ -189,7 +189,12 @@ impl Work {
         if let Some(fault) = fault_of_add(&self.records, &mut self.way, parent, child) {
             return Err(EditError::Fault(fault));
         }
-        let children = lengthened(&self.records, parent, child_count(&self.records, parent), child)?;
+        let children = lengthened(
+            &self.records,
+            parent,
+            child_count(&self.records, parent),
+            child,
+        )?;
         self.link(parent, child, children)
     }
 

@@ -1,10 +1,9 @@
-use Rattle.std.proofs.Common.{◌≡◌, ◌+◌, ◌-◌, ◌<◌, ◌≤◌, ◌==◌, cond, ℕ, Bool, true, false, List, ◌∷◌, length, get_or, take, reverse, refl, sym, ◌∙◌, ap, subst, arith, rules}
+use Rattle.std.proofs.Common.{◌≡◌, ◌+◌, ◌-◌, ◌<◌, ◌≤◌, ◌==◌, cond, ℕ, true, false, List, length, get_or, take, reverse, ◌∙◌, ap, subst, arith}
 use Rattle.std.proofs.lemmas.Bool.{eqb-true}
-use Rattle.std.proofs.lemmas.List.{take_all}
-use Rattle.pf_model.specs.Graphs.{Look, children_of}
+use Rattle.pf_model.specs.Graphs.{children_of}
 use Rattle.pf_edits.specs.Tables.{Slots}
 use Rattle.pf_edits.specs.Ways.{is_in, LeadUp}
-use Rattle.pf_edits.specs.Extents.{look_of, parents_of, extent_at, reckoned, MeetBut}
+use Rattle.pf_edits.specs.Extents.{look_of, extent_at, reckoned, MeetBut}
 use Rattle.pf_edits.proofs.Ups.{SteppedDown, step_down, no_true, not_true}
 use Rattle.pf_edits.proofs.climb.reckon_all.Goals as goal
 

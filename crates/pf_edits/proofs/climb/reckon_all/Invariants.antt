@@ -10,7 +10,7 @@ invariant-loop-left l = record {
   meets : MeetBut (look_of l.records.slots) (extent_at l.records.slots) (reverse (take l.left l.way));
   nodes : (b : ℕ) → look_of l.records.slots b ≡ look_of l.initial.records.slots b;
   parents : (b : ℕ) → parents_of l.records.slots b ≡ parents_of l.initial.records.slots b;
-  others : (b : ℕ) → is_in b (reverse l.way) ≡ false → extent_at l.records.slots b ≡ extent_at l.initial.records.slots b
+  others : (b : ℕ) → is_in b (reverse l.way) ≡ false → extent_at l.records.slots b ≡ extent_at l.initial.records.slots b;
 }
 
 abbrev pub decreases-loop-left : goal.decreases-loop-left

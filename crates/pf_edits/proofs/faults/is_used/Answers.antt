@@ -1,9 +1,9 @@
-use Rattle.std.proofs.Common.{◌≡◌, ℕ, List, Option, Some, None, [], true, is_some, sym, ◌∙◌, ap, subst}
+use Rattle.std.proofs.Common.{◌≡◌, Option, None, [], true, is_some, ◌∙◌, ap}
 use Rattle.std.specs.List.{list_any}
 use Rattle.std.specs.Option.{option_map, option_map_or}
 use Rattle.pf_model.specs.Limits.{has_child}
 use Rattle.pf_edits.specs.declared.records.Record.{Record}
-use Rattle.pf_edits.specs.Extents.{look_of, parents_of}
+use Rattle.pf_edits.specs.Extents.{look_of}
 use Rattle.pf_edits.proofs.Uses.{used_is}
 use Rattle.pf_edits.proofs.faults.is_used.Goals as goal
 

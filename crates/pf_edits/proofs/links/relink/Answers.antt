@@ -1,10 +1,9 @@
-use Rattle.std.proofs.Common.{◌≡◌, ◌||◌, ◌==◌, ℕ, List, true, false, reverse, sym, ◌∙◌, ap, subst}
-use Rattle.pf_model.specs.Graphs.{Nodes, change}
+use Rattle.std.proofs.Common.{sym, ◌∙◌, ap, subst}
+use Rattle.pf_model.specs.Graphs.{Nodes}
 use Rattle.pf_model.specs.NodeEdits.{with_children}
 use Rattle.pf_model.specs.Edits.{first, size_rules}
 use Rattle.pf_edits.specs.Ways.{is_in, LeadUp}
-use Rattle.pf_edits.specs.Extents.{look_of, extent_at}
-use Rattle.pf_edits.specs.Listed.{nodes_of}
+use Rattle.pf_edits.specs.Extents.{look_of}
 use Rattle.pf_edits.proofs.Marks.{in_reverse}
 use Rattle.pf_edits.proofs.Listed.{changed_nodes}
 use Rattle.pf_edits.proofs.Relinks.{leads_still, apart_from, old_apart, outside}

@@ -1,4 +1,4 @@
-use Rattle.std.proofs.Common.{◌≡◌, ℕ, reverse}
+use Rattle.std.proofs.Common.{reverse}
 use Rattle.pf_edits.specs.Extents.{look_of, extent_at}
 use Rattle.pf_edits.proofs.Relinks.{leads_still, meets_off}
 use Rattle.pf_edits.proofs.links.relink_along.Goals as goal

@@ -1,7 +1,7 @@
-use Rattle.std.proofs.Common.{◌≡◌, ℕ, Option, Some, [], refl, sym, ◌∙◌, ap}
+use Rattle.std.proofs.Common.{Option, Some, [], refl, ◌∙◌, ap}
 use Rattle.std.specs.Option.{option_map_or}
 use Rattle.pf_edits.specs.declared.records.Record.{Record}
-use Rattle.pf_edits.specs.Extents.{look_of, parents_of, extent_at, leaf}
+use Rattle.pf_edits.specs.Extents.{leaf}
 use Rattle.pf_edits.proofs.Rewrites.{put_look, other_record}
 use Rattle.pf_edits.proofs.Sounds.{put_sound}
 use Rattle.pf_edits.proofs.nodes.insert.Goals as goal

@@ -1,4 +1,4 @@
-use Rattle.std.proofs.Common.{◌≡◌, ℕ, get_or, length, drop, true, false}
+use Rattle.std.proofs.Common.{◌≡◌, ℕ, get_or, drop, true, false}
 use Rattle.pf_edits.specs.Ways.{is_in}
 use Rattle.pf_edits.proofs.way.unmark.Given as goal
 

@@ -1,4 +1,4 @@
-use Rattle.std.proofs.Common.{◌≡◌, ◌∙◌, ap}
+use Rattle.std.proofs.Common.{◌∙◌, ap}
 use Rattle.pf_model.specs.Graphs.{SceneGraph, node_at, size_of}
 use Rattle.pf_edits.specs.declared.extents.Extent.{Extent}
 use Rattle.pf_edits.proofs.Fresh.{size_told}

@@ -1,7 +1,7 @@
-use Rattle.std.proofs.Common.{◌≡◌, ◌≤◌, ℕ, List, Bool, false, true, length, get_or, reverse, [], refl, sym, ◌∙◌, ap, subst, arith, rules}
+use Rattle.std.proofs.Common.{◌≡◌, ◌≤◌, ℕ, false, true, length, get_or, sym, ◌∙◌, ap, rules}
 use Rattle.std.specs.Vec.{vec_capacity}
 use Rattle.std.proofs.lemmas.List.{with_items_is}
-use Rattle.pf_edits.specs.Ways.{is_in, IsMarked}
+use Rattle.pf_edits.specs.Ways.{is_in}
 use Rattle.pf_edits.proofs.Marks.{unmarked, in_reverse}
 use Rattle.pf_edits.proofs.way.Way.clear.Goals as goal
 

@@ -1,4 +1,4 @@
-use Rattle.std.proofs.Common.{◌≡◌, ◌≤◌, ℕ, List, Bool, false, [], replicate, length, get_or, refl, sym, ◌∙◌, ap, subst, arith, rules}
+use Rattle.std.proofs.Common.{◌≡◌, ◌≤◌, ℕ, List, false, [], replicate, refl, sym, subst}
 use Rattle.std.specs.Vec.{vec_capacity}
 use Rattle.pf_edits.specs.Ways.{IsMarked}
 use Rattle.pf_edits.proofs.Marks.{fresh}

@@ -1,4 +1,4 @@
-use Rattle.std.proofs.Common.{◌≡◌, ◌<◌, ◌≤◌, ℕ, List, false, true, length, set, ◌++◌, ◌∷◌, [], reverse, refl, sym, ◌∙◌, ap, subst, arith, rules}
+use Rattle.std.proofs.Common.{◌≡◌, ◌<◌, ◌≤◌, ℕ, List, false, true, length, set, ◌++◌, ◌∷◌, [], reverse, sym, ◌∙◌, ap, subst, arith, rules}
 use Rattle.std.specs.Vec.{vec_capacity}
 use Rattle.pf_edits.specs.Ways.{is_in, IsMarked}
 use Rattle.pf_edits.proofs.Marks.{has_room, marked_more, listed_more}

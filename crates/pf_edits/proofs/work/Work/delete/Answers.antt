@@ -1,24 +1,24 @@
-use Rattle.std.proofs.Common.{◌≡◌, ◌==◌, ◌++◌, ◌∷◌, [], ℕ, List, Option, Some, None, true, false, is_some, refl, sym, ◌∙◌, ap, subst, rules}
+use Rattle.std.proofs.Common.{◌≡◌, ◌==◌, ◌++◌, ◌∷◌, [], ℕ, List, Option, Some, None, true, is_some, refl, sym, ◌∙◌, ap, subst, rules}
 use Rattle.std.specs.List.{list_any}
 use Rattle.std.specs.Option.{option_map}
 use Rattle.pf_model.specs.declared.nodes.Node.{Node}
 use Rattle.pf_model.specs.declared.nodes.Gone.{Gone}
 use Rattle.pf_model.specs.declared.edits.Edit.TheVariants as edit
 use Rattle.pf_model.specs.declared.edits.Fault.TheVariants as fault
-use Rattle.pf_model.specs.Graphs.{Look, Nodes, SceneGraph, node_at, without}
+use Rattle.pf_model.specs.Graphs.{Look, Nodes, SceneGraph, node_at}
 use Rattle.pf_model.specs.Limits.{has_child}
-use Rattle.pf_model.specs.Edits.{first, delete_rules, remains, fault_of, effect}
+use Rattle.pf_model.specs.Edits.{first, delete_rules, remains}
 use Rattle.pf_model.proofs.Rules.{all_passed, when_not, there_from}
 use Rattle.pf_edits.specs.declared.records.Record.{Record}
 use Rattle.pf_edits.specs.declared.work.Work.{Work}
 use Rattle.pf_edits.specs.Tables.{record_at}
 use Rattle.pf_edits.specs.Extents.{look_of}
 use Rattle.pf_edits.specs.Listed.{nodes_of}
-use Rattle.pf_edits.specs.Working.{told, IsWorking}
+use Rattle.pf_edits.specs.Working.{told}
 use Rattle.pf_edits.proofs.Listed.{found, looks, without_nodes}
 use Rattle.pf_edits.proofs.Uses.{listed}
 use Rattle.pf_edits.proofs.Ups.{no_true, not_true}
-use Rattle.pf_edits.proofs.Works.{told_nodes, within_after, low_of, made_there, taken_noted, taken_parents}
+use Rattle.pf_edits.proofs.Works.{within_after, low_of, made_there, taken_noted, taken_parents}
 use Rattle.pf_edits.proofs.Undoes.{back_deleted, without_last}
 use Rattle.pf_edits.proofs.work.Work.delete.Goals as goal
 
@@ -73,8 +73,10 @@ returns-clause-undo c =
     let nodes = back_deleted w.records.slots c.remove.new.records.slots c.args.id c.in-Some-remove.record.node (ap (option_map (λ (r : Record). r.node)) some) c.remove.ensures.nodes in
     let gone = without_last w.gone.items c.bury.new.gone.items c.in_ok-remains.remains (c.bury.ensures ∙ ap (λ xs. xs ++ c.in_ok-remains.remains ∷ []) c.reserve.ensures.items) in
     record {
-      can = (made_there w.records.slots c.remove.new.records.slots c.args.id None c.remove.ensures.nodes,
-          taken_noted w.records.slots c.remove.new.records.slots c.requires.working.sound (low_of w c.requires.working) c.args.id c.in-Some-remove.record some c.remove.ensures.parents);
+      can = (
+        made_there w.records.slots c.remove.new.records.slots c.args.id None c.remove.ensures.nodes,
+        taken_noted w.records.slots c.remove.new.records.slots c.requires.working.sound (low_of w c.requires.working) c.args.id c.in-Some-remove.record some c.remove.ensures.parents,
+      );
       before = both w _ _ _ _ nodes gone;
       parents = taken_parents w.records.slots c.remove.new.records.slots c.args.id c.in-Some-remove.record some c.remove.ensures.parents;
     }

@@ -17,4 +17,3 @@ returns-in-Replace-clause-done c = rw c.in-Replace.is c.replace.ensures.done
 
 pub returns-in-Replace-clause-fault : goal.returns-in-Replace-clause-fault
 returns-in-Replace-clause-fault c = rw c.in-Replace.is c.replace.ensures.fault
-

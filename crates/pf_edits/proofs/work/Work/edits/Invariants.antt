@@ -18,5 +18,5 @@ invariant-loop-e l = record {
   faults : fault_from 1 (told l.initial.self) l.es ≡ fault_from (l.e-index + 1) (told l.self) (drop l.e-index l.es);
   effects : fold effect (told l.initial.self) l.es ≡ fold effect (told l.self) (drop l.e-index l.es);
   len : vec_len l.done ≡ l.e-index;
-  room : length l.es ≤ vec_capacity l.done
+  room : length l.es ≤ vec_capacity l.done;
 }

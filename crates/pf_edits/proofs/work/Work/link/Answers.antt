@@ -1,14 +1,13 @@
-use Rattle.std.proofs.Common.{◌≡◌, ◌≤◌, ℕ, Option, None, true, false, is_some, OnErr, IfErr, sym, ◌∙◌, ap, subst, rules}
+use Rattle.std.proofs.Common.{◌≡◌, ◌≤◌, Option, None, true, is_some, IfErr, sym, ◌∙◌, ap, subst, rules}
 use Rattle.pf_model.specs.declared.nodes.Node.{Node}
-use Rattle.pf_model.specs.Graphs.{Look, Nodes, SceneGraph, height_of, size_of, change}
+use Rattle.pf_model.specs.Graphs.{Look, Nodes, height_of, size_of, change}
 use Rattle.pf_model.specs.Limits.{IsGraphWithinLimits}
 use Rattle.pf_model.specs.NodeEdits.{with_children}
-use Rattle.pf_model.specs.Edits.{first, size_rules, with_nodes, Refuses}
+use Rattle.pf_model.specs.Edits.{first, size_rules, Refuses}
 use Rattle.pf_model.proofs.Places.{funext}
 use Rattle.pf_edits.specs.Extents.{look_of}
 use Rattle.pf_edits.specs.Listed.{nodes_of}
-use Rattle.pf_edits.specs.Working.{told, IsWorking}
-use Rattle.pf_edits.proofs.Listed.{found, looks, same_nodes, changed_nodes}
+use Rattle.pf_edits.proofs.Listed.{found, same_nodes, changed_nodes}
 use Rattle.pf_edits.proofs.Works.{on_err, low_of, small_of, told_nodes, all_noted, none_above_parent, old_noted, there_after}
 use Rattle.pf_edits.proofs.Undoes.{back_children}
 use Rattle.pf_edits.specs.Tables.{Slots}
@@ -90,8 +89,8 @@ pub returns-clause-working : goal.returns-clause-working
 returns-clause-working c =
     let w = c.args.self.now in
     let after = told_nodes w.time w.next_serial w.gone.items _ _
-        (changed_nodes c.note_link.new.records.slots c.relink.new.records.slots c.args.parent (with_children c.args.children) c.in_ok-older.ensures.nodes
-        ∙ ap (change c.args.parent (with_children c.args.children)) (same_nodes w.records.slots c.note_link.new.records.slots c.note_link.ensures.nodes)) in
+    (changed_nodes c.note_link.new.records.slots c.relink.new.records.slots c.args.parent (with_children c.args.children) c.in_ok-older.ensures.nodes
+    ∙ ap (change c.args.parent (with_children c.args.children)) (same_nodes w.records.slots c.note_link.new.records.slots c.note_link.ensures.nodes)) in
     let none : first (size_rules (change c.args.parent (with_children c.args.children) (nodes_of w.records.slots))) ≡ None =
     ap (λ (ns : Nodes). first (size_rules (change c.args.parent (with_children c.args.children) ns))) (sym (same_nodes w.records.slots c.note_link.new.records.slots c.note_link.ensures.nodes))
     ∙ c.in_ok-older.ensures.none in
@@ -113,8 +112,10 @@ returns-clause-undo c =
     let mid : Slots = c.note_link.new.records.slots in
     let there : is_some (look_of c.note_link.new.records.slots c.args.parent) ≡ true = ap (λ (o : Option Node). is_some o) (c.note_link.ensures.nodes c.args.parent ∙ sym (found w.records.slots c.args.parent)) ∙ c.requires.there in
     record {
-      can = (there_after mid c.relink.new.records.slots c.args.parent (with_children c.args.children) c.in_ok-older.ensures.nodes there,
-          λ x h. ap (is_in c.args.parent) (c.relink.ensures.parents x) ∙ old_noted mid c.note_link.ensures.sound c.args.parent c.in_ok-older.older c.in_ok-older.ensures.back x h);
+      can = (
+        there_after mid c.relink.new.records.slots c.args.parent (with_children c.args.children) c.in_ok-older.ensures.nodes there,
+        λ x h. ap (is_in c.args.parent) (c.relink.ensures.parents x) ∙ old_noted mid c.note_link.ensures.sound c.args.parent c.in_ok-older.older c.in_ok-older.ensures.back x h,
+      );
       before = told_nodes w.time w.next_serial w.gone.items _ _
           (back_children mid c.relink.new.records.slots c.args.parent c.args.children c.in_ok-older.older c.in_ok-older.ensures.back c.in_ok-older.ensures.nodes
           ∙ same_nodes w.records.slots mid c.note_link.ensures.nodes);

@@ -1,12 +1,12 @@
-use Rattle.std.proofs.Common.{◌≡◌, ◌+◌, ◌-◌, ◌<◌, ℕ, List, Option, None, [], true, false, is_some, length, nat_lt, refl, sym, ◌∙◌, ap, subst, rules, arith}
+use Rattle.std.proofs.Common.{◌≡◌, ◌+◌, ◌-◌, ℕ, List, Option, None, false, is_some, sym, ◌∙◌, ap, rules, arith}
 use Rattle.pf_model.specs.declared.nodes.Node.{Node}
 use Rattle.pf_model.specs.declared.edits.Edit.TheVariants as edit
 use Rattle.pf_model.specs.declared.edits.Fault.TheVariants as fault
-use Rattle.pf_model.specs.Graphs.{Nodes, SceneGraph, node_at, put}
-use Rattle.pf_model.specs.Edits.{first, make_rules, fault_of, effect}
+use Rattle.pf_model.specs.Graphs.{node_at, put}
+use Rattle.pf_model.specs.Edits.{first, make_rules}
 use Rattle.pf_model.proofs.Rules.{all_passed, when_not}
 use Rattle.pf_edits.specs.Listed.{nodes_of}
-use Rattle.pf_edits.specs.Working.{told, IsWorking}
+use Rattle.pf_edits.specs.Working.{told}
 use Rattle.pf_edits.proofs.Listed.{found, put_nodes}
 use Rattle.pf_edits.proofs.Works.{keeps_of, told_nodes, unused_of, no_record_of, within_after, made_there, fresh_parents}
 use Rattle.pf_edits.proofs.Undoes.{back_made}

@@ -1,12 +1,10 @@
-use Rattle.std.proofs.Common.{◌≡◌, ℕ, List, [], ◌∷◌, refl, sym, ◌∙◌, ap, subst}
+use Rattle.std.proofs.Common.{◌≡◌, ℕ, List, [], ◌∷◌, sym, ◌∙◌, ap, subst}
 use Rattle.pf_model.specs.declared.nodes.Kind.TheVariants.{Group}
 use Rattle.pf_model.specs.declared.nodes.Node.{Node}
 use Rattle.pf_model.specs.declared.nodes.Gone.{Gone}
-use Rattle.pf_model.specs.Graphs.{Nodes, SceneGraph, empty_scene, put}
+use Rattle.pf_model.specs.Graphs.{Nodes, SceneGraph, put}
 use Rattle.pf_model.specs.Limits.{IsGraphWithinLimits}
 use Rattle.pf_model.proofs.Histories.{limits_empty}
-use Rattle.pf_edits.specs.Listed.{nodes_of}
-use Rattle.pf_edits.specs.Working.{told, IsWorking}
 use Rattle.pf_edits.proofs.Listed.{put_nodes}
 use Rattle.pf_edits.proofs.Fresh.{empty_nodes}
 use Rattle.pf_edits.proofs.work.Work.new.Goals as goal

@@ -1,15 +1,14 @@
-use Rattle.std.proofs.Common.{◌≡◌, ◌||◌, ◌==◌, ℕ, Option, None, true, false, is_some, refl, sym, ◌∙◌, ap, subst, rules}
+use Rattle.std.proofs.Common.{◌≡◌, Option, None, true, is_some, refl, sym, ◌∙◌, ap, subst, rules}
 use Rattle.pf_model.specs.declared.nodes.Node.{Node}
 use Rattle.pf_model.specs.declared.edits.Edit.TheVariants as edit
-use Rattle.pf_model.specs.Graphs.{Look, SceneGraph, node_at, children_of, change, is_below}
-use Rattle.pf_model.specs.Limits.{IsGraphWithinLimits}
+use Rattle.pf_model.specs.Graphs.{Look, SceneGraph, node_at, children_of}
 use Rattle.pf_model.specs.NodeEdits.{with_children}
-use Rattle.pf_model.specs.Edits.{first, remove_rules, fault_of, effect}
+use Rattle.pf_model.specs.Edits.{first, remove_rules}
 use Rattle.pf_model.proofs.Rules.{all_passed, there_from}
 use Rattle.pf_edits.specs.Ways.{is_in}
-use Rattle.pf_edits.specs.Extents.{look_of, parents_of}
+use Rattle.pf_edits.specs.Extents.{look_of}
 use Rattle.pf_edits.specs.Listed.{nodes_of}
-use Rattle.pf_edits.specs.Working.{told, IsWorking}
+use Rattle.pf_edits.specs.Working.{told}
 use Rattle.pf_edits.proofs.Listed.{found, looks, changed_nodes}
 use Rattle.pf_edits.proofs.Relinks.{no_cycle}
 use Rattle.pf_edits.proofs.Ends.{remove_is, dropped_members}
@@ -67,8 +66,10 @@ returns-clause-undo c =
     ap (λ (o : Option Node). is_some o) (sym (found c.args.self.now.records.slots c.args.parent))
     ∙ there_from (nodes_of c.args.self.now.records.slots) c.args.parent (all_passed (remove_rules (nodes_of c.args.self.now.records.slots) c.args.parent c.args.child) none).0 in
     record {
-      can = (there_after w.records.slots c.relink_freely-older.new.records.slots c.args.parent (with_children c.in_ok-children.children) c.relink_freely-older.ensures.nodes there,
-          λ x h. ap (is_in c.args.parent) (c.relink_freely-older.ensures.parents x) ∙ old_noted w.records.slots c.requires.working.sound c.args.parent c.relink_freely-older.result c.relink_freely-older.ensures.back x h);
+      can = (
+        there_after w.records.slots c.relink_freely-older.new.records.slots c.args.parent (with_children c.in_ok-children.children) c.relink_freely-older.ensures.nodes there,
+        λ x h. ap (is_in c.args.parent) (c.relink_freely-older.ensures.parents x) ∙ old_noted w.records.slots c.requires.working.sound c.args.parent c.relink_freely-older.result c.relink_freely-older.ensures.back x h,
+      );
       before = told_nodes w.time w.next_serial w.gone.items _ _
           (back_children w.records.slots c.relink_freely-older.new.records.slots c.args.parent c.in_ok-children.children c.relink_freely-older.result c.relink_freely-older.ensures.back c.relink_freely-older.ensures.nodes);
       parents = λ b p h. ap (is_in p) (c.relink_freely-older.ensures.parents b) ∙ h;

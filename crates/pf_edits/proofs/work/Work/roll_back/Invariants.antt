@@ -8,7 +8,7 @@ abbrev pub invariant-loop-undo : goal.invariant-loop-undo
 invariant-loop-undo l = record {
   working : IsWorking l.self;
   undoable : AllUndoable (told l.self) (parents_of l.self.records.slots) (reverse l.done.items);
-  same : before_all (told l.self) (reverse l.done.items) ≡ before_all (told l.initial.self) (reverse l.initial.done.items)
+  same : before_all (told l.self) (reverse l.done.items) ≡ before_all (told l.initial.self) (reverse l.initial.done.items);
 }
 
 abbrev pub decreases-loop-undo : goal.decreases-loop-undo

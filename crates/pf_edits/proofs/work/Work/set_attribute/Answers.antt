@@ -1,14 +1,14 @@
-use Rattle.std.proofs.Common.{◌≡◌, ℕ, Option, None, true, is_some, refl, sym, ◌∙◌, ap, subst, rules}
+use Rattle.std.proofs.Common.{◌≡◌, Option, None, true, is_some, sym, ◌∙◌, ap, rules}
 use Rattle.pf_model.specs.declared.nodes.Node.{Node}
-use Rattle.pf_model.specs.Graphs.{Nodes, SceneGraph, node_at, change}
+use Rattle.pf_model.specs.Graphs.{node_at, change}
 use Rattle.pf_model.specs.Limits.{is_there}
 use Rattle.pf_model.specs.Copies.{named_by}
-use Rattle.pf_model.specs.NodeEdits.{with_kind, node_after}
-use Rattle.pf_model.specs.Edits.{fault_of, effect}
+use Rattle.pf_model.specs.NodeEdits.{with_kind}
+use Rattle.pf_model.specs.Edits.{fault_of}
 use Rattle.pf_model.proofs.Rules.{attribute_effect}
 use Rattle.pf_model.proofs.Changes.{change_kind}
 use Rattle.pf_edits.specs.Listed.{nodes_of}
-use Rattle.pf_edits.specs.Working.{told, IsWorking}
+use Rattle.pf_edits.specs.Working.{told}
 use Rattle.pf_edits.proofs.Listed.{found, changed_nodes}
 use Rattle.pf_edits.proofs.Works.{told_nodes, within_after, there_after}
 use Rattle.pf_edits.proofs.Undoes.{back_kind}
