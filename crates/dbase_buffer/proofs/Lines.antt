@@ -10,7 +10,7 @@ use Rattle.pf_model.specs.Graphs.{SceneGraph}
 use Rattle.pf_model.specs.Edits.{fault_of, effect}
 use Rattle.pf_model.specs.Merges.{BufferState, empty_buffer, judged, after_step, buffer_after}
 use Rattle.pf_history.specs.Asks.{merge_of, asked_base_from}
-use Rattle.dbase_buffer.specs.Laws.{LineLaw, stands_in_buffer, MergeLaw, IsCounted, CountLaw}
+use Rattle.dbase_buffer.specs.Laws.{LineLaw, stands_in_buffer, MergeLaw, CountLaw}
 
 pub line_law : LineLaw
 line_law = record { empty = refl; line = λ steps s. fold-append after_step empty_buffer steps (s ∷ []) }
@@ -42,13 +42,15 @@ pub record AddsOne (b c : BufferState) : Type 0 where
   pub serials : c.graph.next_serial ≤ b.graph.next_serial + 1
   pub edits : length c.edits + c.dropped ≤ length b.edits + b.dropped + 1
 
-recorded_more : (b : BufferState) (g : SceneGraph) (e : Edit) → g.next_serial ≤ b.graph.next_serial + 1 → AddsOne b (record b { graph = g; edits = b.edits ++ e ∷ [] })
+recorded_more : (b : BufferState) (g : SceneGraph) (e : Edit) → g.next_serial ≤ b.graph.next_serial + 1
+    → AddsOne b (record b { graph = g; edits = b.edits ++ e ∷ [] })
 recorded_more b g e more = record { serials = more; edits = rw (length-append b.edits (e ∷ [])) (omega arith) }
 
 judged_more : (b : BufferState) (e : Edit) → AddsOne b (judged b e)
 judged_more b e = by (is_some (fault_of b.graph e))
   where
-    by : (t : Bool) → AddsOne b (cond t (record b { dropped = b.dropped + 1 }) (record b { graph = effect b.graph e; edits = b.edits ++ e ∷ [] }))
+    by : (t : Bool)
+        → AddsOne b (cond t (record b { dropped = b.dropped + 1 }) (record b { graph = effect b.graph e; edits = b.edits ++ e ∷ [] }))
     by true = record { serials = omega arith; edits = omega arith }
     by false = recorded_more b (effect b.graph e) e (effect_serials b.graph e)
 
@@ -71,4 +73,6 @@ lines_more b (s ∷ steps) =
     record { serials = omega (arith, one.serials, rest.serials); edits = omega (arith, one.edits, rest.edits) }
 
 pub count_law : CountLaw
-count_law steps = let all = lines_more empty_buffer steps in record { serials = omega (arith, all.serials); edits = omega (arith, all.edits) }
+count_law steps =
+    let all = lines_more empty_buffer steps in
+    record { serials = omega (arith, all.serials); edits = omega (arith, all.edits) }

@@ -1,4 +1,4 @@
-//! The buffer: a scene graph of its own, the edits recorded for the merge, and how many edits were dropped.
+//! The buffer: a scene graph of its own, the recorded edits, and how many edits were dropped.
 ghost use Rattle.std.specs.Prelude.{◌≡◌, ◌-◌, ◌^◌, ◌<◌, true, None, length, IfOk, IfErr, OnOk, OnErr};
 ghost use Rattle.std.specs.List.{list_all};
 ghost use Rattle.pf_model.specs.Edits.{fault_of};
@@ -15,9 +15,10 @@ use pf_model::{Edit, EditError, EditListBuilder};
 use std::alloc::Global;
 use std::marker::Model;
 
-/// A buffer (pfBuffer). Node edits and links are judged at once in a scene graph of the buffer's own, which begins as
-/// the scene alone and prepares frame 1; links that are asked for are recorded without a test. Contracts see the graph,
-/// the recorded edits in order, and the number of dropped ones.
+/// A buffer (pfBuffer). Edits are judged at once in a scene graph of the buffer's own, which begins
+/// as the scene alone and prepares frame 1; children that are asked to be added or removed are
+/// recorded without a test. Contracts see the graph, the recorded edits in order, and the number of
+/// dropped ones.
 #[derive(Debug, Drop)]
 pub struct Buffer {
     graph: WorkGraph,
@@ -38,7 +39,6 @@ impl Model for Buffer {
     ghost invariant = { λ b. list_all fits b.edits.items ≡ true };
 }
 
-#[tactic(auto, using(crate::proofs::Fitting::one_more_fits))]
 impl Buffer {
     /// A buffer with nothing recorded and nothing dropped.
     pub fn new(alloc: Global) -> Result<Buffer, NoMemory>
@@ -72,8 +72,9 @@ impl Buffer {
         self.graph.next_serial()
     }
 
-    /// Judges an edit in the buffer's graph: it is made there and recorded, or it has a fault there and is counted as
-    /// dropped. Want of memory may come before the fault.
+    /// Judges an edit in the buffer's graph: it is made there and recorded, or it has a fault there
+    /// and is counted as dropped. Want of memory may come before the fault.
+    #[tactic(auto, using(crate::proofs::Fitting::one_more_fits))]
     pub fn edit(&mut self, e: Edit) -> Result<(), BufferError>
         requires serials { self.old.graph.next_serial < 2 ^ 32 - 1 }
         requires drops { self.old.dropped < 2 ^ 32 - 1 }
@@ -98,6 +99,7 @@ impl Buffer {
     }
 
     /// Records a child to be appended in the scene, without a test (pfBufferAddChild).
+    #[tactic(auto, using(crate::proofs::Fitting::one_more_fits))]
     pub fn ask_add(&mut self, parent: u16, child: u16) -> Result<(), NoMemory>
         ensures ok { OnOk result (self.new ≡ recorded self.old (Edit.Add parent child)) }
         ensures err { OnErr result (self.new ≡ self.old) }
@@ -108,6 +110,7 @@ impl Buffer {
     }
 
     /// Records a child to be taken out in the scene, without a test (pfBufferRemoveChild).
+    #[tactic(auto, using(crate::proofs::Fitting::one_more_fits))]
     pub fn ask_remove(&mut self, parent: u16, child: u16) -> Result<(), NoMemory>
         ensures ok { OnOk result (self.new ≡ recorded self.old (Edit.Remove parent child)) }
         ensures err { OnErr result (self.new ≡ self.old) }
@@ -117,8 +120,8 @@ impl Buffer {
         Ok(())
     }
 
-    /// The merge that the buffer asks for (pfMergeBuffer): its recorded edits in order, and how many it dropped. It
-    /// takes no memory.
+    /// The merge that the buffer asks for (pfMergeBuffer): its recorded edits in order, and how
+    /// many it dropped. It takes no memory.
     pub fn take(self) -> Merge
         ensures merge { result ≡ merge_of self }
         ensures fits { list_all fits result.edits ≡ true }

@@ -1,4 +1,4 @@
-//! DBASE's buffer (pfBuffer): edits that the database process makes by itself, for one merge into the scene.
+//! DBASE's buffer (pfBuffer): edits that the database process makes by itself, for one merge.
 #![tactic(auto)]
 
 mod buffer;

@@ -63,6 +63,10 @@ fn is_remove(e: Option<&Edit>, wanted: (u16, u16)) -> bool {
     }
 }
 
+fn moves<T: Send>(value: T) -> T {
+    value
+}
+
 // A geode, and a link below a node that the buffer does not know.
 #[test]
 fn merge_between_two_frames(rt: HostRuntime) -> Result<(), Fail> {
@@ -96,10 +100,11 @@ fn refused_merge(rt: HostRuntime) -> Result<(), Fail> {
     Ok(())
 }
 
-// What is asked for is not made in the buffer's graph: the node there keeps its place in it.
+// What is asked for is not made in the buffer's graph: the node there keeps its place in it. The
+// buffer may cross to another thread.
 #[test]
 fn asks_leave_the_graph(rt: HostRuntime) -> Result<(), Fail> {
-    let mut buffer = Buffer::new(rt.alloc())?;
+    let mut buffer = moves(Buffer::new(rt.alloc())?);
     assert_eq!(rt; edit(&rt, &mut buffer, group(1)), Ok(()));
     assert_eq!(rt; add(&rt, &mut buffer, 0, 1), Ok(()));
     buffer.ask_remove(0, 1)?;
