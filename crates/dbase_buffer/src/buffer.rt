@@ -1,0 +1,139 @@
+//! The buffer: a scene graph of its own, the recorded edits, and how many edits were dropped.
+ghost use Rattle.std.specs.Prelude.{◌≡◌, ◌-◌, ◌^◌, ◌<◌, true, None, length, IfOk, IfErr, OnOk, OnErr};
+ghost use Rattle.std.specs.List.{list_all};
+ghost use Rattle.pf_model.specs.Edits.{fault_of};
+ghost use Rattle.pf_model.specs.Merges.{empty_buffer, judged, recorded};
+ghost use Rattle.pf_model.specs.Fits.{fits};
+ghost use Rattle.pf_history.specs.Asks.{merge_of};
+ghost use Rattle.dbase_buffer.specs.Judging.{TellsFault, left_by};
+
+use crate::errors::BufferError;
+use pf_edits::WorkGraph;
+use pf_history::Merge;
+use pf_io::NoMemory;
+use pf_model::{Edit, EditError, EditListBuilder};
+use std::alloc::Global;
+use std::marker::Model;
+
+/// A buffer (pfBuffer). Edits are judged at once in a scene graph of the buffer's own, which begins
+/// as the scene alone and prepares frame 1; children that are asked to be added or removed are
+/// recorded without a test. Contracts see the graph, the recorded edits in order, and the number of
+/// dropped ones.
+#[derive(Debug, Drop)]
+pub struct Buffer {
+    graph: WorkGraph,
+    edits: EditListBuilder,
+    dropped: u32,
+}
+
+impl Model for Buffer {
+    ghost use Rattle.std.specs.Prelude.{◌≡◌, true};
+    ghost use Rattle.std.specs.List.{list_all};
+    ghost use Rattle.pf_model.specs.Fits.{fits};
+    ghost use Rattle.pf_model.specs.Merges.{BufferState};
+
+    ghost Value = { BufferState };
+
+    ghost view = { λ b. record { graph = b.graph; edits = b.edits.items; dropped = b.dropped } };
+
+    ghost invariant = { λ b. list_all fits b.edits.items ≡ true };
+}
+
+impl Buffer {
+    /// A buffer with nothing recorded and nothing dropped.
+    pub fn new(alloc: Global) -> Result<Buffer, NoMemory>
+        ensures { IfOk result (λ b. b ≡ empty_buffer) }
+    {
+        Ok(Buffer {
+            graph: WorkGraph::new(alloc)?,
+            edits: EditListBuilder::new(alloc),
+            dropped: 0,
+        })
+    }
+
+    /// The number of edits recorded.
+    pub fn len(&self) -> usize
+        ensures { result ≡ length self.now.edits }
+    {
+        self.edits.len()
+    }
+
+    /// The number of edits dropped for a fault in the buffer's graph.
+    pub fn dropped(&self) -> u32
+        ensures { result ≡ self.now.dropped }
+    {
+        self.dropped
+    }
+
+    /// The serial that the next node made in the buffer's graph gets.
+    pub fn next_serial(&self) -> u32
+        ensures { result ≡ self.now.graph.next_serial }
+    {
+        self.graph.next_serial()
+    }
+
+    /// Judges an edit in the buffer's graph: it is made there and recorded, or it has a fault there
+    /// and is counted as dropped. Want of memory may come before the fault.
+    #[tactic(auto, using(crate::proofs::Fitting::one_more_fits))]
+    pub fn edit(&mut self, e: Edit) -> Result<(), BufferError>
+        requires serials { self.old.graph.next_serial < 2 ^ 32 - 1 }
+        requires drops { self.old.dropped < 2 ^ 32 - 1 }
+        requires fits { fits e ≡ true }
+        ensures done { OnOk result (fault_of self.old.graph e ≡ None) }
+        ensures recorded { OnOk result (self.new ≡ judged self.old e) }
+        ensures fault { IfErr result (λ r. TellsFault r (fault_of self.old.graph e)) }
+        ensures left { IfErr result (λ r. self.new ≡ left_by r self.old e) }
+    {
+        self.edits.reserve(1)?;
+        match self.graph.edit(&e) {
+            Ok(()) => {
+                self.edits.push_reserved(e);
+                Ok(())
+            }
+            Err(EditError::Fault(fault)) => {
+                self.dropped += 1;
+                Err(BufferError::Fault(fault))
+            }
+            Err(EditError::NoMemory) => Err(BufferError::NoMemory),
+        }
+    }
+
+    /// Records a child to be appended in the scene, without a test (pfBufferAddChild).
+    #[tactic(auto, using(crate::proofs::Fitting::one_more_fits))]
+    pub fn ask_add(&mut self, parent: u16, child: u16) -> Result<(), NoMemory>
+        ensures ok { OnOk result (self.new ≡ recorded self.old (Edit.Add parent child)) }
+        ensures err { OnErr result (self.new ≡ self.old) }
+    {
+        self.edits.reserve(1)?;
+        self.edits.push_reserved(Edit::Add { parent, child });
+        Ok(())
+    }
+
+    /// Records a child to be taken out in the scene, without a test (pfBufferRemoveChild).
+    #[tactic(auto, using(crate::proofs::Fitting::one_more_fits))]
+    pub fn ask_remove(&mut self, parent: u16, child: u16) -> Result<(), NoMemory>
+        ensures ok { OnOk result (self.new ≡ recorded self.old (Edit.Remove parent child)) }
+        ensures err { OnErr result (self.new ≡ self.old) }
+    {
+        self.edits.reserve(1)?;
+        self.edits.push_reserved(Edit::Remove { parent, child });
+        Ok(())
+    }
+
+    /// The merge that the buffer asks for (pfMergeBuffer): its recorded edits in order, and how
+    /// many it dropped. It takes no memory.
+    pub fn take(self) -> Merge
+        ensures merge { result ≡ merge_of self }
+        ensures fits { list_all fits result.edits ≡ true }
+    {
+        let Buffer {
+            graph: _,
+            edits,
+            dropped,
+        } = self;
+        Merge {
+            edits: edits.finish(),
+            dropped,
+        }
+    }
+}
