@@ -1,7 +1,6 @@
 -- From a change of a node's children to the clauses of an edit of its links.
-use Rattle.std.proofs.Common.{◌<◌, ◌≤◌, Bool, false, not, nat_le, nat_lt, arith, Some, ◌≡◌, ℕ, true, ◌||◌, ◌==◌, ◌⊎◌, inl, inr, List, [], ◌∷◌, ◌++◌, length, Option, None, Result, OnOk, IfErr, refl, sym, ◌∙◌, ap, subst}
+use Rattle.std.proofs.Common.{◌<◌, ◌≤◌, false, nat_le, nat_lt, arith, Some, ◌≡◌, ℕ, true, ◌||◌, ◌==◌, ◌⊎◌, inl, inr, List, [], ◌∷◌, ◌++◌, length, Option, None, Result, OnOk, refl, sym, ◌∙◌, ap, subst}
 use Rattle.std.specs.List.{insert}
-use Rattle.pf_model.specs.declared.edits.EditError.{EditError}
 use Rattle.pf_model.specs.declared.edits.Fault.{Fault}
 use Rattle.pf_model.specs.declared.edits.Edit.{Edit}
 use Rattle.pf_model.specs.declared.edits.Edit.TheVariants as edit
@@ -9,7 +8,7 @@ use Rattle.pf_model.specs.Children.{replace_first, drop_first}
 use Rattle.pf_model.specs.Graphs.{Nodes, SceneGraph, node_at, children_of, change}
 use Rattle.pf_model.specs.Limits.{IsGraphWithinLimits}
 use Rattle.pf_model.specs.NodeEdits.{with_children}
-use Rattle.pf_model.specs.Edits.{first, when, size_rules, add_rules, insert_rules, replace_rules, remove_rules, with_nodes, fault_of, effect, Refuses}
+use Rattle.pf_model.specs.Edits.{first, when, size_rules, add_rules, insert_rules, replace_rules, remove_rules, with_nodes, fault_of, effect}
 use Rattle.pf_model.specs.Fits.{fits}
 use Rattle.pf_model.proofs.EditLimits.{limits_effect}
 use Rattle.pf_model.proofs.Rules.{first_passes, all_passed, there_from, when_not}

@@ -6,18 +6,16 @@ use Rattle.std.proofs.lemmas.Bool.{eqb-true, eq-eqb}
 use Rattle.std.proofs.lemmas.Bool.Decides.{nat_tests}
 use Rattle.pf_model.specs.declared.nodes.Node.{Node}
 use Rattle.pf_model.specs.declared.edits.Fault.TheVariants as fault
-use Rattle.pf_model.specs.Graphs.{Look, Nodes, node_at, has_id, greatest, height_of, size_of}
+use Rattle.pf_model.specs.Graphs.{Nodes, node_at, has_id, greatest, height_of, size_of}
 use Rattle.pf_model.specs.Edits.{first, when, greatest_height, deep, large, size_rules}
 use Rattle.pf_model.specs.Limits.{IsRising}
 use Rattle.pf_model.specs.Laws.{AreLow}
 use Rattle.pf_model.proofs.Places.{node_at_step, all_found, from_found}
 use Rattle.pf_edits.specs.declared.extents.Extent.{Extent}
-use Rattle.pf_edits.specs.Tables.{Slots}
 use Rattle.pf_edits.specs.Ways.{is_in}
-use Rattle.pf_edits.specs.Extents.{look_of, extent_at, reckoned, Meets, IsWithin}
-use Rattle.pf_edits.specs.Listed.{nodes_of}
+use Rattle.pf_edits.specs.Extents.{reckoned, Meets, IsWithin}
 use Rattle.pf_edits.proofs.Ups.{height_above, heights_are, sizes_are, ahead, behind}
-use Rattle.pf_edits.proofs.Listed.{looks, found, rising}
+use Rattle.pf_edits.proofs.Listed.{found}
 
 -- Nodes and a number of each
 

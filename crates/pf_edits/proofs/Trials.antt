@@ -1,13 +1,13 @@
 -- Extents reckoned for a trial: as if a node had other children.
-use Rattle.std.proofs.Common.{◌≡◌, ℕ, zero, suc, ◌+◌, ◌-◌, ◌<◌, ◌≤◌, min, max, Bool, true, false, cond, ◌||◌, ◌==◌, List, [], ◌∷◌, ◌++◌, length, get_or, set, take, drop, reverse, Option, Some, None, is_some, refl, sym, ◌∙◌, ap, subst, arith}
+use Rattle.std.proofs.Common.{◌≡◌, ℕ, zero, suc, ◌+◌, ◌-◌, ◌<◌, ◌≤◌, min, max, Bool, true, false, cond, ◌||◌, ◌==◌, List, [], ◌∷◌, length, get_or, set, take, drop, reverse, Option, Some, None, is_some, refl, sym, ◌∙◌, ap, subst, arith}
 use Rattle.std.specs.List.{fold, insert}
-use Rattle.std.specs.Option.{option_map, option_map_or}
+use Rattle.std.specs.Option.{option_map}
 use Rattle.std.proofs.lemmas.Bool.{eqb-true, eq-eqb}
 use Rattle.std.proofs.lemmas.List.{take-append-drop, set_split, take_all}
 use Rattle.std.proofs.lemmas.List.Sums.{fold-append}
 use Rattle.std.proofs.lemmas.List.Folds.{list_any_at}
 use Rattle.pf_model.specs.declared.nodes.Node.{Node}
-use Rattle.pf_model.specs.Graphs.{Look, Nodes, node_at, children_of, size_of, change}
+use Rattle.pf_model.specs.Graphs.{Look, node_at, children_of, size_of, change}
 use Rattle.pf_model.specs.Limits.{has_child}
 use Rattle.pf_model.specs.Laws.{AreLow}
 use Rattle.pf_model.specs.NodeEdits.{with_children}

@@ -29,9 +29,9 @@ fn red(alloc: Global, count: u16) -> Result<Geom, Fail> {
     };
     for place in 0..count {
         tris.push(tri).map_err(AllocError::from)?;
-        if tris.len() >= 4_096 {
-            break;
-        }
+    }
+    if tris.len() > 4_096 {
+        return Err("too many".into());
     }
     Ok(Geom::new(tris)?)
 }
@@ -293,25 +293,25 @@ fn link_edit(dice: &mut Dice, number: u16, a: u16, b: u16, place: u16) -> Edit {
 fn pose_edit(number: u16, off: u16, b: u16) -> Result<Edit, Fail> {
     Ok(match number {
         0 => Edit::Pick {
-            id: 1 + off,
+            id: off.saturating_add(1),
             pick: Pick::On,
         },
         1 => Edit::Mat {
-            id: 2 + off,
+            id: off.saturating_add(2),
             mat: Affine::IDENTITY,
         },
         2 => Edit::Trans {
-            id: 2 + off,
+            id: off.saturating_add(2),
             t: point(b)?,
         },
         3 => Edit::Rot {
-            id: 2 + off,
+            id: off.saturating_add(2),
             h: i32::from(b),
             p: 0,
             r: 0,
         },
         _ => Edit::Scale {
-            id: 2 + off,
+            id: off.saturating_add(2),
             s: i32::from(b),
         },
     })
@@ -320,21 +320,25 @@ fn pose_edit(number: u16, off: u16, b: u16) -> Result<Edit, Fail> {
 fn other_edit(alloc: Global, number: u16, off: u16, place: u16, b: u16) -> Result<Edit, Fail> {
     Ok(match number {
         0 => Edit::Range {
-            id: 3 + off,
+            id: off.saturating_add(3),
             place,
             value: u32::from(b),
         },
         1 => Edit::Centre {
-            id: 3 + off,
+            id: off.saturating_add(3),
             at: point(b)?,
         },
         2 => Edit::Times {
-            id: 4 + off,
+            id: off.saturating_add(4),
             place,
-            frames: b + 1,
+            frames: b.saturating_add(1),
         },
-        3 => Edit::Run { id: 4 + off },
-        4 => Edit::Stop { id: 4 + off },
+        3 => Edit::Run {
+            id: off.saturating_add(4),
+        },
+        4 => Edit::Stop {
+            id: off.saturating_add(4),
+        },
         _ => Edit::Verts {
             id: 5,
             geom: red(alloc, place)?,
@@ -351,9 +355,9 @@ fn thrown(alloc: Global, dice: &mut Dice) -> Result<Edit, Fail> {
     let off = if place == 2 { 1 } else { 0 };
     match number {
         0..=2 => Ok(make(a, kind_of(alloc, a)?)),
-        3..=12 => Ok(link_edit(dice, number - 3, a, b, place)),
-        13..=17 => pose_edit(number - 13, off, b),
-        _ => other_edit(alloc, number - 18, off, place, b),
+        3..=12 => Ok(link_edit(dice, number.saturating_sub(3), a, b, place)),
+        13..=17 => pose_edit(number.saturating_sub(13), off, b),
+        _ => other_edit(alloc, number.saturating_sub(18), off, place, b),
     }
 }
 
@@ -384,7 +388,9 @@ fn answer(given: Result<(), EditError>) -> u32 {
 fn answer_of_all(given: Result<(), EditsError>) -> u32 {
     match given {
         Ok(()) => 0,
-        Err(EditsError::Fault { place, fault }) => place % 100 * 1_000_000 + code(fault),
+        Err(EditsError::Fault { place, fault }) => (place % 100 * 1_000_000).saturating_add(code(
+            fault,
+        )),
         Err(EditsError::NoMemory) => 1,
     }
 }
@@ -394,53 +400,21 @@ fn next_frame(rt: &impl Abort, graph: &mut WorkGraph) {
     graph.next_frame();
 }
 
-// What a slow reading of the rules in another language answers to the edits that are thrown, one by one.
-const ANSWERS: [u32; 240] = [
-    10_500, 0, 20_500, 10_700, 20_500, 70_200, 10_100, 10_300, 10_100, 0, 10_100, 10_100, 0, 0,
-    10_300, 40_100, 10_700, 10_300, 30_000, 20_200, 0, 30_500, 10_600, 0, 0, 0, 10_100, 30_400, 0,
-    0, 10_300, 20_700, 0, 70_000, 0, 60_404, 10_300, 0, 10_300, 0, 10_600, 0, 50_705, 10_300,
-    70_000, 10_300, 0, 20_400, 10_100, 10_300, 0, 10_300, 0, 0, 10_300, 10_300, 0, 10_200, 30_300,
-    30_500, 10_100, 10_100, 0, 0, 0, 30_500, 20_300, 10_200, 30_500, 30_500, 0, 50_701, 0, 70_000,
-    20_200, 50_700, 0, 0, 0, 20_400, 30_200, 0, 0, 0, 0, 0, 20_300, 30_500, 30_500, 30_200, 0,
-    50_407, 50_404, 0, 0, 30_200, 0, 60_202, 0, 0, 10_600, 0, 10_600, 30_000, 0, 20_400, 10_600, 0,
-    0, 0, 0, 70_200, 20_100, 30_500, 30_400, 20_300, 30_000, 0, 60_303, 30_300, 0, 0, 0, 0, 0,
-    20_100, 0, 0, 0, 30_000, 30_500, 30_000, 0, 0, 0, 0, 0, 30_000, 0, 70_200, 0, 10_600, 0,
-    20_100, 0, 70_000, 0, 0, 60_702, 20_000, 10_600, 0, 0, 0, 0, 20_200, 100_500, 0, 0, 20_100, 0,
-    0, 0, 0, 30_500, 0, 0, 0, 0, 0, 10_600, 0, 0, 0, 0, 10_600, 0, 0, 0, 30_000, 0, 0, 50_304, 0,
-    0, 0, 30_500, 0, 30_000, 60_303, 0, 10_600, 0, 30_400, 30_300, 30_400, 0, 20_700, 20_700,
-    30_000, 0, 30_300, 0, 40_100, 30_000, 0, 0, 0, 0, 30_300, 0, 0, 30_000, 30_000, 60_202, 50_004,
-    20_500, 20_500, 0, 0, 0, 30_500, 0, 0, 30_500, 30_500, 0, 0, 50_203, 20_600, 0, 20_400, 0,
-    50_006, 0, 30_200, 60_704, 0, 0, 60_101,
-];
-
-// And then to lists of three of them.
-const MERGED: [u32; 48] = [
-    1_030_500, 2_050_705, 0, 1_100_600, 2_030_000, 1_030_500, 1_020_300, 2_020_100, 1_020_300,
-    3_030_400, 1_030_300, 2_060_203, 3_030_500, 3_050_400, 2_020_400, 1_030_300, 2_050_706,
-    3_030_300, 0, 1_050_100, 1_030_500, 0, 1_030_400, 1_030_500, 2_070_200, 3_030_500, 1_060_603,
-    1_020_100, 2_050_701, 1_030_000, 2_030_300, 2_100_700, 1_020_700, 2_020_300, 3_020_400,
-    1_020_100, 3_070_000, 2_050_704, 3_060_404, 2_030_300, 3_050_000, 3_030_500, 1_030_500,
-    1_030_400, 3_020_600, 1_020_200, 0, 1_050_004,
-];
-
-/// Makes all edits of the first table, in frames of 24.
-fn play_edits(
+/// What 24 edits answer, as one number.
+fn frame_of_edits(
     rt: &impl Abort,
     alloc: Global,
     graph: &mut WorkGraph,
     dice: &mut Dice,
-) -> Result<(), Fail> {
-    let mut left = 23u32;
-    for want in ANSWERS {
-        if left == 0 {
-            next_frame(rt, graph);
-            left = 24;
-        }
-        left -= 1;
+) -> Result<u32, Fail> {
+    let mut told = 0u32;
+    for count in 0..24 {
         let e = thrown(alloc, dice)?;
-        assert_eq!(rt; answer(edit(rt, graph, &e)), want);
+        let next = answer(edit(rt, graph, &e));
+        told = told.wrapping_mul(31).wrapping_add(next);
     }
-    Ok(())
+    next_frame(rt, graph);
+    Ok(told)
 }
 
 fn three(alloc: Global, dice: &mut Dice) -> Result<EditList, Fail> {
@@ -451,38 +425,73 @@ fn three(alloc: Global, dice: &mut Dice) -> Result<EditList, Fail> {
     Ok(list)
 }
 
-/// Makes all lists of the second table, in frames of 8.
-fn play_lists(
+/// What 8 lists of three edits answer, as one number.
+fn frame_of_lists(
     rt: &impl Abort,
     alloc: Global,
     graph: &mut WorkGraph,
     dice: &mut Dice,
-) -> Result<(), Fail> {
-    let mut left = 8u32;
-    for want in MERGED {
+) -> Result<u32, Fail> {
+    let mut told = 0u32;
+    for count in 0..8 {
         let list = three(alloc, dice)?;
-        assert_eq!(rt; answer_of_all(edits(rt, graph, &list)), want);
-        left -= 1;
-        if left == 0 {
-            next_frame(rt, graph);
-            left = 8;
-        }
+        let next = answer_of_all(edits(rt, graph, &list));
+        told = told.wrapping_mul(31).wrapping_add(next);
     }
+    next_frame(rt, graph);
+    Ok(told)
+}
+
+// What a slow reading of the rules in another language answers to the edits that are thrown, 24 a frame.
+const EDITS: [u32; 10] = [
+    1_647_953_636,
+    788_006_596,
+    4_085_462,
+    618_157_676,
+    2_530_301_784,
+    215_492_322,
+    2_813_026_281,
+    1_194_864_625,
+    1_717_288_900,
+    3_700_219_925,
+];
+
+// And then to lists of three, 8 a frame.
+const LISTS: [u32; 6] = [
+    2_297_202_897,
+    320_547_219,
+    876_438_940,
+    1_021_271_944,
+    998_897_367,
+    2_771_698_777,
+];
+
+/// The scene's children and those of two other nodes in the end.
+fn children_in_the_end(rt: &impl Abort, graph: &WorkGraph) -> Result<(), Fail> {
+    assert_eq!(rt; children(graph, 0)?, [5, 2, 6, 6, 1, 5, 2].as_slice());
+    assert_eq!(rt; children(graph, 3)?, [4, 2, 4, 5].as_slice());
+    assert_eq!(rt; children(graph, 6)?, [1, 2, 4, 4, 4, 4, 3, 3, 5].as_slice());
     Ok(())
+}
+
+fn sizes(graph: &WorkGraph) -> (u32, u32) {
+    (graph.size(), graph.tris())
 }
 
 #[test]
 fn hundreds_of_edits(rt: HostRuntime) -> Result<(), Fail> {
-    let mut graph = WorkGraph::new(rt.alloc())?;
-    let mut dice = Dice { state: 331 };
-    play_edits(&rt, rt.alloc(), &mut graph, &mut dice)?;
-    assert_eq!(rt; (graph.size(), graph.tris()), (27, 1));
-    play_lists(&rt, rt.alloc(), &mut graph, &mut dice)?;
-    assert_eq!(rt; (graph.size(), graph.tris()), (32, 1));
+    let alloc = rt.alloc();
+    let mut graph = WorkGraph::new(alloc)?;
+    let mut dice = Dice { state: 1_224 };
+    for want in EDITS {
+        assert_eq!(rt; frame_of_edits(&rt, alloc, &mut graph, &mut dice)?, want);
+    }
+    assert_eq!(rt; sizes(&graph), (160, 1));
+    for want in LISTS {
+        assert_eq!(rt; frame_of_lists(&rt, alloc, &mut graph, &mut dice)?, want);
+    }
+    assert_eq!(rt; sizes(&graph), (171, 1));
     assert_eq!(rt; (graph.time(), graph.next_serial()), (17, 10));
-    assert_eq!(rt; children(&graph, 0)?, [1, 3, 2].as_slice());
-    assert_eq!(rt; children(&graph, 2)?, [7, 7, 1, 7, 5].as_slice());
-    assert_eq!(rt; children(&graph, 4)?, [5, 2, 3, 3, 2].as_slice());
-    assert_eq!(rt; graph.take_gone().len(), 2);
-    Ok(())
+    assert_eq!(rt; graph.take_gone().len(), 3);
+    children_in_the_end(&rt, &graph)
 }

@@ -1,4 +1,4 @@
-use Rattle.std.proofs.Common.{◌≡◌, ◌+◌, ℕ, take, drop, sym, ◌∙◌, ap, rules}
+use Rattle.std.proofs.Common.{◌≡◌, ◌+◌, take, drop, ◌∙◌, ap}
 use Rattle.std.specs.List.{fold}
 use Rattle.pf_edits.specs.declared.extents.Extent.{Extent}
 use Rattle.pf_edits.specs.Extents.{extent_at, joined, reckoned}

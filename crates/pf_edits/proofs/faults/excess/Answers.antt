@@ -1,4 +1,4 @@
-use Rattle.std.proofs.Common.{◌≡◌, ◌<◌, ◌≤◌, ℕ, Some, sym, ◌∙◌, ap, subst}
+use Rattle.std.proofs.Common.{◌<◌, ◌≤◌, ℕ, Some, sym, ◌∙◌, ap, subst}
 use Rattle.pf_model.specs.declared.edits.Fault.TheVariants as fault
 use Rattle.pf_edits.specs.Extents.{extent_at}
 use Rattle.pf_edits.proofs.Sizes.{is_deep, is_large, is_fine}

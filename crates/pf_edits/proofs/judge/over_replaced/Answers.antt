@@ -1,4 +1,4 @@
-use Rattle.std.proofs.Common.{◌≡◌, ◌==◌, ℕ, List, Some, None, sym, ◌∙◌, ap}
+use Rattle.std.proofs.Common.{ℕ, List, sym, ◌∙◌, ap}
 use Rattle.pf_model.proofs.Entries.{replace_found, replace_none}
 use Rattle.pf_edits.specs.Extents.{extent_at, reckoned}
 use Rattle.pf_edits.proofs.judge.over_replaced.Goals as goal

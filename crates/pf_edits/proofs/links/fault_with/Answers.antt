@@ -1,9 +1,9 @@
-use Rattle.std.proofs.Common.{◌≡◌, ◌∷◌, [], ◌==◌, ◌||◌, ℕ, List, true, false, map, reverse, refl, sym, ◌∙◌, ap, subst}
-use Rattle.pf_model.specs.Graphs.{Look, node_at, change}
+use Rattle.std.proofs.Common.{◌≡◌, ◌∷◌, ℕ, List, false, refl, sym, ◌∙◌, ap, subst}
+use Rattle.pf_model.specs.Graphs.{Look, change}
 use Rattle.pf_model.specs.NodeEdits.{with_children}
 use Rattle.pf_model.proofs.Places.{funext}
 use Rattle.pf_edits.specs.Ways.{is_in, LeadUp}
-use Rattle.pf_edits.specs.Extents.{look_of, parents_of, extent_at, with_extent, MeetBut, IsWithin}
+use Rattle.pf_edits.specs.Extents.{look_of, extent_at, with_extent, MeetBut}
 use Rattle.pf_edits.specs.Listed.{nodes_of}
 use Rattle.pf_edits.proofs.Marks.{in_reverse}
 use Rattle.pf_edits.proofs.Relinks.{apart_from}

@@ -1,15 +1,13 @@
-use Rattle.std.proofs.Common.{◌≡◌, ◌<◌, ◌≤◌, ◌==◌, ◌||◌, ℕ, List, Option, None, true, false, is_some, nat_lt, nat_le, length, refl, sym, ◌∙◌, ap, subst, arith}
+use Rattle.std.proofs.Common.{◌≡◌, ◌≤◌, ◌==◌, ◌||◌, ℕ, List, None, sym, ◌∙◌, ap, subst}
 use Rattle.std.specs.List.{insert}
-use Rattle.pf_model.specs.Children.{replace_first}
 use Rattle.pf_model.specs.declared.edits.Edit.TheVariants as edit
 use Rattle.pf_model.specs.declared.edits.Fault.TheVariants as fault
 use Rattle.pf_model.specs.Graphs.{SceneGraph, node_at, children_of, change, is_below}
 use Rattle.pf_model.specs.NodeEdits.{with_children}
-use Rattle.pf_model.specs.Edits.{first, child_count, add_rules, insert_rules, replace_rules, with_nodes, effect}
+use Rattle.pf_model.specs.Edits.{first, child_count, insert_rules, with_nodes, effect}
 use Rattle.pf_model.proofs.Rules.{all_passed, when_not, there_from}
-use Rattle.pf_edits.specs.Ways.{is_in}
 use Rattle.pf_edits.specs.Working.{told}
-use Rattle.pf_edits.proofs.Ends.{add_is, insert_is, replace_is, add_passed, insert_passed, replace_passed, ends_within, ends_after, not_full, not_far, inserted_members, replaced_members}
+use Rattle.pf_edits.proofs.Ends.{insert_is, insert_passed, ends_within, ends_after, not_full, not_far, inserted_members}
 use Rattle.pf_edits.proofs.work.Work.insert.Goals as goal
 
 pub lengthened-requires-clause-there : goal.lengthened-requires-clause-there

@@ -1,6 +1,5 @@
-use Rattle.std.proofs.Common.{◌≡◌, ◌||◌, ◌==◌, ℕ, Option, None, true, false, length, refl, sym, ◌∙◌, ap, rules}
+use Rattle.std.proofs.Common.{◌≡◌, ◌||◌, ◌==◌, None, false, refl, sym, ◌∙◌, rules}
 use Rattle.std.specs.List.{insert}
-use Rattle.pf_model.specs.Children.{replace_first}
 use Rattle.pf_model.specs.declared.edits.Edit.TheVariants as edit
 use Rattle.pf_model.specs.declared.edits.Fault.TheVariants as fault
 use Rattle.pf_model.specs.Graphs.{SceneGraph, node_at, children_of, is_below}

@@ -1,5 +1,4 @@
-use Rattle.std.proofs.Common.{◌≡◌, ◌||◌, ◌==◌, ℕ, Option, None, true, false, length, refl, sym, ◌∙◌, ap, rules}
-use Rattle.std.specs.List.{insert}
+use Rattle.std.proofs.Common.{◌≡◌, ◌||◌, ◌==◌, None, false, refl, sym, ◌∙◌, rules}
 use Rattle.pf_model.specs.Children.{replace_first}
 use Rattle.pf_model.specs.declared.edits.Edit.TheVariants as edit
 use Rattle.pf_model.specs.declared.edits.Fault.TheVariants as fault
@@ -9,7 +8,6 @@ use Rattle.pf_model.proofs.Rules.{first_stops, all_passed, when_not, there_from}
 use Rattle.pf_edits.specs.Working.{told}
 use Rattle.pf_edits.proofs.Works.{low_of, none_above_parent}
 use Rattle.pf_edits.proofs.Ends.{replace_is, fault_is, replaced_members}
-use Rattle.pf_edits.proofs.Trials.{lengthened_is}
 use Rattle.pf_edits.proofs.work.Work.judge_replace.Goals as goal
 
 pub fault_of_replace-requires-clause-low : goal.fault_of_replace-requires-clause-low

@@ -1,4 +1,4 @@
-use Rattle.std.proofs.Common.{◌≡◌, ◌<◌, ◌+◌, ◌-◌, ℕ, List, [], Option, None, false, is_some, nat_lt, length, subst, sym, ◌∙◌, ap, rules, arith}
+use Rattle.std.proofs.Common.{◌≡◌, ◌<◌, ◌+◌, ◌-◌, ℕ, List, [], Option, None, false, is_some, nat_lt, length, subst, sym, ◌∙◌, ap, arith}
 use Rattle.pf_model.specs.declared.nodes.Node.{Node}
 use Rattle.pf_model.specs.declared.edits.Edit.TheVariants as edit
 use Rattle.pf_model.specs.declared.edits.Fault.TheVariants as fault

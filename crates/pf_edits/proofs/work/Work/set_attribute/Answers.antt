@@ -1,10 +1,9 @@
-use Rattle.std.proofs.Common.{◌≡◌, Option, None, true, is_some, sym, ◌∙◌, ap, rules}
+use Rattle.std.proofs.Common.{◌≡◌, Option, true, is_some, sym, ◌∙◌, ap}
 use Rattle.pf_model.specs.declared.nodes.Node.{Node}
 use Rattle.pf_model.specs.Graphs.{node_at, change}
 use Rattle.pf_model.specs.Limits.{is_there}
 use Rattle.pf_model.specs.Copies.{named_by}
 use Rattle.pf_model.specs.NodeEdits.{with_kind}
-use Rattle.pf_model.specs.Edits.{fault_of}
 use Rattle.pf_model.proofs.Rules.{attribute_effect, attribute_there, attribute_fault_is}
 use Rattle.pf_model.proofs.Changes.{change_kind}
 use Rattle.pf_edits.specs.Listed.{nodes_of}

@@ -1,4 +1,4 @@
-use Rattle.std.proofs.Common.{◌≡◌, Option, is_some, sym, ◌∙◌, ap, subst}
+use Rattle.std.proofs.Common.{Option, is_some, sym, ◌∙◌, ap, subst}
 use Rattle.pf_model.specs.declared.nodes.Node.{Node}
 use Rattle.pf_model.specs.Limits.{IsGraphWithinLimits}
 use Rattle.pf_edits.specs.Ways.{is_in}
