@@ -1,5 +1,5 @@
 -- The states that the Frames of a history found.
-use Rattle.std.proofs.Common.{◌≡◌, ℕ, zero, suc, ◌+◌, Bool, true, false, cond, ◌&&◌, List, [], ◌∷◌, map, take, slice_get, Some, refl, sym, ap, subst, eq-eqb}
+use Rattle.std.proofs.Common.{◌≡◌, ℕ, zero, suc, ◌+◌, Bool, true, false, cond, ◌&&◌, ◌==◌, List, [], ◌∷◌, map, take, slice_get, Some, refl, sym, ap, subst, eq-eqb}
 use Rattle.std.proofs.lemmas.Option.{same_Some}
 use Rattle.std.specs.List.{AllByRecursion}
 use Rattle.pf_model.specs.Limits.{IsGraphWithinLimits}
@@ -12,10 +12,11 @@ use Rattle.pf_history.specs.declared.commands.Entry.{Entry}
 use Rattle.pf_history.specs.Commands.{is_frame, caller_of, command_fits}
 use Rattle.pf_history.specs.Objects.{FrameState, opening_state, next_state}
 use Rattle.pf_history.specs.Logs.{Log, state_after, IsLegalFrom, is_caller, is_by}
+use Rattle.pf_history.specs.Asks.{is_at}
 use Rattle.pf_history.specs.Cuts.{names, Cutting, cuttings, found_by_frames, marks_after}
 use Rattle.pf_history.proofs.Folds.{preparation_law}
 use Rattle.pf_history.proofs.Reach.{limits_law}
-use Rattle.stage_parts.specs.Frames.{is_of, frames_from}
+use Rattle.stage_parts.specs.Frames.{frames_from}
 use Rattle.stage_parts.specs.Laws.{HasEditsInRange}
 use Rattle.stage_parts.proofs.Places.{all_take}
 
@@ -26,12 +27,18 @@ frame_by_app caller (command.View channel v) same is = absurd (cc)
 frame_by_app caller (command.Sync r) same is = absurd (cc)
 frame_by_app caller command.Frame same is = ap (is_caller App) same
 
+both : (a b : Bool) → a ≡ true → b ≡ true → (a && b) ≡ true
+both true b one other = other
+both false b one other = absurd (cc)
+
 -- where the application's entries have one number, the Frames of that number are all Frames
 pub frames_are_all : (seat : ℕ) (ids : List ℕ) (s : FrameState) (log : Log) → IsLegalFrom s log → AllByRecursion (λ e. is_by App e ≡ true → e.0 ≡ seat) log → frames_from seat ids s log ≡ cuttings ids s log
 frames_are_all seat ids s [] legal only = refl
 frames_are_all seat ids s (e ∷ es) legal only =
-    by (is_frame e.1.command) (is_of seat e)
-    (λ is. eq-eqb e.0 seat (only.0 (frame_by_app e.1.caller e.1.command legal.0.caller is)))
+    by (is_frame e.1.command) (is_at seat App e)
+    (λ is.
+    let app = frame_by_app e.1.caller e.1.command legal.0.caller is in
+    both (e.0 == seat) (is_by App e) (eq-eqb e.0 seat (only.0 app)) app)
     refl
     (frames_are_all seat (marks_after ids s e.1.command) (next_state s e.1.command) es legal.1 only.1)
   where

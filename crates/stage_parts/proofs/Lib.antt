@@ -1,6 +1,13 @@
 pub mod Places
+pub mod Sizes
 pub mod Sent
 pub mod Founds
 pub mod Retiring
 pub mod Shown
 pub mod Streams
+pub mod Props
+pub mod Pushes
+pub mod CullSteps
+pub mod DrawSteps
+pub mod SeatSteps
+pub mod AppSteps

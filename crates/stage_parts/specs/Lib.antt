@@ -6,3 +6,5 @@ pub mod States
 pub mod Parts
 pub mod Pipes
 pub mod Laws
+pub mod Steps
+pub mod AppSteps

@@ -1,5 +1,5 @@
 -- What clauses see of a load.
-use Rattle.std.specs.Prelude.{◌≡◌, ℕ, ◌+◌, ◌≤◌, List, map, sum, length, slice_get, Some}
+use Rattle.std.specs.Prelude.{◌≡◌, ℕ, ◌+◌, ◌≤◌, List, [], ◌∷◌, length, slice_get, Some}
 use Rattle.fx_math.specs.declared.lenses.Lens.{Lens}
 use Rattle.ppm_out.specs.Pixmap.{Pixmap}
 use Rattle.ppm_out.specs.Ppm.{ppm_size}
@@ -22,7 +22,8 @@ Each {X} P xs = (i : ℕ) (x : X) → slice_get xs i ≡ Some x → P x
 
 -- how many bytes the pictures of these images have
 abbrev pub bytes_of_all : List Pixmap → ℕ
-bytes_of_all images = sum (map (λ i. ppm_size i.width i.height) images)
+bytes_of_all [] = 0
+bytes_of_all (i ∷ images) = ppm_size i.width i.height + bytes_of_all images
 
 pub record IsOfSize (lens : Lens) (image : Pixmap) : Type 0 where
   pub width : image.width ≡ lens.w

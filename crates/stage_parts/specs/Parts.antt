@@ -125,6 +125,12 @@ pub record IsCulled (lens : Lens) (look : Look) (c : Cut) (l : LoadState) : Type
   pub lists : map instances_in l.lists ≡ map (λ v. map nameless (draw_list look c.frame v lens)) c.views
   pub stats : l.stats ≡ sums (map (λ v. stats_of look c.frame v lens) c.views)
 
+-- each load that was sent is culled right, where its cull can be exact
+abbrev pub AreCulled : Lens → (taken sent : List LoadState) → Type 0
+AreCulled lens taken sent =
+    (i : ℕ) (old new : LoadState) → slice_get taken i ≡ Some old → slice_get sent i ≡ Some new →
+    CanCull taken i old → IsCulled lens (node_at (copy_at taken (i + 1))) old.cut new
+
 -- What CULL sent and holds to send is, packet by packet, made of what it received; its copy is that of all update lists
 -- received; End follows End.
 pub record CullPart (lens : Lens) (c : CullState) (taken sent : List Packet) : Type 0 where
@@ -132,9 +138,7 @@ pub record CullPart (lens : Lens) (c : CullState) (taken sent : List Packet) : T
   pub ends : map is_end (passed sent c.held) ≡ map is_end taken
   pub copy : c.nodes ≡ copy_at (loads_in taken) (length (loads_in taken))
   pub ended : c.ended ≡ has_end sent
-  pub culled : (i : ℕ) (old new : LoadState) →
-      slice_get (loads_in taken) i ≡ Some old → slice_get (loads_in (passed sent c.held)) i ≡ Some new →
-      CanCull (loads_in taken) i old → IsCulled lens (node_at (copy_at (loads_in taken) (i + 1))) old.cut new
+  pub culled : AreCulled lens (loads_in taken) (loads_in (passed sent c.held))
 
 -- The draw
 
@@ -146,15 +150,19 @@ pub record Kept : Type 0 where
 abbrev pub kept : LoadState → Kept
 kept l = record { cut = l.cut; stats = l.stats }
 
+-- each load that was sent has the pictures of its draw lists, where its images have the lens's size
+abbrev pub ArePainted : Lens → List ℕ → (taken sent : List LoadState) → Type 0
+ArePainted lens back taken sent =
+    (i : ℕ) (old new : LoadState) → slice_get taken i ≡ Some old → slice_get sent i ≡ Some new →
+    AreImages lens (length old.lists) old.images → new.bytes ≡ painted lens back old.lists
+
 -- What DRAW sent and holds to send has, load by load, the pictures of the draw lists received where the images have the
 -- lens's size, and the cut and the numbers as received. It sends no End.
 pub record DrawPart (lens : Lens) (back : List ℕ) (d : DrawState) (taken sent : List Packet) : Type 0 where
   pub loads : map kept (loads_in (passed sent d.held)) ≡ map kept (loads_in taken)
   pub ends : has_end (passed sent d.held) ≡ false
   pub ended : d.ended ≡ has_end taken
-  pub painted : (i : ℕ) (old new : LoadState) →
-      slice_get (loads_in taken) i ≡ Some old → slice_get (loads_in (passed sent d.held)) i ≡ Some new →
-      AreImages lens (length old.lists) old.images → new.bytes ≡ painted lens back old.lists
+  pub painted : ArePainted lens back (loads_in taken) (loads_in (passed sent d.held))
 
 -- The database process
 
