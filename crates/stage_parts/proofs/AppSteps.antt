@@ -194,9 +194,9 @@ begins : (g : Setup) (seat : ℕ) (a : AppState) (log : Log) (taken sent : List 
     a.held ≡ None → a.closed ≡ false → a.synced ≡ true → length spare + 1 ≡ length a.spare →
     l.cut ≡ cut_of_frame (next_frame g.channels log) → IsReady g.lens l →
     IsOwnTurn g seat log e (still_asked g a)
-        (still_asked g (record a { at = at; synced = false; frames = a.frames + 1; held = Some (Frame l); spare = spare })) →
+    (still_asked g (record a { at = at; synced = false; frames = a.frames + 1; held = Some (Frame l); spare = spare })) →
     AppKeeps g seat (record a { at = at; synced = false; frames = a.frames + 1; held = Some (Frame l); spare = spare })
-        (log ++ e ∷ []) taken sent stream
+    (log ++ e ∷ []) taken sent stream
 begins g seat a log taken sent stream keeps e at l spare further is_begun bare closed synced fewer cut ready is =
     let next = next_frame g.channels log in
     let frames = frames_of g.channels seat log in

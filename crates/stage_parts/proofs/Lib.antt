@@ -11,3 +11,6 @@ pub mod CullSteps
 pub mod DrawSteps
 pub mod SeatSteps
 pub mod AppSteps
+pub mod Gathering
+pub mod Counting
+pub mod DbaseSteps

@@ -1,15 +1,15 @@
 -- How many bytes pictures have.
-use Rattle.std.proofs.Common.{◌≡◌, ℕ, zero, suc, ◌+◌, ◌*◌, ◌<◌, ◌≤◌, List, [], ◌∷◌, ◌++◌, take, drop, length, length-append, refl, ap, ◌∙◌, arith, slice_get, Some, subst, sym}
+use Rattle.std.proofs.Common.{◌≡◌, ℕ, zero, suc, ◌+◌, ◌*◌, ◌<◌, ◌≤◌, ◌==◌, ◌&&◌, Bool, true, false, eqb-true, List, [], ◌∷◌, ◌++◌, take, drop, length, length-append, refl, ap, ◌∙◌, arith, slice_get, Some, subst, sym}
 use Rattle.std.proofs.lemmas.List.{flat_map_more, take_more, drop_more}
 use Rattle.std.proofs.lemmas.Option.{same_Some}
 use Rattle.std.proofs.lemmas.Fmt.{length-decimal-le_succ}
 use Rattle.std.proofs.lemmas.Grind.{common_steps}
-use Rattle.std.specs.Prelude.{slice_index_or, decimal}
-use Rattle.std.specs.List.{flat_map, range_with_len}
+use Rattle.std.specs.Prelude.{slice_index_or, slice_set, decimal}
+use Rattle.std.specs.List.{flat_map, range_with_len, list_all}
 use Rattle.fx_math.specs.declared.lenses.Lens.{Lens}
 use Rattle.ppm_out.specs.Pixmap.{Pixmap, pixel}
 use Rattle.ppm_out.specs.Ppm.{ppm_header, ppm_size, ppm_bytes, row_bytes, pixel_bytes}
-use Rattle.stage_parts.specs.Loads.{Each, IsOfSize, AreImages, bytes_of_all}
+use Rattle.stage_parts.specs.Loads.{LoadState, Each, IsOfSize, is_of_size, have_one_size, AreImages, is_for, bytes_of_all}
 
 pieces_length : (k a n : ℕ) (piece : ℕ → List ℕ) → ((i : ℕ) → length (piece i) ≡ k) → length (flat_map piece (range_with_len a n)) ≡ k * n
 pieces_length k a zero piece each = let none : k * 0 ≡ 0 = grind arith in rw none refl
@@ -80,3 +80,35 @@ most_size width height l k =
     let down = length-decimal-le_succ height (omega (arith, k)) in
     let pixels = mul_most height width 1024 1024 k l in
     omega (arith, long, across, down, pixels, l, k)
+
+-- Images of one size
+
+both : (a b : Bool) → (a && b) ≡ true → (a ≡ true) × (b ≡ true)
+both true b h = (refl, h)
+both false b h = absurd (cc)
+
+all_of_size : (lens : Lens) (images : List Pixmap) → list_all (is_of_size lens) images ≡ true → Each (IsOfSize lens) images
+all_of_size lens [] all i image at = absurd (cc)
+all_of_size lens (x ∷ images) all zero image at =
+    let here = both (is_of_size lens x) (list_all (is_of_size lens) images) all in
+    let sizes = both (x.width == lens.w) (x.height == lens.h) here.0 in
+    subst (IsOfSize lens) (same_Some x image at) (record { width = eqb-true x.width lens.w sizes.0; height = eqb-true x.height lens.h sizes.1 })
+all_of_size lens (x ∷ images) all (suc i) image at =
+    all_of_size lens images (both (is_of_size lens x) (list_all (is_of_size lens) images) all).1 i image at
+
+pub images_for : (lens : Lens) (n : ℕ) (l : LoadState) → is_for lens n l ≡ true → AreImages lens n l.images
+images_for lens n l is =
+    let parts = both (length l.images == n) (list_all (is_of_size lens) l.images) (both (length l.lists == n) (length l.images == n && list_all (is_of_size lens) l.images) is).1 in
+    record { many = eqb-true (length l.images) n parts.0; sized = all_of_size lens l.images parts.1 }
+
+-- an image of the same size at a place leaves the bytes
+pub swapped_bytes : (images : List Pixmap) (i : ℕ) (there image new : Pixmap) → there ≡ slice_index_or images i there → have_one_size image there ≡ true → new ≡ image →
+    bytes_of_all (slice_set images i new) ≡ bytes_of_all images
+swapped_bytes [] i there image new at same is = refl
+swapped_bytes (x ∷ images) zero there image new at same is =
+    let sizes = both (image.width == there.width) (image.height == there.height) same in
+    let width : new.width ≡ x.width = ap (λ (p : Pixmap). p.width) is ∙ eqb-true image.width there.width sizes.0 ∙ ap (λ (p : Pixmap). p.width) at in
+    let height : new.height ≡ x.height = ap (λ (p : Pixmap). p.height) is ∙ eqb-true image.height there.height sizes.1 ∙ ap (λ (p : Pixmap). p.height) at in
+    ap (λ w. ppm_size w new.height + bytes_of_all images) width ∙ ap (λ h. ppm_size x.width h + bytes_of_all images) height
+swapped_bytes (x ∷ images) (suc i) there image new at same is =
+    ap (λ n. ppm_size x.width x.height + n) (swapped_bytes images i there image new at same is)

@@ -50,9 +50,9 @@ pub record AppGoesOn (g : Setup) (seat : ℕ) (a : AppState) (log : Log) (taken 
       a.held ≡ None → a.closed ≡ false → a.synced ≡ true → length spare + 1 ≡ length a.spare →
       l.cut ≡ cut_of_frame (next_frame g.channels log) → IsReady g.lens l →
       IsOwnTurn g seat log e (still_asked g a)
-          (still_asked g (record a { at = at; synced = false; frames = a.frames + 1; held = Some (Frame l); spare = spare })) →
+      (still_asked g (record a { at = at; synced = false; frames = a.frames + 1; held = Some (Frame l); spare = spare })) →
       AppKeeps g seat (record a { at = at; synced = false; frames = a.frames + 1; held = Some (Frame l); spare = spare })
-          (log ++ e ∷ []) taken sent stream
+      (log ++ e ∷ []) taken sent stream
   -- as it makes the closing Sync, once all pictures are written, and holds the End
   pub closes : (e : ℕ × Entry) → e.1.command ≡ command.Sync a.written → a.held ≡ None → a.closed ≡ false →
       a.written ≡ a.frames → 0 < g.ahead →

@@ -8,3 +8,5 @@ pub mod Pipes
 pub mod Laws
 pub mod Steps
 pub mod AppSteps
+pub mod Gathering
+pub mod DbaseSteps

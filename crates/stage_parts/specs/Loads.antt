@@ -1,5 +1,7 @@
 -- What clauses see of a load.
-use Rattle.std.specs.Prelude.{◌≡◌, ℕ, ◌+◌, ◌≤◌, List, [], ◌∷◌, length, slice_get, Some}
+use Rattle.std.specs.Prelude.{◌≡◌, ℕ, ◌+◌, ◌≤◌, ◌==◌, ◌&&◌, Bool, false, List, [], ◌∷◌, length, slice_get, Some}
+use Rattle.std.specs.List.{list_all}
+use Rattle.std.specs.Option.{option_map_or}
 use Rattle.fx_math.specs.declared.lenses.Lens.{Lens}
 use Rattle.ppm_out.specs.Pixmap.{Pixmap}
 use Rattle.ppm_out.specs.Ppm.{ppm_size}
@@ -29,10 +31,24 @@ pub record IsOfSize (lens : Lens) (image : Pixmap) : Type 0 where
   pub width : image.width ≡ lens.w
   pub height : image.height ≡ lens.h
 
+abbrev pub is_of_size : Lens → Pixmap → Bool
+is_of_size lens image = image.width == lens.w && image.height == lens.h
+
+abbrev pub have_one_size : Pixmap → Pixmap → Bool
+have_one_size a b = a.width == b.width && a.height == b.height
+
+-- there is an image at a place, and it has the size of another
+abbrev pub can_swap : List Pixmap → ℕ → Pixmap → Bool
+can_swap images i image = option_map_or (have_one_size image) (slice_get images i) false
+
 -- so many images of the lens's size
 pub record AreImages (lens : Lens) (n : ℕ) (images : List Pixmap) : Type 0 where
   pub many : length images ≡ n
   pub sized : Each (IsOfSize lens) images
+
+-- the load has so many draw lists, and so many images of the lens's size
+abbrev pub is_for : Lens → ℕ → LoadState → Bool
+is_for lens n l = length l.lists == n && (length l.images == n && list_all (is_of_size lens) l.images)
 
 -- once it is cleared, a draw list has room for a scene of this unfolded size, with so many triangles
 pub record HasRoomFor (size tris : ℕ) (d : Drawables) : Type 0 where

@@ -2,6 +2,8 @@
 ghost use Rattle.stage_parts.specs.Laws.{StreamLaw};
 ghost use Rattle.stage_parts.specs.Steps.{CullLaw, DrawLaw, SeatFramesLaw};
 ghost use Rattle.stage_parts.specs.AppSteps.{AppLaw};
+ghost use Rattle.stage_parts.specs.DbaseSteps.{DbaseLaw, LinesLaw, OpeningLaw};
+ghost use Rattle.stage_parts.specs.Gathering.{GatheringLaw, CountingLaw};
 
 /// Where a pipe fits what its stages are given, and culling keeps the picture, the stream is whole pictures of the
 /// history and a front of the next one; the retired frames are among those that were wholly written; and once the
@@ -31,4 +33,32 @@ pub fn frames_of_a_seat_go_on()
 /// that came back, wholly or up to a fault.
 pub fn app_goes_on()
     ensures { AppLaw }
+{}
+
+/// A pipe fits exactly where its history is legal, each caller's entries have the number of its desk, the links are in
+/// order, and each stage keeps its part; then its history fits the play, and wholly where nothing is still asked.
+pub fn fitting_is_gathering()
+    ensures { GatheringLaw }
+{}
+
+/// Of a pipe that fits: a link with room for one packet more than frames may be in flight is never full where a stage
+/// holds a packet for it; the End goes from stage to stage behind the closing Sync; and where no packet is held or under
+/// way, all frames have come back.
+pub fn packets_are_counted()
+    ensures { CountingLaw }
+{}
+
+/// What DBASE keeps goes on: while others' entries come, as it passes a line, and as it makes a merge.
+pub fn dbase_goes_on()
+    ensures { DbaseLaw }
+{}
+
+/// What the next line of a section asks, and what it does to the open buffer.
+pub fn lines_go_on()
+    ensures { LinesLaw }
+{}
+
+/// Before the first step the parts of a pipe are gathered.
+pub fn the_opening_fits()
+    ensures { OpeningLaw }
 {}

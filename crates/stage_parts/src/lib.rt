@@ -8,5 +8,5 @@ mod packets;
 pub use loads::Load;
 pub use packets::Packet;
 
-// test
-// mod tests;
+#[cfg(test)]
+mod tests;

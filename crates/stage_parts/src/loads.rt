@@ -1,15 +1,15 @@
 //! What goes round between the stages, frame by frame.
-ghost use Rattle.std.specs.Prelude.{◌≡◌, ◌↔◌, ◌+◌, ◌≤◌, ◌++◌, List, [], length, IfOk, IsTrue};
-ghost use Rattle.std.specs.List.{flat_map};
+ghost use Rattle.std.specs.Prelude.{◌≡◌, ◌+◌, ◌≤◌, ◌++◌, true, if◌then◌else◌, List, [], length, slice_index_or, slice_set, IfOk};
+ghost use Rattle.std.specs.List.{flat_map, list_all};
 ghost use Rattle.std.specs.Vec.{vec_capacity, vec_len};
 ghost use Rattle.ppm_out.specs.Pixmap.{Pixmap};
 ghost use Rattle.ppm_out.specs.Ppm.{ppm_bytes};
-ghost use Rattle.stage_parts.specs.Loads.{AreImages, IsOfSize, bytes_of_all};
+ghost use Rattle.stage_parts.specs.Loads.{AreImages, bytes_of_all, is_of_size, have_one_size, can_swap, is_for};
 
 use draw_list::{DrawList, Stats};
 use fx_math::Lens;
 use pf_io::NoMemory;
-use ppm_out::{append_ppm_reserved, ppm_len, Image};
+use ppm_out::{Image, append_ppm_reserved, ppm_len};
 use std::alloc::Global;
 use std::marker::Model;
 use std::mem;
@@ -102,9 +102,40 @@ fn new_bytes(alloc: Global, lens: &Lens, channels: u8) -> Result<Vec<u8>, NoMemo
 
 /// Whether an image has the lens's size.
 fn is_of_size(lens: &Lens, image: &Image) -> bool
-    ensures { IsTrue result ↔ IsOfSize lens.now image.now }
+    ensures { result ≡ is_of_size lens.now image.now }
 {
     image.width() == lens.w && image.height() == lens.h
+}
+
+/// Whether all images have the lens's size.
+fn are_of_size(lens: &Lens, images: &[Image]) -> bool
+    ensures { result ≡ list_all (is_of_size lens.now) images.now }
+{
+    images.iter().all(|image| is_of_size(lens, image))
+}
+
+/// Whether two images have the same size.
+fn have_one_size(a: &Image, b: &Image) -> bool
+    ensures { result ≡ have_one_size a.now b.now }
+{
+    a.width() == b.width() && a.height() == b.height()
+}
+
+/// Exchanges the image at a place with the one handed in, where there is one and the two sizes are equal.
+fn swap_in(images: &mut [Image], place: usize, image: &mut Image) -> bool
+    ensures exact { result ≡ can_swap images.old place image.old }
+    ensures images { images.new ≡ (if result then slice_set images.old place image.old else images.old) }
+    ensures back { image.new ≡ (if result then slice_index_or images.old place image.old else image.old) }
+    ensures bytes { bytes_of_all images.new ≡ bytes_of_all images.old }
+{
+    if place >= images.len() {
+        return false;
+    }
+    if !have_one_size(image, &images[place]) {
+        return false;
+    }
+    mem::swap(&mut images[place], image);
+    true
 }
 
 /// Appends the bytes of images for which there is room.
@@ -186,6 +217,28 @@ impl Load {
         ensures { result.now ≡ self.now.images }
     {
         self.images.as_slice()
+    }
+
+    /// Exchanges the image of a channel with the one handed in, and answers true; where there is no such channel or the
+    /// two sizes differ, it answers false and changes nothing.
+    pub fn swap_image(&mut self, channel: usize, image: &mut Image) -> bool
+        ensures exact { result ≡ can_swap self.old.images channel image.old }
+        ensures load { self.new ≡ record self.old {
+          images = if result then slice_set self.old.images channel image.old else self.old.images;
+        } }
+        ensures back { image.new ≡ (if result then slice_index_or self.old.images channel image.old else image.old) }
+    {
+        swap_in(self.images.as_mut_slice(), channel, image)
+    }
+
+    /// Whether the load has a draw list and an image of the lens's size for each of so many channels.
+    pub fn is_for(&self, lens: &Lens, channels: u8) -> bool
+        ensures value { result ≡ is_for lens.now channels self.now }
+        ensures images { result ≡ true → AreImages lens.now channels self.now.images }
+        ensures lists { result ≡ true → length self.now.lists ≡ channels }
+    {
+        self.lists.len() == channels as usize
+            && (self.images.len() == channels as usize && are_of_size(lens, self.images.as_slice()))
     }
 
     /// The numbers of the frame.
