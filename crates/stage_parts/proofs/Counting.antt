@@ -38,11 +38,11 @@ one_end false = omega arith
 held_one : (sent : List Packet) (held : Option Packet) (p : Packet) → held ≡ Some p → length (passed sent held) ≡ length sent + 1
 held_one sent held p is = ap (λ (h : Option Packet). length (passed sent h)) is ∙ length_push sent p
 
-held_some : (sent : List Packet) (held : Option Packet) → length sent ≤ length (passed sent held)
+pub held_some : (sent : List Packet) (held : Option Packet) → length sent ≤ length (passed sent held)
 held_some sent held = let long = length-append sent (option_to_list held) in omega (arith, long)
 
 -- How many packets and loads are where.
-record AreMany (g : Setup) (s : PipeState) : Type 0 where
+pub record AreMany (g : Setup) (s : PipeState) : Type 0 where
   pub a : length (passed s.a.sent s.app.held) ≤ s.app.frames + 1
   pub a_taken : length s.a.taken ≤ length s.a.sent
   pub b : length (passed s.b.sent s.cull.held) ≡ length s.a.taken
@@ -53,7 +53,7 @@ record AreMany (g : Setup) (s : PipeState) : Type 0 where
   pub b_loads : length (loads_in (passed s.b.sent s.cull.held)) ≡ length (loads_in s.a.taken)
   pub loads : length (loads_in s.b.taken) ≤ s.app.frames
 
-are_many : (g : Setup) (dbase : List BaseLine) (seats : Seats) (s : PipeState) → PipeFits g dbase seats s → AreMany g s
+pub are_many : (g : Setup) (dbase : List BaseLine) (seats : Seats) (s : PipeState) → PipeFits g dbase seats s → AreMany g s
 are_many g dbase seats s fits =
     let frames = frames_of g.channels seats.app s.log in
     let sent_a = passed s.a.sent s.app.held in

@@ -14,3 +14,4 @@ pub mod AppSteps
 pub mod Gathering
 pub mod Counting
 pub mod DbaseSteps
+pub mod Moves

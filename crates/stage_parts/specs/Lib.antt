@@ -10,3 +10,4 @@ pub mod Steps
 pub mod AppSteps
 pub mod Gathering
 pub mod DbaseSteps
+pub mod Moves

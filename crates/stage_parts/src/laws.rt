@@ -4,6 +4,7 @@ ghost use Rattle.stage_parts.specs.Steps.{CullLaw, DrawLaw, SeatFramesLaw};
 ghost use Rattle.stage_parts.specs.AppSteps.{AppLaw};
 ghost use Rattle.stage_parts.specs.DbaseSteps.{DbaseLaw, LinesLaw, OpeningLaw};
 ghost use Rattle.stage_parts.specs.Gathering.{GatheringLaw, CountingLaw};
+ghost use Rattle.stage_parts.specs.Moves.{MovesLaw};
 
 /// Where a pipe fits what its stages are given, and culling keeps the picture, the stream is whole pictures of the
 /// history and a front of the next one; the retired frames are among those that were wholly written; and once the
@@ -61,4 +62,10 @@ pub fn lines_go_on()
 /// Before the first step the parts of a pipe are gathered.
 pub fn the_opening_fits()
     ensures { OpeningLaw }
+{}
+
+/// A pipe that fits makes entries, passes lines, sends and receives packets at most nine times for each line, and five
+/// times besides.
+pub fn moves_are_few()
+    ensures { MovesLaw }
 {}
