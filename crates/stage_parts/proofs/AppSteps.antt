@@ -6,7 +6,6 @@ use Rattle.std.specs.List.{AllByRecursion, concat}
 use Rattle.update_lists.specs.declared.cuts.Cut.{Cut}
 use Rattle.draw_list.specs.declared.stats.Stats.{Stats}
 use Rattle.pf_history.specs.declared.commands.Caller.TheVariants.{App}
-use Rattle.pf_history.specs.declared.commands.Command.{Command}
 use Rattle.pf_history.specs.declared.commands.Command.TheVariants as command
 use Rattle.pf_history.specs.declared.commands.Entry.{Entry}
 use Rattle.pf_history.specs.Commands.{is_frame}
@@ -19,13 +18,13 @@ use Rattle.pf_history.proofs.Fitting.{follows_more}
 use Rattle.stage_parts.specs.declared.packets.Packet.{Packet}
 use Rattle.stage_parts.specs.declared.packets.Packet.TheVariants.{Frame, End}
 use Rattle.stage_parts.specs.Loads.{LoadState, Each, IsReady}
-use Rattle.stage_parts.specs.Packets.{is_end, has_end, loads_in, bytes_in}
+use Rattle.stage_parts.specs.Packets.{is_end, loads_in, bytes_in}
 use Rattle.stage_parts.specs.Frames.{frames_of, cut_of_frame, retired_after, last_sync}
 use Rattle.stage_parts.specs.Pictures.{streamed}
 use Rattle.stage_parts.specs.States.{Setup, AppState, still_asked}
-use Rattle.stage_parts.specs.Parts.{passed, end_once, cut_short, AppPart, StreamPart, LoadPart, AppKeeps}
+use Rattle.stage_parts.specs.Parts.{passed, end_once, cut_short, AppPart, LoadPart, AppKeeps}
 use Rattle.stage_parts.specs.Steps.{next_frame}
-use Rattle.stage_parts.specs.AppSteps.{IsOwnTurn, AppGoesOn, AppLaw}
+use Rattle.stage_parts.specs.AppSteps.{IsOwnTurn, AppLaw}
 use Rattle.stage_parts.proofs.Sizes.{each_push}
 use Rattle.stage_parts.proofs.Sent.{loads_append}
 use Rattle.stage_parts.proofs.Pushes.{loads_push, loads_end, has_end_push, passed_same, passed_bare}
@@ -54,30 +53,37 @@ part_on g seat a log later sent at need synced part same further fresh =
       late = part.late;
     }
 
-fresh_on : (g : Setup) (seat : ℕ) (a : AppState) (log later : Log) (sent : List Packet) → AppPart g seat a log sent → IsSeenSame g seat log later →
+fresh_on : (g : Setup) (seat : ℕ) (a : AppState) (log later : Log) (sent : List Packet) → AppPart g seat a log sent →
+    IsSeenSame g seat log later →
     a.synced ≡ true → a.frames < last_sync (turns_at g.channels seat App later) + g.ahead
 fresh_on g seat a log later sent part same synced = subst (λ (r : ℕ). a.frames < r + g.ahead) (sym same.last) (part.fresh synced)
 
-stays : (g : Setup) (seat : ℕ) (a : AppState) (log : Log) (taken sent : List Packet) (stream : List ℕ) → AppKeeps g seat a log taken sent stream →
+stays : (g : Setup) (seat : ℕ) (a : AppState) (log : Log) (taken sent : List Packet) (stream : List ℕ) →
+    AppKeeps g seat a log taken sent stream →
     (more : Log) → AllByRecursion (λ e. is_at seat App e ≡ false) more → AppKeeps g seat a (log ++ more) taken sent stream
 stays g seat a log taken sent stream keeps more others =
     let turns = turns_stay g.channels seat log more others in
-    let same : IsSeenSame g seat log (log ++ more) = record { frames = frames_stay g.channels seat log more others; last = ap last_sync turns } in
+    let same : IsSeenSame g seat log (log ++ more) =
+    record { frames = frames_stay g.channels seat log more others; last = ap last_sync turns } in
     record {
       follows = subst (λ (ts : List Turn). Follows g.ahead g.merges (asked_app g.lines) ts (still_asked g a)) (sym turns) keeps.follows;
-      part = part_on g seat a log (log ++ more) sent a.at a.need a.synced keeps.part same.frames (omega arith) (fresh_on g seat a log (log ++ more) sent keeps.part same);
+      part = part_on g seat a log (log ++ more) sent a.at a.need a.synced keeps.part same.frames (omega arith)
+          (fresh_on g seat a log (log ++ more) sent keeps.part same);
       streams = record {
         bytes = keeps.streams.bytes;
         all = keeps.streams.all;
         retired = subst (λ (r : ℕ). r ≤ a.written) (sym same.last) keeps.streams.retired;
         begun = keeps.streams.begun;
         in_flight = keeps.streams.in_flight;
+        numbers = keeps.streams.numbers;
       };
       loads = keeps.loads;
     }
 
-sends : (g : Setup) (seat : ℕ) (a : AppState) (log : Log) (taken sent : List Packet) (stream : List ℕ) → AppKeeps g seat a log taken sent stream →
-    (p : Packet) → a.held ≡ Some p → AppKeeps g seat (record a { ended = a.ended || is_end p; held = None }) log taken (sent ++ p ∷ []) stream
+sends : (g : Setup) (seat : ℕ) (a : AppState) (log : Log) (taken sent : List Packet) (stream : List ℕ) →
+    AppKeeps g seat a log taken sent stream →
+    (p : Packet) → a.held ≡ Some p →
+    AppKeeps g seat (record a { ended = a.ended || is_end p; held = None }) log taken (sent ++ p ∷ []) stream
 sends g seat a log taken sent stream keeps p held =
     let same = passed_same sent p a.held held in
     let part = keeps.part in
@@ -99,16 +105,20 @@ sends g seat a log taken sent stream keeps p held =
         retired = keeps.streams.retired;
         begun = keeps.streams.begun;
         in_flight = keeps.streams.in_flight;
+        numbers = keeps.streams.numbers;
       };
       loads = record { all = keeps.loads.all };
     }
 
-waits : (g : Setup) (seat : ℕ) (a : AppState) (log : Log) (taken sent : List Packet) (stream : List ℕ) → AppKeeps g seat a log taken sent stream →
+waits : (g : Setup) (seat : ℕ) (a : AppState) (log : Log) (taken sent : List Packet) (stream : List ℕ) →
+    AppKeeps g seat a log taken sent stream →
     (at need : ℕ) → a.at ≤ at → still_asked g (record a { at = at; need = need }) ≡ still_asked g a →
     AppKeeps g seat (record a { at = at; need = need }) log taken sent stream
 waits g seat a log taken sent stream keeps at need further asks =
     record {
-      follows = subst (λ (left : List Ask). Follows g.ahead g.merges (asked_app g.lines) (turns_at g.channels seat App log) left) (sym asks) keeps.follows;
+      follows =
+          subst (λ (left : List Ask). Follows g.ahead g.merges (asked_app g.lines) (turns_at g.channels seat App log) left)
+          (sym asks) keeps.follows;
       part = part_on g seat a log log sent at need a.synced keeps.part refl further keeps.part.fresh;
       streams = record {
         bytes = keeps.streams.bytes;
@@ -116,6 +126,7 @@ waits g seat a log taken sent stream keeps at need further asks =
         retired = keeps.streams.retired;
         begun = keeps.streams.begun;
         in_flight = keeps.streams.in_flight;
+        numbers = keeps.streams.numbers;
       };
       loads = record { all = keeps.loads.all };
     }
@@ -123,10 +134,12 @@ waits g seat a log taken sent stream keeps at need further asks =
 -- What an own turn leaves.
 record OwnTurn (g : Setup) (seat : ℕ) (log : Log) (e : ℕ × Entry) (after : List Ask) : Type 0 where
   pub follows : Follows g.ahead g.merges (asked_app g.lines) (turns_at g.channels seat App (log ++ e ∷ [])) after
-  pub last : last_sync (turns_at g.channels seat App (log ++ e ∷ [])) ≡ retired_after (last_sync (turns_at g.channels seat App log)) e.1.command
+  pub last : last_sync (turns_at g.channels seat App (log ++ e ∷ [])) ≡ retired_after
+      (last_sync (turns_at g.channels seat App log)) e.1.command
 
 own_turn : (g : Setup) (seat : ℕ) (log : Log) (e : ℕ × Entry) (before after : List Ask) →
-    Follows g.ahead g.merges (asked_app g.lines) (turns_at g.channels seat App log) before → IsOwnTurn g seat log e before after → OwnTurn g seat log e after
+    Follows g.ahead g.merges (asked_app g.lines) (turns_at g.channels seat App log) before → IsOwnTurn g seat log e before after →
+    OwnTurn g seat log e after
 own_turn g seat log e before after follows is =
     let adds = adds_to_seat g.channels seat log e in
     let turns = turns_at g.channels seat App log in
@@ -141,12 +154,14 @@ own_turn g seat log e before after follows is =
     }
 
 -- an own turn that is no Frame adds none
-no_frame : (g : Setup) (seat : ℕ) (log : Log) (e : ℕ × Entry) → is_frame e.1.command ≡ false → frames_of g.channels seat (log ++ e ∷ []) ≡ frames_of g.channels seat log
+no_frame : (g : Setup) (seat : ℕ) (log : Log) (e : ℕ × Entry) → is_frame e.1.command ≡ false →
+    frames_of g.channels seat (log ++ e ∷ []) ≡ frames_of g.channels seat log
 no_frame g seat log e other =
     (adds_to_seat g.channels seat log e).frames
     ∙ ap (λ t. with_last (t && is_at seat App e) (frames_of g.channels seat log) (next_frame g.channels log)) other
 
-edits : (g : Setup) (seat : ℕ) (a : AppState) (log : Log) (taken sent : List Packet) (stream : List ℕ) → AppKeeps g seat a log taken sent stream →
+edits : (g : Setup) (seat : ℕ) (a : AppState) (log : Log) (taken sent : List Packet) (stream : List ℕ) →
+    AppKeeps g seat a log taken sent stream →
     (e : ℕ × Entry) (at : ℕ) → a.at ≤ at → is_frame e.1.command ≡ false → ((r : ℕ) → retired_after r e.1.command ≡ r) →
     IsOwnTurn g seat log e (still_asked g a) (still_asked g (record a { at = at })) →
     AppKeeps g seat (record a { at = at }) (log ++ e ∷ []) taken sent stream
@@ -156,18 +171,21 @@ edits g seat a log taken sent stream keeps e at further other none is =
     let same : IsSeenSame g seat log (log ++ e ∷ []) = record { frames = no_frame g seat log e other; last = last } in
     record {
       follows = turn.follows;
-      part = part_on g seat a log (log ++ e ∷ []) sent at a.need a.synced keeps.part same.frames further (fresh_on g seat a log (log ++ e ∷ []) sent keeps.part same);
+      part = part_on g seat a log (log ++ e ∷ []) sent at a.need a.synced keeps.part same.frames further
+          (fresh_on g seat a log (log ++ e ∷ []) sent keeps.part same);
       streams = record {
         bytes = keeps.streams.bytes;
         all = keeps.streams.all;
         retired = subst (λ (r : ℕ). r ≤ a.written) (sym last) keeps.streams.retired;
         begun = keeps.streams.begun;
         in_flight = keeps.streams.in_flight;
+        numbers = keeps.streams.numbers;
       };
       loads = record { all = keeps.loads.all };
     }
 
-syncs : (g : Setup) (seat : ℕ) (a : AppState) (log : Log) (taken sent : List Packet) (stream : List ℕ) → AppKeeps g seat a log taken sent stream →
+syncs : (g : Setup) (seat : ℕ) (a : AppState) (log : Log) (taken sent : List Packet) (stream : List ℕ) →
+    AppKeeps g seat a log taken sent stream →
     (e : ℕ × Entry) (at : ℕ) → a.at ≤ at → e.1.command ≡ command.Sync a.written → a.frames < a.written + g.ahead →
     IsOwnTurn g seat log e (still_asked g a) (still_asked g (record a { at = at; synced = true })) →
     AppKeeps g seat (record a { at = at; synced = true }) (log ++ e ∷ []) taken sent stream
@@ -185,11 +203,13 @@ syncs g seat a log taken sent stream keeps e at further is_sync room is =
         retired = omega (arith, last);
         begun = keeps.streams.begun;
         in_flight = keeps.streams.in_flight;
+        numbers = keeps.streams.numbers;
       };
       loads = record { all = keeps.loads.all };
     }
 
-begins : (g : Setup) (seat : ℕ) (a : AppState) (log : Log) (taken sent : List Packet) (stream : List ℕ) → AppKeeps g seat a log taken sent stream →
+begins : (g : Setup) (seat : ℕ) (a : AppState) (log : Log) (taken sent : List Packet) (stream : List ℕ) →
+    AppKeeps g seat a log taken sent stream →
     (e : ℕ × Entry) (at : ℕ) (l : LoadState) (spare : List LoadState) → suc a.at ≤ at → e.1.command ≡ command.Frame →
     a.held ≡ None → a.closed ≡ false → a.synced ≡ true → length spare + 1 ≡ length a.spare →
     l.cut ≡ cut_of_frame (next_frame g.channels log) → IsReady g.lens l →
@@ -211,7 +231,8 @@ begins g seat a log taken sent stream keeps e at l spare further is_begun bare c
     let cuts : map (λ (x : LoadState). x.cut) (loads_in sent) ≡ map cut_of_frame frames =
     ap (λ (ps : List Packet). map (λ (x : LoadState). x.cut) (loads_in ps)) (sym unheld) ∙ part.cuts in
     let ends : map is_end sent ≡ map (λ _. false) frames =
-    ap (map is_end) (sym unheld) ∙ part.ends ∙ ap (λ t. map (λ _. false) frames ++ end_once t) closed ∙ append-nil (map (λ _. false) frames) in
+    ap (map is_end) (sym unheld) ∙ part.ends ∙ ap (λ t. map (λ _. false) frames ++ end_once t) closed
+    ∙ append-nil (map (λ _. false) frames) in
     let fresh = part.fresh synced in
     record {
       follows = turn.follows;
@@ -227,7 +248,8 @@ begins g seat a log taken sent stream keeps e at l spare further is_begun bare c
             ∙ ap (map (λ (_ : Cutting). false)) grown ∙ map-append (λ (_ : Cutting). false) frames (next ∷ []));
         ready =
             subst (λ (ls : List LoadState). Each (IsReady g.lens) ls) (sym (loads_push sent l))
-            (each_push (IsReady g.lens) (loads_in sent) l (subst (λ (ps : List Packet). Each (IsReady g.lens) (loads_in ps)) unheld part.ready) ready);
+            (each_push (IsReady g.lens) (loads_in sent) l
+            (subst (λ (ps : List Packet). Each (IsReady g.lens) (loads_in ps)) unheld part.ready) ready);
         ended = part.ended;
         frames = ap (λ n. n + 1) part.frames ∙ sym (ap length grown ∙ length_push frames next);
         few = omega (arith, part.few, further);
@@ -240,11 +262,13 @@ begins g seat a log taken sent stream keeps e at l spare further is_begun bare c
         retired = subst (λ (r : ℕ). r ≤ a.written) (sym last) keeps.streams.retired;
         begun = omega (arith, keeps.streams.begun);
         in_flight = omega (arith, fresh, keeps.streams.retired);
+        numbers = keeps.streams.numbers;
       };
       loads = record { all = omega (arith, keeps.loads.all, fewer) };
     }
 
-closes : (g : Setup) (seat : ℕ) (a : AppState) (log : Log) (taken sent : List Packet) (stream : List ℕ) → AppKeeps g seat a log taken sent stream →
+closes : (g : Setup) (seat : ℕ) (a : AppState) (log : Log) (taken sent : List Packet) (stream : List ℕ) →
+    AppKeeps g seat a log taken sent stream →
     (e : ℕ × Entry) → e.1.command ≡ command.Sync a.written → a.held ≡ None → a.closed ≡ false → a.written ≡ a.frames → 0 < g.ahead →
     IsOwnTurn g seat log e (still_asked g a) [] →
     AppKeeps g seat (record a { closed = true; held = Some End }) (log ++ e ∷ []) taken sent stream
@@ -263,7 +287,8 @@ closes g seat a log taken sent stream keeps e is_sync bare closed all some is =
         ends =
             map-append is_end sent (End ∷ [])
             ∙ ap (λ (xs : List Bool). xs ++ true ∷ [])
-            (ap (map is_end) (sym unheld) ∙ part.ends ∙ ap (λ t. map (λ _. false) frames ++ end_once t) closed ∙ append-nil (map (λ _. false) frames))
+            (ap (map is_end) (sym unheld) ∙ part.ends ∙ ap (λ t. map (λ _. false) frames ++ end_once t) closed
+            ∙ append-nil (map (λ _. false) frames))
             ∙ ap (λ (fs : List Cutting). map (λ _. false) fs ++ true ∷ []) (sym same);
         ready = subst (λ (ls : List LoadState). Each (IsReady g.lens) ls) (sym same_loads) part.ready;
         ended = part.ended;
@@ -278,6 +303,7 @@ closes g seat a log taken sent stream keeps e is_sync bare closed all some is =
         retired = omega (arith, last);
         begun = keeps.streams.begun;
         in_flight = keeps.streams.in_flight;
+        numbers = keeps.streams.numbers;
       };
       loads = record { all = keeps.loads.all };
     }
@@ -291,14 +317,18 @@ concat_push (y ∷ shown) x = ap (λ zs. y ++ zs) (concat_push shown x) ∙ sym 
 streamed_all : (b : ℕ) (shown : List (List ℕ)) → b ≡ length shown → streamed b None shown ≡ concat shown
 streamed_all b shown all = append-nil (concat (take b shown)) ∙ ap concat (take_all b shown (omega (arith, all)))
 
-streamed_next : (b : ℕ) (shown : List (List ℕ)) (x : List ℕ) → b ≡ length shown → streamed (b + 1) None (shown ++ x ∷ []) ≡ streamed b None shown ++ x
+streamed_next : (b : ℕ) (shown : List (List ℕ)) (x : List ℕ) → b ≡ length shown →
+    streamed (b + 1) None (shown ++ x ∷ []) ≡ streamed b None shown ++ x
 streamed_next b shown x all =
     let long = length_push shown x in
-    streamed_all (b + 1) (shown ++ x ∷ []) (omega (arith, all, long)) ∙ concat_push shown x ∙ ap (λ zs. zs ++ x) (sym (streamed_all b shown all))
+    streamed_all (b + 1) (shown ++ x ∷ []) (omega (arith, all, long)) ∙ concat_push shown x
+    ∙ ap (λ zs. zs ++ x) (sym (streamed_all b shown all))
 
-streamed_cut : (b n : ℕ) (shown : List (List ℕ)) (x : List ℕ) → b ≡ length shown → streamed b (Some n) (shown ++ x ∷ []) ≡ streamed b None shown ++ take n x
+streamed_cut : (b n : ℕ) (shown : List (List ℕ)) (x : List ℕ) → b ≡ length shown →
+    streamed b (Some n) (shown ++ x ∷ []) ≡ streamed b None shown ++ take n x
 streamed_cut b n shown x all =
-    ap (λ (ys : List (List ℕ)). concat ys ++ take n (slice_index_or (shown ++ x ∷ []) b [])) (take-append-le b shown (x ∷ []) (omega (arith, all)))
+    ap (λ (ys : List (List ℕ)). concat ys ++ take n (slice_index_or (shown ++ x ∷ []) b []))
+    (take-append-le b shown (x ∷ []) (omega (arith, all)))
     ∙ ap (λ (y : List ℕ). concat (take b shown) ++ take n y) (get_or_push shown x [] b (sym all))
     ∙ ap (λ zs. zs ++ take n x) (sym (append-nil (concat (take b shown))))
 
@@ -310,11 +340,20 @@ load_back g a taken p spare part more =
     ap length (loads_append taken (p ∷ [])) ∙ length-append (loads_in taken) (loads_in (p ∷ [])) in
     omega (arith, part.all, more, long)
 
-writes : (g : Setup) (seat : ℕ) (a : AppState) (log : Log) (taken sent : List Packet) (stream : List ℕ) → AppKeeps g seat a log taken sent stream →
+-- and its numbers
+numbers_back : (a : AppState) (taken : List Packet) (p : Packet) (stats : List Stats) → a.stats ≡ map (λ l. l.stats) (loads_in taken) →
+    stats ≡ a.stats ++ map (λ l. l.stats) (loads_in (p ∷ [])) → stats ≡ map (λ l. l.stats) (loads_in (taken ++ p ∷ []))
+numbers_back a taken p stats before more =
+    more ∙ ap (λ (ss : List Stats). ss ++ map (λ (l : LoadState). l.stats) (loads_in (p ∷ []))) before
+    ∙ sym (ap (map (λ (l : LoadState). l.stats)) (loads_append taken (p ∷ []))
+    ∙ map-append (λ (l : LoadState). l.stats) (loads_in taken) (loads_in (p ∷ [])))
+
+writes : (g : Setup) (seat : ℕ) (a : AppState) (log : Log) (taken sent : List Packet) (stream : List ℕ) →
+    AppKeeps g seat a log taken sent stream →
     (p : Packet) (spare : List LoadState) (stats : List Stats) → a.fault ≡ None → length taken < a.frames →
-    length spare ≡ length a.spare + length (loads_in (p ∷ [])) →
+    length spare ≡ length a.spare + length (loads_in (p ∷ [])) → stats ≡ a.stats ++ map (λ l. l.stats) (loads_in (p ∷ [])) →
     AppKeeps g seat (record a { written = a.written + 1; spare = spare; stats = stats }) log (taken ++ p ∷ []) sent (stream ++ bytes_in p)
-writes g seat a log taken sent stream keeps p spare stats whole away more =
+writes g seat a log taken sent stream keeps p spare stats whole away more told =
     let part = keeps.part in
     let short : cut_short a.fault ≡ 0 = ap cut_short whole in
     let long = length_push taken p in
@@ -342,15 +381,17 @@ writes g seat a log taken sent stream keeps p spare stats whole away more =
         retired = omega (arith, keeps.streams.retired);
         begun = omega (arith, away, long);
         in_flight = omega (arith, keeps.streams.in_flight);
+        numbers = numbers_back a taken p stats keeps.streams.numbers told;
       };
       loads = record { all = load_back g a taken p spare keeps.loads more };
     }
 
-fails : (g : Setup) (seat : ℕ) (a : AppState) (log : Log) (taken sent : List Packet) (stream : List ℕ) → AppKeeps g seat a log taken sent stream →
+fails : (g : Setup) (seat : ℕ) (a : AppState) (log : Log) (taken sent : List Packet) (stream : List ℕ) →
+    AppKeeps g seat a log taken sent stream →
     (p : Packet) (n : ℕ) (spare : List LoadState) (stats : List Stats) → a.fault ≡ None → length taken < a.frames →
-    length spare ≡ length a.spare + length (loads_in (p ∷ [])) →
+    length spare ≡ length a.spare + length (loads_in (p ∷ [])) → stats ≡ a.stats ++ map (λ l. l.stats) (loads_in (p ∷ [])) →
     AppKeeps g seat (record a { fault = Some n; spare = spare; stats = stats }) log (taken ++ p ∷ []) sent (stream ++ take n (bytes_in p))
-fails g seat a log taken sent stream keeps p n spare stats whole away more =
+fails g seat a log taken sent stream keeps p n spare stats whole away more told =
     let part = keeps.part in
     let short : cut_short a.fault ≡ 0 = ap cut_short whole in
     let long = length_push taken p in
@@ -377,6 +418,7 @@ fails g seat a log taken sent stream keeps p n spare stats whole away more =
         retired = keeps.streams.retired;
         begun = omega (arith, away, long);
         in_flight = keeps.streams.in_flight;
+        numbers = numbers_back a taken p stats keeps.streams.numbers told;
       };
       loads = record { all = load_back g a taken p spare keeps.loads more };
     }

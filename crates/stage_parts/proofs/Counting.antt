@@ -64,11 +64,16 @@ are_many g dbase seats s fits =
     ∙ ap (λ n. n + length (end_once s.app.closed)) (length-map frames (λ (_ : Cutting). false)) in
     let one = one_end s.app.closed in
     let all : length (loads_in sent_a) ≡ s.app.frames =
-    sym (length-map (loads_in sent_a) (λ (l : LoadState). l.cut)) ∙ ap length fits.app.cuts ∙ length-map frames cut_of_frame ∙ sym fits.app.frames in
+    sym (length-map (loads_in sent_a) (λ (l : LoadState). l.cut)) ∙ ap length fits.app.cuts ∙ length-map frames cut_of_frame
+    ∙ sym fits.app.frames in
     let culled : length (loads_in sent_b) ≡ length (loads_in s.a.taken) =
     sym (length-map (loads_in sent_b) carried) ∙ ap length fits.cull.loads ∙ passed_on_length empty_scene.nodes (loads_in s.a.taken) in
-    let below_a = front_length (loads_in s.a.taken) (loads_in sent_a) (front_of (loads_in s.a.taken) (loads_in sent_a) (sent_load s.a.sent s.a.taken s.app.held fits.link_a)) in
-    let below_b = front_length (loads_in s.b.taken) (loads_in sent_b) (front_of (loads_in s.b.taken) (loads_in sent_b) (sent_load s.b.sent s.b.taken s.cull.held fits.link_b)) in
+    let below_a =
+    front_length (loads_in s.a.taken) (loads_in sent_a)
+    (front_of (loads_in s.a.taken) (loads_in sent_a) (sent_load s.a.sent s.a.taken s.app.held fits.link_a)) in
+    let below_b =
+    front_length (loads_in s.b.taken) (loads_in sent_b)
+    (front_of (loads_in s.b.taken) (loads_in sent_b) (sent_load s.b.sent s.b.taken s.cull.held fits.link_b)) in
     record {
       a = omega (arith, long, one, fits.app.frames);
       a_taken = front_length s.a.taken s.a.sent fits.link_a.front;
@@ -93,10 +98,36 @@ rooms g dbase seats s fits =
     record {
       a = λ p held.
           let one = held_one s.a.sent s.app.held p held in
-          omega (arith, one, many.a, fits.stream.in_flight, fits.stream.all, many.c_taken, some_c, many.c, few, many.b_taken, some_b, many.b);
+          omega (
+            arith,
+            one,
+            many.a,
+            fits.stream.in_flight,
+            fits.stream.all,
+            many.c_taken,
+            some_c,
+            many.c,
+            few,
+            many.b_taken,
+            some_b,
+            many.b,
+          );
       b = λ p held.
           let one = held_one s.b.sent s.cull.held p held in
-          omega (arith, one, many.b, many.a_taken, some_a, many.a, fits.stream.in_flight, fits.stream.all, many.c_taken, some_c, many.c, few);
+          omega (
+            arith,
+            one,
+            many.b,
+            many.a_taken,
+            some_a,
+            many.a,
+            fits.stream.in_flight,
+            fits.stream.all,
+            many.c_taken,
+            some_c,
+            many.c,
+            few,
+          );
       c = λ p held.
           let one = held_one s.c.sent s.draw.held p held in
           omega (arith, one, many.c, many.loads, fits.stream.in_flight, fits.stream.all);
@@ -140,7 +171,8 @@ ends_follow : (g : Setup) (dbase : List BaseLine) (seats : Seats) (s : PipeState
 ends_follow g dbase seats s fits =
     record {
       app = λ ended.
-          sym (ends_set (passed s.a.sent s.app.held) ∙ ap any_set fits.app.ends ∙ none_before (frames_of g.channels seats.app s.log) s.app.closed)
+          sym (ends_set (passed s.a.sent s.app.held) ∙ ap any_set fits.app.ends
+          ∙ none_before (frames_of g.channels seats.app s.log) s.app.closed)
           ∙ end_later s.a.sent (option_to_list s.app.held) (sym fits.app.ended ∙ ended);
       cull = λ ended.
           fits.app.ended
@@ -158,12 +190,15 @@ all_back g dbase seats s fits is =
     let sent_b = passed_bare s.b.sent s.cull.held is.cull_held in
     let sent_c = passed_bare s.c.sent s.draw.held is.draw_held in
     let app : has_end s.a.sent ≡ s.app.closed =
-    ap has_end (sym sent_a) ∙ ends_set (passed s.a.sent s.app.held) ∙ ap any_set fits.app.ends ∙ none_before (frames_of g.channels seats.app s.log) s.app.closed in
+    ap has_end (sym sent_a) ∙ ends_set (passed s.a.sent s.app.held) ∙ ap any_set fits.app.ends
+    ∙ none_before (frames_of g.channels seats.app s.log) s.app.closed in
     let cull : has_end s.b.sent ≡ s.app.closed =
-    ap has_end (sym sent_b) ∙ ends_set (passed s.b.sent s.cull.held) ∙ ap any_set fits.cull.ends ∙ sym (ends_set s.a.taken) ∙ ap has_end is.a ∙ app in
+    ap has_end (sym sent_b) ∙ ends_set (passed s.b.sent s.cull.held) ∙ ap any_set fits.cull.ends ∙ sym (ends_set s.a.taken)
+    ∙ ap has_end is.a ∙ app in
     record {
       back =
-          ap length is.c ∙ ap length (sym sent_c) ∙ many.c ∙ ap (λ (ps : List Packet). length (loads_in ps)) (is.b ∙ sym sent_b) ∙ many.b_loads
+          ap length is.c ∙ ap length (sym sent_c) ∙ many.c ∙ ap (λ (ps : List Packet). length (loads_in ps)) (is.b ∙ sym sent_b)
+          ∙ many.b_loads
           ∙ ap (λ (ps : List Packet). length (loads_in ps)) (is.a ∙ sym sent_a) ∙ many.all_loads;
       app = fits.app.ended ∙ app;
       cull = fits.cull.ended ∙ cull;

@@ -1,27 +1,24 @@
 -- What DBASE keeps goes on; the next line of a section; and the states before the first step.
-use Rattle.std.proofs.Common.{◌≡◌, ℕ, zero, suc, ◌+◌, ◌≤◌, Bool, true, false, cond, List, [], ◌∷◌, ◌++◌, map, take, drop, length, slice_get, Some, None, refl, sym, ap, ◌∙◌, subst, arith, add-one}
+use Rattle.std.proofs.Common.{◌≡◌, ℕ, zero, suc, ◌≤◌, true, false, cond, List, [], ◌∷◌, ◌++◌, map, take, drop, slice_get, Some, None, refl, sym, ap, ◌∙◌, subst, arith, add-one}
 use Rattle.std.proofs.lemmas.List.{append-nil, drop_all, length-map}
 use Rattle.std.proofs.lemmas.Option.{same_Some}
 use Rattle.std.specs.List.{AllByRecursion, fold}
 use Rattle.pf_model.specs.declared.lines.AppLine.{AppLine}
-use Rattle.pf_model.specs.declared.lines.AppStep.{AppStep}
 use Rattle.pf_model.specs.declared.lines.BaseLine.{BaseLine}
 use Rattle.pf_model.specs.declared.lines.BaseStep.{BaseStep}
-use Rattle.pf_model.specs.Merges.{BufferState, buffer_after}
+use Rattle.pf_model.specs.Merges.{buffer_after}
 use Rattle.pf_history.specs.declared.commands.Caller.TheVariants.{Dbase}
 use Rattle.pf_history.specs.declared.commands.Command.TheVariants as command
 use Rattle.pf_history.specs.declared.commands.Entry.{Entry}
 use Rattle.pf_history.specs.Objects.{opening_state}
 use Rattle.pf_history.specs.Logs.{Log, state_of}
-use Rattle.pf_history.specs.Asks.{Ask, BaseAsk, Turn, asked_dbase, asked_from, asked_base_from, is_at, FollowsBase}
+use Rattle.pf_history.specs.Asks.{BaseAsk, Turn, asked_dbase, asked_from, asked_base_from, is_at, FollowsBase}
 use Rattle.pf_history.specs.Fits.{turns_at}
 use Rattle.pf_history.proofs.Fitting.{follows_base_more}
 use Rattle.pf_history.proofs.Turns.{turns_append, turns_none}
-use Rattle.stage_parts.specs.Loads.{LoadState}
-use Rattle.stage_parts.specs.States.{Setup, AppState, DbaseState, Seats, still_asked, still_asked_dbase, in_buffer, since_step, steps_since}
+use Rattle.stage_parts.specs.States.{DbaseState, still_asked, still_asked_dbase, in_buffer, since_step, steps_since}
 use Rattle.stage_parts.specs.Parts.{DbaseKeeps}
-use Rattle.stage_parts.specs.DbaseSteps.{DbaseGoesOn, DbaseLaw, IsNextLine, LinesGoOn, LinesLaw, opening_pipe, OpeningLaw}
-use Rattle.stage_parts.specs.Gathering.{IsGathered}
+use Rattle.stage_parts.specs.DbaseSteps.{DbaseLaw, IsNextLine, LinesLaw, OpeningLaw}
 use Rattle.stage_parts.proofs.Places.{get_map}
 
 stays : (lines : List BaseLine) (channels seat : ℕ) (d : DbaseState) (log : Log) → DbaseKeeps lines channels seat d log →
@@ -60,7 +57,9 @@ dbase_law lines channels seat d log keeps =
       stays = stays lines channels seat d log keeps;
       passes = λ next asks buffer.
           record {
-            follows = subst (λ (left : List BaseAsk). FollowsBase (asked_dbase lines) (turns_at channels seat Dbase log) left) (sym asks) keeps.follows;
+            follows =
+                subst (λ (left : List BaseAsk). FollowsBase (asked_dbase lines) (turns_at channels seat Dbase log) left)
+                (sym asks) keeps.follows;
             part = record { buffer = buffer };
           };
       merges = merges lines channels seat d log keeps;
@@ -78,7 +77,8 @@ take_get [] i x at = absurd (cc)
 take_get (y ∷ xs) zero x at = ap (λ z. z ∷ []) (same_Some y x at)
 take_get (y ∷ xs) (suc i) x at = ap (λ zs. y ∷ zs) (take_get xs i x at)
 
-since_push : (since steps : List BaseStep) (s : BaseStep) → fold since_step since (steps ++ s ∷ []) ≡ since_step (fold since_step since steps) s
+since_push : (since steps : List BaseStep) (s : BaseStep) →
+    fold since_step since (steps ++ s ∷ []) ≡ since_step (fold since_step since steps) s
 since_push since [] s = refl
 since_push since (r ∷ steps) s = since_push (since_step since r) steps s
 
@@ -87,7 +87,8 @@ next_base lines d l at =
     let steps = map (λ (x : BaseLine). x.step) lines in
     let there = get_map (λ (x : BaseLine). x.step) lines d.at l at in
     record {
-      asks = ap (asked_base_from d.need (in_buffer lines d)) (drop_get steps d.at l.step there ∙ ap (λ n. l.step ∷ drop n steps) (sym (add-one d.at)));
+      asks = ap (asked_base_from d.need (in_buffer lines d)) (drop_get steps d.at l.step there
+          ∙ ap (λ n. l.step ∷ drop n steps) (sym (add-one d.at)));
       buffer = λ need buffer.
           ap (λ n. steps_since (take n steps)) (add-one d.at) ∙ ap steps_since (take_get steps d.at l.step there)
           ∙ since_push [] (take d.at steps) l.step;
@@ -103,7 +104,8 @@ lines_law g a lines d =
       app = λ l closed at.
           running closed
           ∙ ap (asked_from a.need a.synced)
-          (drop_get app_steps a.at l.step (get_map (λ (x : AppLine). x.step) g.lines a.at l at) ∙ ap (λ n. l.step ∷ drop n app_steps) (sym (add-one a.at)));
+          (drop_get app_steps a.at l.step (get_map (λ (x : AppLine). x.step) g.lines a.at l at)
+          ∙ ap (λ n. l.step ∷ drop n app_steps) (sym (add-one a.at)));
       app_end = λ closed past.
           let long = length-map g.lines (λ (x : AppLine). x.step) in
           running closed ∙ ap (asked_from a.need a.synced) (drop_all a.at app_steps (omega (arith, past, long)));
@@ -137,7 +139,15 @@ opening_law g dbase seats loads merges all =
           fresh = λ synced. absurd (cc);
           late = λ closed. refl;
         };
-        streams = record { bytes = refl; all = omega arith; retired = omega arith; begun = omega arith; in_flight = omega arith };
+        streams = record {
+          bytes = refl;
+          all = omega arith;
+          retired = omega arith;
+          begun = omega arith;
+          in_flight = omega arith;
+          numbers =
+              refl;
+        };
         loads = record { all = omega (arith, all) };
       };
       cull = record {

@@ -32,7 +32,8 @@ both true b one other = other
 both false b one other = absurd (cc)
 
 -- where the application's entries have one number, the Frames of that number are all Frames
-pub frames_are_all : (seat : ℕ) (ids : List ℕ) (s : FrameState) (log : Log) → IsLegalFrom s log → AllByRecursion (λ e. is_by App e ≡ true → e.0 ≡ seat) log → frames_from seat ids s log ≡ cuttings ids s log
+pub frames_are_all : (seat : ℕ) (ids : List ℕ) (s : FrameState) (log : Log) → IsLegalFrom s log →
+    AllByRecursion (λ e. is_by App e ≡ true → e.0 ≡ seat) log → frames_from seat ids s log ≡ cuttings ids s log
 frames_are_all seat ids s [] legal only = refl
 frames_are_all seat ids s (e ∷ es) legal only =
     by (is_frame e.1.command) (is_at seat App e)
@@ -51,7 +52,8 @@ frames_are_all seat ids s (e ∷ es) legal only =
     by : (t u : Bool) → (is_frame e.1.command ≡ true → u ≡ true) → is_frame e.1.command ≡ t →
         rest ≡ cuttings (cond t [] (put_all (names s e.1.command) ids)) (next_state s e.1.command) es →
         cond (t && u) (here ∷ rest) rest
-        ≡ cond t (here ∷ cuttings [] (next_state s e.1.command) es) (cuttings (put_all (names s e.1.command) ids) (next_state s e.1.command) es)
+        ≡ cond t (here ∷ cuttings [] (next_state s e.1.command) es)
+        (cuttings (put_all (names s e.1.command) ids) (next_state s e.1.command) es)
     by true true own is same = ap (λ cs. here ∷ cs) same
     by true false own is same = absurd (let is_own = own is in cc)
     by false u own is same = same
@@ -61,10 +63,12 @@ record IsReached (s : FrameState) (log : Log) (x : FrameState) : Type 0 where
   pub many : ℕ
   pub same : x ≡ state_after s (take many log)
 
-reached_later : (s : FrameState) (e : ℕ × Entry) (es : Log) (x : FrameState) → IsReached (next_state s e.1.command) es x → IsReached s (e ∷ es) x
+reached_later : (s : FrameState) (e : ℕ × Entry) (es : Log) (x : FrameState) → IsReached (next_state s e.1.command) es x →
+    IsReached s (e ∷ es) x
 reached_later s e es x r = record { many = suc r.many; same = r.same }
 
-found_reached : (ids : List ℕ) (s : FrameState) (log : Log) (k : ℕ) (x : FrameState) → slice_get (map (λ c. c.found) (cuttings ids s log)) k ≡ Some x → IsReached s log x
+found_reached : (ids : List ℕ) (s : FrameState) (log : Log) (k : ℕ) (x : FrameState) →
+    slice_get (map (λ c. c.found) (cuttings ids s log)) k ≡ Some x → IsReached s log x
 found_reached ids s [] k x at = absurd (cc)
 found_reached ids s (e ∷ es) k x at =
     by (is_frame e.1.command) k
@@ -81,7 +85,8 @@ found_reached ids s (e ∷ es) k x at =
     by : (t : Bool) (k : ℕ) →
         ((j : ℕ) → slice_get (map (λ (c : Cutting). c.found) framed) j ≡ Some x → IsReached (next_state s e.1.command) es x) →
         ((j : ℕ) → slice_get (map (λ (c : Cutting). c.found) later) j ≡ Some x → IsReached (next_state s e.1.command) es x) →
-        slice_get (map (λ (c : Cutting). c.found) (cond t (record { ids = ids; found = s } ∷ framed) later)) k ≡ Some x → IsReached s (e ∷ es) x
+        slice_get (map (λ (c : Cutting). c.found) (cond t (record { ids = ids; found = s } ∷ framed) later)) k ≡ Some x →
+        IsReached s (e ∷ es) x
     by true zero first other at = record { many = 0; same = sym (same_Some s x at) }
     by true (suc k) first other at = reached_later s e es x (first k at)
     by false k first other at = reached_later s e es x (other k at)
@@ -91,7 +96,8 @@ pub record IsFound (x : FrameState) : Type 0 where
   pub limits : IsGraphWithinLimits x.graph
   pub time : x.graph.time ≡ x.frames + 1
 
-pub frames_found : (channels : ℕ) (log : Log) → HasEditsInRange log → (k : ℕ) (x : FrameState) → slice_get (found_by_frames channels log) k ≡ Some x → IsFound x
+pub frames_found : (channels : ℕ) (log : Log) → HasEditsInRange log → (k : ℕ) (x : FrameState) →
+    slice_get (found_by_frames channels log) k ≡ Some x → IsFound x
 frames_found channels log fit k x at =
     let r = found_reached [] (opening_state channels) log k x at in
     subst IsFound (sym r.same)

@@ -10,13 +10,17 @@ use Rattle.pf_history.proofs.Fitting.{fit_law}
 use Rattle.pf_history.proofs.Turns.{seat_law}
 use Rattle.stage_parts.specs.States.{Setup, Seats, PipeState, still_asked, still_asked_dbase}
 use Rattle.stage_parts.specs.Pipes.{PipeFits}
-use Rattle.stage_parts.specs.Gathering.{IsGathered, FitsAsGathered, GatheringLaw}
+use Rattle.stage_parts.specs.Gathering.{IsGathered, GatheringLaw}
 use Rattle.stage_parts.proofs.Places.{each_all}
 
 fits_gathered : (g : Setup) (dbase : List BaseLine) (seats : Seats) (s : PipeState) → IsGathered g dbase seats s → PipeFits g dbase seats s
 fits_gathered g dbase seats s is =
-    let app = (seat_law g.channels seats.app App s.log).all (each_all (λ (e : ℕ × Entry). is_by App e ≡ true → e.0 ≡ seats.app) s.log is.app_entries) in
-    let base = (seat_law g.channels seats.dbase Dbase s.log).all (each_all (λ (e : ℕ × Entry). is_by Dbase e ≡ true → e.0 ≡ seats.dbase) s.log is.dbase_entries) in
+    let app =
+    (seat_law g.channels seats.app App s.log).all
+    (each_all (λ (e : ℕ × Entry). is_by App e ≡ true → e.0 ≡ seats.app) s.log is.app_entries) in
+    let base =
+    (seat_law g.channels seats.dbase Dbase s.log).all
+    (each_all (λ (e : ℕ × Entry). is_by Dbase e ≡ true → e.0 ≡ seats.dbase) s.log is.dbase_entries) in
     record {
       merges = is.merges;
       history = record {
@@ -25,7 +29,8 @@ fits_gathered g dbase seats s is =
           follows_app =
               subst (λ (n : ℕ). Follows g.ahead n (asked_app g.lines) (turns_of g.channels App s.log) (still_asked g s.app)) is.merges
               (subst (λ (ts : List Turn). Follows g.ahead g.merges (asked_app g.lines) ts (still_asked g s.app)) app is.app.follows);
-          follows_dbase = subst (λ (ts : List Turn). FollowsBase (asked_dbase dbase) ts (still_asked_dbase dbase s.dbase)) base is.base.follows;
+          follows_dbase =
+              subst (λ (ts : List Turn). FollowsBase (asked_dbase dbase) ts (still_asked_dbase dbase s.dbase)) base is.base.follows;
         };
         app_entries = is.app_entries;
         dbase_entries = is.dbase_entries;
@@ -44,8 +49,12 @@ fits_gathered g dbase seats s is =
 gathered_fits : (g : Setup) (dbase : List BaseLine) (seats : Seats) (s : PipeState) → PipeFits g dbase seats s → IsGathered g dbase seats s
 gathered_fits g dbase seats s fits =
     let history = fits.history in
-    let app = (seat_law g.channels seats.app App s.log).all (each_all (λ (e : ℕ × Entry). is_by App e ≡ true → e.0 ≡ seats.app) s.log history.app_entries) in
-    let base = (seat_law g.channels seats.dbase Dbase s.log).all (each_all (λ (e : ℕ × Entry). is_by Dbase e ≡ true → e.0 ≡ seats.dbase) s.log history.dbase_entries) in
+    let app =
+    (seat_law g.channels seats.app App s.log).all
+    (each_all (λ (e : ℕ × Entry). is_by App e ≡ true → e.0 ≡ seats.app) s.log history.app_entries) in
+    let base =
+    (seat_law g.channels seats.dbase Dbase s.log).all
+    (each_all (λ (e : ℕ × Entry). is_by Dbase e ≡ true → e.0 ≡ seats.dbase) s.log history.dbase_entries) in
     record {
       merges = fits.merges;
       legal = history.legal;
@@ -56,8 +65,10 @@ gathered_fits g dbase seats s fits =
       link_c = fits.link_c;
       app = record {
         follows =
-            subst (λ (n : ℕ). Follows g.ahead n (asked_app g.lines) (turns_at g.channels seats.app App s.log) (still_asked g s.app)) (sym fits.merges)
-            (subst (λ (ts : List Turn). Follows g.ahead (length (asked_dbase dbase)) (asked_app g.lines) ts (still_asked g s.app)) (sym app) history.follows.follows_app);
+            subst (λ (n : ℕ). Follows g.ahead n (asked_app g.lines) (turns_at g.channels seats.app App s.log) (still_asked g s.app))
+            (sym fits.merges)
+            (subst (λ (ts : List Turn). Follows g.ahead (length (asked_dbase dbase)) (asked_app g.lines) ts (still_asked g s.app))
+            (sym app) history.follows.follows_app);
         part = fits.app;
         streams = fits.stream;
         loads = fits.loads;
@@ -65,18 +76,25 @@ gathered_fits g dbase seats s fits =
       cull = fits.cull;
       draw = fits.draw;
       base = record {
-        follows = subst (λ (ts : List Turn). FollowsBase (asked_dbase dbase) ts (still_asked_dbase dbase s.dbase)) (sym base) history.follows.follows_dbase;
+        follows =
+            subst (λ (ts : List Turn). FollowsBase (asked_dbase dbase) ts (still_asked_dbase dbase s.dbase))
+            (sym base) history.follows.follows_dbase;
         part = fits.buffer;
       };
     }
 
-wholly : (g : Setup) (dbase : List BaseLine) (seats : Seats) (s : PipeState) → PipeFits g dbase seats s → still_asked g s.app ≡ [] → still_asked_dbase dbase s.dbase ≡ [] →
+wholly : (g : Setup) (dbase : List BaseLine) (seats : Seats) (s : PipeState) → PipeFits g dbase seats s → still_asked g s.app ≡ [] →
+    still_asked_dbase dbase s.dbase ≡ [] →
     FitsWholly g.channels g.ahead g.lines dbase s.log
 wholly g dbase seats s fits no_asks no_merges =
     (fit_law g.channels g.ahead g.lines dbase s.log).fits_wholly
     (record {
-      follows_app = subst (λ (left : List Ask). Follows g.ahead (length (asked_dbase dbase)) (asked_app g.lines) (turns_of g.channels App s.log) left) no_asks fits.history.follows.follows_app;
-      follows_dbase = subst (λ (left : List BaseAsk). FollowsBase (asked_dbase dbase) (turns_of g.channels Dbase s.log) left) no_merges fits.history.follows.follows_dbase;
+      follows_app =
+          subst (λ (left : List Ask). Follows g.ahead (length (asked_dbase dbase)) (asked_app g.lines)
+          (turns_of g.channels App s.log) left) no_asks fits.history.follows.follows_app;
+      follows_dbase =
+          subst (λ (left : List BaseAsk). FollowsBase (asked_dbase dbase)
+          (turns_of g.channels Dbase s.log) left) no_merges fits.history.follows.follows_dbase;
     })
 
 pub gathering_law : GatheringLaw
@@ -84,6 +102,7 @@ gathering_law g dbase seats s =
     record {
       fits = fits_gathered g dbase seats s;
       gathered = gathered_fits g dbase seats s;
-      play = λ fits. (fit_law g.channels g.ahead g.lines dbase s.log).fits (still_asked g s.app) (still_asked_dbase dbase s.dbase) fits.history.follows;
+      play = λ fits. (fit_law g.channels g.ahead g.lines dbase s.log).fits (still_asked g s.app)
+          (still_asked_dbase dbase s.dbase) fits.history.follows;
       wholly = wholly g dbase seats s;
     }

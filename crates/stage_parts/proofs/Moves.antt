@@ -9,13 +9,11 @@ use Rattle.pf_model.specs.declared.lines.BaseStep.{BaseStep}
 use Rattle.pf_model.specs.declared.lines.BaseStep.TheVariants as base
 use Rattle.pf_history.specs.declared.commands.Caller.{Caller}
 use Rattle.pf_history.specs.declared.commands.Caller.TheVariants.{App, Dbase}
-use Rattle.pf_history.specs.declared.commands.Entry.{Entry}
 use Rattle.pf_history.specs.Objects.{FrameState, opening_state, next_state}
 use Rattle.pf_history.specs.Logs.{Log, is_caller, is_by}
 use Rattle.pf_history.specs.Asks.{Ask, BaseAsk, Turn, asked_app, asked_dbase, asked_from, asked_base_from, turns_from, Follows, FollowsBase}
 use Rattle.pf_history.specs.Fits.{turns_of}
-use Rattle.stage_parts.specs.States.{Setup, Seats, PipeState, still_asked, still_asked_dbase}
-use Rattle.stage_parts.specs.Pipes.{PipeFits}
+use Rattle.stage_parts.specs.States.{still_asked, still_asked_dbase}
 use Rattle.stage_parts.specs.Moves.{MovesLaw}
 use Rattle.stage_parts.proofs.Counting.{are_many, held_some}
 
@@ -31,12 +29,15 @@ asked_length need synced (app.Wait n ∷ steps) = let rest = asked_length (max n
 asked_base_length : (need : ℕ) (since steps : List BaseStep) → length (asked_base_from need since steps) ≤ length steps
 asked_base_length need since [] = omega arith
 asked_base_length need since (base.Buffer ∷ steps) = let rest = asked_base_length need [] steps in omega (arith, rest)
-asked_base_length need since (base.Edit e ∷ steps) = let rest = asked_base_length need (since ++ base.Edit e ∷ []) steps in omega (arith, rest)
-asked_base_length need since (base.Ask e ∷ steps) = let rest = asked_base_length need (since ++ base.Ask e ∷ []) steps in omega (arith, rest)
+asked_base_length need since (base.Edit e ∷ steps) = let rest = asked_base_length need (since ++ base.Edit e ∷ []) steps in
+    omega (arith, rest)
+asked_base_length need since (base.Ask e ∷ steps) = let rest = asked_base_length need (since ++ base.Ask e ∷ []) steps in
+    omega (arith, rest)
 asked_base_length need since (base.Merge ∷ steps) = let rest = asked_base_length need [] steps in omega (arith, rest)
 asked_base_length need since (base.Await n ∷ steps) = let rest = asked_base_length (max need n) since steps in omega (arith, rest)
 
-follows_length : (ahead merges : ℕ) (asks : List Ask) (ts : List Turn) (left : List Ask) → Follows ahead merges asks ts left → length ts ≤ length asks
+follows_length : (ahead merges : ℕ) (asks : List Ask) (ts : List Turn) (left : List Ask) → Follows ahead merges asks ts left →
+    length ts ≤ length asks
 follows_length ahead merges asks [] left h = omega arith
 follows_length ahead merges [] (t ∷ ts) left h = absurd h
 follows_length ahead merges (a ∷ asks) (t ∷ ts) left h = let rest = follows_length ahead merges asks ts left h.2 in omega (arith, rest)
@@ -58,7 +59,8 @@ entries s (e ∷ es) = by e.1.caller (entries (next_state s e.1.command) es)
     rest caller = turns_from (is_by caller) (next_state s e.1.command) es
 
     by : (c : Caller) → length es ≡ length (rest App) + length (rest Dbase) →
-        suc (length es) ≡ length (cond (is_caller App c) (turn ∷ rest App) (rest App)) + length (cond (is_caller Dbase c) (turn ∷ rest Dbase) (rest Dbase))
+        suc (length es) ≡ length (cond (is_caller App c) (turn ∷ rest App) (rest App)) + length
+        (cond (is_caller Dbase c) (turn ∷ rest Dbase) (rest Dbase))
     by App few = omega (arith, few)
     by Dbase few = omega (arith, few)
 
@@ -66,8 +68,12 @@ pub moves_law : MovesLaw
 moves_law g dbase seats s fits within base_within =
     let many = are_many g dbase seats s fits in
     let all = entries (opening_state g.channels) s.log in
-    let made = follows_length g.ahead (length (asked_dbase dbase)) (asked_app g.lines) (turns_of g.channels App s.log) (still_asked g s.app) fits.history.follows.follows_app in
-    let merged = follows_base_length (asked_dbase dbase) (turns_of g.channels Dbase s.log) (still_asked_dbase dbase s.dbase) fits.history.follows.follows_dbase in
+    let made =
+    follows_length g.ahead (length (asked_dbase dbase)) (asked_app g.lines) (turns_of g.channels App s.log)
+    (still_asked g s.app) fits.history.follows.follows_app in
+    let merged =
+    follows_base_length (asked_dbase dbase) (turns_of g.channels Dbase s.log)
+    (still_asked_dbase dbase s.dbase) fits.history.follows.follows_dbase in
     let asked = asked_length 0 false (map (λ (x : AppLine). x.step) g.lines) in
     let asked_merges = asked_base_length 0 [] (map (λ (x : BaseLine). x.step) dbase) in
     let long = length-map g.lines (λ (x : AppLine). x.step) in
@@ -75,5 +81,26 @@ moves_law g dbase seats s fits within base_within =
     let some_a = held_some s.a.sent s.app.held in
     let some_b = held_some s.b.sent s.cull.held in
     let some_c = held_some s.c.sent s.draw.held in
-    omega (arith, all, made, merged, asked, asked_merges, long, base_long, some_a, some_b, some_c, many.a, many.a_taken, many.b, many.b_taken, many.c, many.c_taken, many.loads,
-    fits.app.few, within, base_within)
+    omega (
+      arith,
+      all,
+      made,
+      merged,
+      asked,
+      asked_merges,
+      long,
+      base_long,
+      some_a,
+      some_b,
+      some_c,
+      many.a,
+      many.a_taken,
+      many.b,
+      many.b_taken,
+      many.c,
+      many.c_taken,
+      many.loads,
+      fits.app.few,
+      within,
+      base_within,
+    )

@@ -12,7 +12,8 @@ get_take (suc n) (y ∷ xs) zero x at = at
 get_take (suc n) (y ∷ xs) (suc i) x at = get_take n xs i x at
 
 -- a list whose elements stand in another one at the same places is a front of it
-pub front_of : {X : Type 0} (xs ys : List X) → ((i : ℕ) (x : X) → slice_get xs i ≡ Some x → slice_get ys i ≡ Some x) → xs ≡ take (length xs) ys
+pub front_of : {X : Type 0} (xs ys : List X) → ((i : ℕ) (x : X) → slice_get xs i ≡ Some x → slice_get ys i ≡ Some x) →
+    xs ≡ take (length xs) ys
 front_of [] ys h = refl
 front_of (x ∷ xs) [] h = absurd (let none = h 0 x refl in cc)
 front_of (x ∷ xs) (y ∷ ys) h =
@@ -29,7 +30,8 @@ pub record Matches {X Y Z : Type 0} (f : X → Z) (g : Y → Z) (ys : List Y) (i
   pub stands : slice_get ys i ≡ Some other
   pub alike : f x ≡ g other
 
-pub get_match : {X Y Z : Type 0} (f : X → Z) (g : Y → Z) (xs : List X) (ys : List Y) → map f xs ≡ map g ys → (i : ℕ) (x : X) → slice_get xs i ≡ Some x → Matches f g ys i x
+pub get_match : {X Y Z : Type 0} (f : X → Z) (g : Y → Z) (xs : List X) (ys : List Y) → map f xs ≡ map g ys → (i : ℕ) (x : X) →
+    slice_get xs i ≡ Some x → Matches f g ys i x
 get_match f g [] ys e i x at = absurd (cc)
 get_match f g (u ∷ us) [] e i x at = absurd (cc)
 get_match f g (u ∷ us) (w ∷ ws) e zero x at =
@@ -39,6 +41,17 @@ get_match f g (u ∷ us) (w ∷ ws) e (suc i) x at =
     let tail : map f us ≡ map g ws = cc in
     let m = get_match f g us ws tail i x at in
     record { other = m.other; stands = m.stands; alike = m.alike }
+
+-- An element of a list, whose image stands at a place of the list of images.
+pub record IsMapped {X Y : Type 0} (f : X → Y) (xs : List X) (i : ℕ) (y : Y) : Type 0 where
+  pub from : X
+  pub stands : slice_get xs i ≡ Some from
+  pub same : f from ≡ y
+
+pub get_mapped : {X Y : Type 0} (f : X → Y) (xs : List X) (i : ℕ) (y : Y) → slice_get (map f xs) i ≡ Some y → IsMapped f xs i y
+get_mapped f [] i y at = absurd (cc)
+get_mapped f (x ∷ xs) zero y at = record { from = x; stands = refl; same = same_Some (f x) y at }
+get_mapped f (x ∷ xs) (suc i) y at = let r = get_mapped f xs i y at in record { from = r.from; stands = r.stands; same = r.same }
 
 -- a place before one that has an element has one
 pub get_below : {X : Type 0} (xs : List X) (i j : ℕ) (x : X) → slice_get xs i ≡ Some x → j ≤ i → (y : X) × (slice_get xs j ≡ Some y)

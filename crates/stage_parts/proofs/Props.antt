@@ -32,7 +32,8 @@ pipe_fits_prop g dbase seats s = hlevel pipe_props
 
 -- so does each stage's own part, for a type that keeps a stage with its ends and its log
 
-pub app_keeps_prop : (g : Setup) (seat : ℕ) (a : AppState) (log : Log) (taken sent : List Packet) (stream : List ℕ) → IsProp (AppKeeps g seat a log taken sent stream)
+pub app_keeps_prop : (g : Setup) (seat : ℕ) (a : AppState) (log : Log) (taken sent : List Packet) (stream : List ℕ) →
+    IsProp (AppKeeps g seat a log taken sent stream)
 app_keeps_prop g seat a log taken sent stream = hlevel pipe_props
 
 pub cull_part_prop : (lens : Lens) (c : CullState) (taken sent : List Packet) → IsProp (CullPart lens c taken sent)
@@ -41,5 +42,6 @@ cull_part_prop lens c taken sent = hlevel pipe_props
 pub draw_part_prop : (lens : Lens) (back : List ℕ) (d : DrawState) (taken sent : List Packet) → IsProp (DrawPart lens back d taken sent)
 draw_part_prop lens back d taken sent = hlevel pipe_props
 
-pub dbase_keeps_prop : (lines : List BaseLine) (channels seat : ℕ) (d : DbaseState) (log : Log) → IsProp (DbaseKeeps lines channels seat d log)
+pub dbase_keeps_prop : (lines : List BaseLine) (channels seat : ℕ) (d : DbaseState) (log : Log) →
+    IsProp (DbaseKeeps lines channels seat d log)
 dbase_keeps_prop lines channels seat d log = hlevel pipe_props

@@ -1,5 +1,5 @@
 -- Packets and loads with one more at their end.
-use Rattle.std.proofs.Common.{◌≡◌, ◌⊎◌, ℕ, zero, suc, ◌+◌, ◌≤◌, Bool, true, false, ◌||◌, List, [], ◌∷◌, ◌++◌, map, take, length, slice_get, Option, Some, None, refl, sym, ap, ◌∙◌, arith, inl, inr}
+use Rattle.std.proofs.Common.{◌≡◌, ◌⊎◌, ℕ, zero, suc, ◌+◌, ◌≤◌, Bool, true, false, ◌||◌, List, [], ◌∷◌, ◌++◌, length, slice_get, Option, Some, None, refl, sym, ap, ◌∙◌, arith, inl, inr}
 use Rattle.std.proofs.lemmas.List.{append-nil, take_all, take-append-le, length_push}
 use Rattle.std.proofs.lemmas.Option.{same_Some}
 use Rattle.std.specs.List.{fold}
@@ -39,7 +39,8 @@ pub passed_bare : (sent : List Packet) (held : Option Packet) → held ≡ None 
 passed_bare sent held none = ap (passed sent) none ∙ append-nil sent
 
 -- where an element of a list with one more stands
-pub get_push : {X : Type 0} (xs : List X) (x : X) (i : ℕ) (y : X) → slice_get (xs ++ x ∷ []) i ≡ Some y → (slice_get xs i ≡ Some y) ⊎ ((i ≡ length xs) × (x ≡ y))
+pub get_push : {X : Type 0} (xs : List X) (x : X) (i : ℕ) (y : X) → slice_get (xs ++ x ∷ []) i ≡ Some y →
+    (slice_get xs i ≡ Some y) ⊎ ((i ≡ length xs) × (x ≡ y))
 get_push [] x zero y at = inr (refl, same_Some x y at)
 get_push [] x (suc i) y at = absurd (cc)
 get_push (z ∷ xs) x zero y at = inl at
@@ -58,7 +59,8 @@ whole_copy ls = copy_of (updates_in ls)
 pub copy_whole : (ls : List LoadState) → copy_at ls (length ls) ≡ whole_copy ls
 copy_whole ls = ap whole_copy (take_all (length ls) ls (omega arith))
 
-folded_push : (nodes : Nodes) (ls : List LoadState) (l : LoadState) → fold updated_by nodes (updates_in (ls ++ l ∷ [])) ≡ updated_by (fold updated_by nodes (updates_in ls)) l.cut.updates
+folded_push : (nodes : Nodes) (ls : List LoadState) (l : LoadState) →
+    fold updated_by nodes (updates_in (ls ++ l ∷ [])) ≡ updated_by (fold updated_by nodes (updates_in ls)) l.cut.updates
 folded_push nodes [] l = refl
 folded_push nodes (m ∷ ls) l = folded_push (updated_by nodes m.cut.updates) ls l
 
@@ -71,7 +73,8 @@ copy_push ls l = ap (copy_at (ls ++ l ∷ [])) (sym (length_push ls l)) ∙ copy
 pub copy_front : (ls more : List LoadState) (k : ℕ) → k ≤ length ls → copy_at (ls ++ more) k ≡ copy_at ls k
 copy_front ls more k l = ap whole_copy (take-append-le k ls more l)
 
-pub passed_on_push : (nodes : Nodes) (ls : List LoadState) (l : LoadState) → passed_on nodes (ls ++ l ∷ []) ≡ passed_on nodes ls ++ handed_back (fold updated_by nodes (updates_in ls)) l ∷ []
+pub passed_on_push : (nodes : Nodes) (ls : List LoadState) (l : LoadState) →
+    passed_on nodes (ls ++ l ∷ []) ≡ passed_on nodes ls ++ handed_back (fold updated_by nodes (updates_in ls)) l ∷ []
 passed_on_push nodes [] l = refl
 passed_on_push nodes (m ∷ ls) l = ap (λ xs. handed_back nodes m ∷ xs) (passed_on_push (updated_by nodes m.cut.updates) ls l)
 

@@ -1,5 +1,5 @@
 -- How many bytes pictures have.
-use Rattle.std.proofs.Common.{◌≡◌, ℕ, zero, suc, ◌+◌, ◌*◌, ◌<◌, ◌≤◌, ◌==◌, ◌&&◌, Bool, true, false, eqb-true, List, [], ◌∷◌, ◌++◌, take, drop, length, length-append, refl, ap, ◌∙◌, arith, slice_get, Some, subst, sym}
+use Rattle.std.proofs.Common.{◌≡◌, ℕ, zero, suc, ◌+◌, ◌*◌, ◌<◌, ◌≤◌, ◌==◌, ◌&&◌, Bool, true, false, eqb-true, List, [], ◌∷◌, ◌++◌, take, drop, length, length-append, refl, ap, ◌∙◌, arith, subst, sym}
 use Rattle.std.proofs.lemmas.List.{flat_map_more, take_more, drop_more}
 use Rattle.std.proofs.lemmas.Option.{same_Some}
 use Rattle.std.proofs.lemmas.Fmt.{length-decimal-le_succ}
@@ -33,12 +33,15 @@ sized : (lens : Lens) (images : List Pixmap) → Each (IsOfSize lens) images →
 sized lens [] each = let none : ppm_size lens.w lens.h * 0 ≡ 0 = grind arith in sym none
 sized lens (i ∷ images) each =
     let this = each 0 i refl in
-    let one : ppm_size i.width i.height ≡ ppm_size lens.w lens.h = ap (λ w. ppm_size w i.height) this.width ∙ ap (ppm_size lens.w) this.height in
-    let size : ppm_size lens.w lens.h * suc (length images) ≡ ppm_size lens.w lens.h + ppm_size lens.w lens.h * length images = grind arith in
+    let one : ppm_size i.width i.height ≡ ppm_size lens.w lens.h =
+    ap (λ w. ppm_size w i.height) this.width ∙ ap (ppm_size lens.w) this.height in
+    let size : ppm_size lens.w lens.h * suc (length images) ≡ ppm_size lens.w lens.h + ppm_size lens.w lens.h * length images =
+    grind arith in
     ap (λ n. n + bytes_of_all images) one
     ∙ ap (λ n. ppm_size lens.w lens.h + n) (sized lens images (λ k j at. each (suc k) j at)) ∙ sym size
 
-pub bytes_of_images : (lens : Lens) (n : ℕ) (images : List Pixmap) → AreImages lens n images → bytes_of_all images ≡ ppm_size lens.w lens.h * n
+pub bytes_of_images : (lens : Lens) (n : ℕ) (images : List Pixmap) → AreImages lens n images →
+    bytes_of_all images ≡ ppm_size lens.w lens.h * n
 bytes_of_images lens n images are = sized lens images are.sized ∙ ap (λ m. ppm_size lens.w lens.h * m) are.many
 
 -- one more of what each is
@@ -50,7 +53,8 @@ each_push P (z ∷ xs) x each this (suc i) y at = each_push P xs x (λ j w stand
 
 -- A loop that appends pictures
 
-pub appended : (old now new : List ℕ) (images : List Pixmap) (i : ℕ) (image : Pixmap) → i < length images → image ≡ slice_index_or images i image →
+pub appended : (old now new : List ℕ) (images : List Pixmap) (i : ℕ) (image : Pixmap) → i < length images →
+    image ≡ slice_index_or images i image →
     now ≡ old ++ flat_map ppm_bytes (take i images) → new ≡ now ++ ppm_bytes image → new ≡ old ++ flat_map ppm_bytes (take (i + 1) images)
 appended old now new images i image l at before push =
     push ∙ ap (λ xs. xs ++ ppm_bytes image) before ∙ flat_map_more ppm_bytes old (take i images) image
@@ -92,23 +96,29 @@ all_of_size lens [] all i image at = absurd (cc)
 all_of_size lens (x ∷ images) all zero image at =
     let here = both (is_of_size lens x) (list_all (is_of_size lens) images) all in
     let sizes = both (x.width == lens.w) (x.height == lens.h) here.0 in
-    subst (IsOfSize lens) (same_Some x image at) (record { width = eqb-true x.width lens.w sizes.0; height = eqb-true x.height lens.h sizes.1 })
+    subst (IsOfSize lens) (same_Some x image at)
+    (record { width = eqb-true x.width lens.w sizes.0; height = eqb-true x.height lens.h sizes.1 })
 all_of_size lens (x ∷ images) all (suc i) image at =
     all_of_size lens images (both (is_of_size lens x) (list_all (is_of_size lens) images) all).1 i image at
 
 pub images_for : (lens : Lens) (n : ℕ) (l : LoadState) → is_for lens n l ≡ true → AreImages lens n l.images
 images_for lens n l is =
-    let parts = both (length l.images == n) (list_all (is_of_size lens) l.images) (both (length l.lists == n) (length l.images == n && list_all (is_of_size lens) l.images) is).1 in
+    let parts =
+    both (length l.images == n) (list_all (is_of_size lens) l.images)
+    (both (length l.lists == n) (length l.images == n && list_all (is_of_size lens) l.images) is).1 in
     record { many = eqb-true (length l.images) n parts.0; sized = all_of_size lens l.images parts.1 }
 
 -- an image of the same size at a place leaves the bytes
-pub swapped_bytes : (images : List Pixmap) (i : ℕ) (there image new : Pixmap) → there ≡ slice_index_or images i there → have_one_size image there ≡ true → new ≡ image →
+pub swapped_bytes : (images : List Pixmap) (i : ℕ) (there image new : Pixmap) → there ≡ slice_index_or images i there →
+    have_one_size image there ≡ true → new ≡ image →
     bytes_of_all (slice_set images i new) ≡ bytes_of_all images
 swapped_bytes [] i there image new at same is = refl
 swapped_bytes (x ∷ images) zero there image new at same is =
     let sizes = both (image.width == there.width) (image.height == there.height) same in
-    let width : new.width ≡ x.width = ap (λ (p : Pixmap). p.width) is ∙ eqb-true image.width there.width sizes.0 ∙ ap (λ (p : Pixmap). p.width) at in
-    let height : new.height ≡ x.height = ap (λ (p : Pixmap). p.height) is ∙ eqb-true image.height there.height sizes.1 ∙ ap (λ (p : Pixmap). p.height) at in
+    let width : new.width ≡ x.width = ap (λ (p : Pixmap). p.width) is ∙ eqb-true image.width there.width sizes.0
+    ∙ ap (λ (p : Pixmap). p.width) at in
+    let height : new.height ≡ x.height = ap (λ (p : Pixmap). p.height) is ∙ eqb-true image.height there.height sizes.1
+    ∙ ap (λ (p : Pixmap). p.height) at in
     ap (λ w. ppm_size w new.height + bytes_of_all images) width ∙ ap (λ h. ppm_size x.width h + bytes_of_all images) height
 swapped_bytes (x ∷ images) (suc i) there image new at same is =
     ap (λ n. ppm_size x.width x.height + n) (swapped_bytes images i there image new at same is)

@@ -1,5 +1,5 @@
 -- The stream is a front of the pictures of the history.
-use Rattle.std.proofs.Common.{◌≡◌, ℕ, zero, suc, ◌+◌, ◌<◌, ◌≤◌, true, List, [], ◌∷◌, ◌++◌, map, take, length, slice_get, Option, Some, None, refl, sym, ap, ◌∙◌, subst, arith, add-one}
+use Rattle.std.proofs.Common.{◌≡◌, ℕ, zero, suc, ◌+◌, ◌≤◌, true, List, [], ◌∷◌, ◌++◌, map, take, length, slice_get, Option, Some, None, refl, sym, ap, ◌∙◌, subst, arith, add-one}
 use Rattle.std.specs.Prelude.{slice_index_or}
 use Rattle.std.specs.List.{concat, flat_map}
 use Rattle.std.proofs.lemmas.Option.{same_Some}
@@ -13,7 +13,9 @@ use Rattle.pf_model.specs.Limits.{KeepsLimits, IsWithinLimits}
 use Rattle.pf_model.specs.Copies.{copy_of, UpdateList, updated_by}
 use Rattle.pf_model.specs.Totals.{triangle_count}
 use Rattle.pf_model.specs.Walks.{instances}
+use Rattle.draw_list.specs.declared.stats.Stats.{Stats}
 use Rattle.draw_list.specs.Lists.{instances_in}
+use Rattle.draw_list.specs.Shown.{stats_of}
 use Rattle.pf_history.specs.declared.commands.Entry.{Entry}
 use Rattle.update_lists.specs.declared.cuts.Cut.{Cut}
 use Rattle.pf_history.specs.declared.commands.Caller.TheVariants.{App}
@@ -28,14 +30,14 @@ use Rattle.pf_history.proofs.Turns.{seat_law}
 use Rattle.stage_parts.specs.Loads.{LoadState, Each, AreImages, HasRoomFor, IsReady}
 use Rattle.stage_parts.specs.Packets.{loads_in, bytes_in, updates_in, copy_at}
 use Rattle.stage_parts.specs.Frames.{frames_of, cut_of_frame, last_sync}
-use Rattle.stage_parts.specs.Pictures.{drawn, painted, picture_of_state, pictures, streamed}
+use Rattle.stage_parts.specs.Pictures.{drawn, painted, picture_of_state, pictures, streamed, sums, numbers_of_state, frame_numbers}
 use Rattle.stage_parts.specs.States.{Setup, Seats, PipeState}
-use Rattle.stage_parts.specs.Parts.{passed, cut_short, Carried, carried, handed_back, passed_on, CanCull, IsCulled, kept}
+use Rattle.stage_parts.specs.Parts.{passed, cut_short, Carried, carried, handed_back, passed_on, CanCull, IsCulled, Kept, kept}
 use Rattle.stage_parts.specs.Pipes.{PipeFits}
-use Rattle.stage_parts.specs.Laws.{CullingKeepsPictures, HasEditsInRange, HasPictures, StreamLaw}
-use Rattle.stage_parts.proofs.Places.{front_of, get_map, get_match, get_below, get_length, map_take, take_front, map_map, each_all}
+use Rattle.stage_parts.specs.Laws.{CullingKeepsPictures, HasEditsInRange, StreamLaw}
+use Rattle.stage_parts.proofs.Places.{front_of, get_map, get_match, get_mapped, get_below, get_length, map_take, take_front, map_map, each_all}
 use Rattle.stage_parts.proofs.Sent.{sent_load, no_end_taken, all_loads, many_loads}
-use Rattle.stage_parts.proofs.Founds.{IsFound, frames_are_all, frames_found}
+use Rattle.stage_parts.proofs.Founds.{frames_are_all, frames_found}
 use Rattle.stage_parts.proofs.Retiring.{retired_is_last_sync}
 use Rattle.stage_parts.proofs.Shown.{painted_culled}
 
@@ -62,7 +64,8 @@ loads_of_cuts channels log sent taken cuts stand =
     }
 
 -- each copy of a history's cuts is within the limits, up to one that a Frame found
-copies_keep_limits : (channels : ℕ) (log : Log) → HasEditsInRange log → (i : ℕ) (x : FrameState) → slice_get (found_by_frames channels log) i ≡ Some x →
+copies_keep_limits : (channels : ℕ) (log : Log) → HasEditsInRange log → (i : ℕ) (x : FrameState) →
+    slice_get (found_by_frames channels log) i ≡ Some x →
     (k : ℕ) → k ≤ i + 1 → KeepsLimits (node_at (copy_after channels log k))
 copies_keep_limits channels log fit i x at zero l = (limits_law channels [] tt).within.limits
 copies_keep_limits channels log fit i x at (suc j) l =
@@ -73,7 +76,8 @@ copies_keep_limits channels log fit i x at (suc j) l =
 
 -- the copy that was received for a Frame has the nodes that the Frame found
 copied_at : (channels : ℕ) (log : Log) (loads : List LoadState) → AreOfCuts channels log loads → (i : ℕ) (l : LoadState) (c : Cutting) →
-    slice_get loads i ≡ Some l → slice_get (cuttings [] (opening_state channels) log) i ≡ Some c → copy_at loads (i + 1) ≡ c.found.graph.nodes
+    slice_get loads i ≡ Some l → slice_get (cuttings [] (opening_state channels) log) i ≡ Some c →
+    copy_at loads (i + 1) ≡ c.found.graph.nodes
 copied_at channels log loads of_cuts i l c at framed =
     let long = get_length loads i l at in
     of_cuts.cuts (i + 1) (omega (arith, long))
@@ -116,9 +120,11 @@ frames_many : (g : Setup) (dbase : List BaseLine) (seats : Seats) (s : PipeState
 frames_many g dbase seats s fits =
     let frames = cuttings [] (opening_state g.channels) s.log in
     fits.app.frames ∙ ap length (all_frames g dbase seats s fits)
-    ∙ sym (length-map (map (λ (c : Cutting). c.found) frames) (picture_of_state g.lens g.back) ∙ length-map frames (λ (c : Cutting). c.found))
+    ∙ sym (length-map (map (λ (c : Cutting). c.found) frames) (picture_of_state g.lens g.back)
+    ∙ length-map frames (λ (c : Cutting). c.found))
 
-frames_begun : (g : Setup) (dbase : List BaseLine) (seats : Seats) (s : PipeState) → PipeFits g dbase seats s → s.app.frames ≡ (state_of g.channels s.log).frames
+frames_begun : (g : Setup) (dbase : List BaseLine) (seats : Seats) (s : PipeState) → PipeFits g dbase seats s →
+    s.app.frames ≡ (state_of g.channels s.log).frames
 frames_begun g dbase seats s fits =
     let frames = cuttings [] (opening_state g.channels) s.log in
     fits.app.frames ∙ ap length (all_frames g dbase seats s fits) ∙ sym (length-map frames cut_at) ∙ (cuts_law g.channels s.log).many
@@ -133,6 +139,10 @@ last_is_retired g dbase seats s fits =
 abbrev channels_shown : Setup → Look → ℕ → List Viewpoint → List ℕ
 channels_shown g look time views = flat_map (λ v. drawn g.lens g.back (instances look time v)) views
 
+-- the numbers of channels
+abbrev channels_counted : Setup → Look → ℕ → List Viewpoint → Stats
+channels_counted g look time views = sums (map (λ v. stats_of look time v g.lens) views)
+
 -- What CULL passed on at a place, and the load that it received there.
 record Handed (ls : List LoadState) (i : ℕ) (x : LoadState) : Type 0 where
   pub was : LoadState
@@ -140,7 +150,8 @@ record Handed (ls : List LoadState) (i : ℕ) (x : LoadState) : Type 0 where
   pub stands : slice_get ls i ≡ Some was
   pub alike : carried x ≡ handed_back nodes was
 
-get_handed : (nodes : Nodes) (xs ls : List LoadState) → map carried xs ≡ passed_on nodes ls → (i : ℕ) (x : LoadState) → slice_get xs i ≡ Some x → Handed ls i x
+get_handed : (nodes : Nodes) (xs ls : List LoadState) → map carried xs ≡ passed_on nodes ls → (i : ℕ) (x : LoadState) →
+    slice_get xs i ≡ Some x → Handed ls i x
 get_handed nodes [] ls e i x at = absurd (cc)
 get_handed nodes (y ∷ xs) [] e i x at = absurd (cc)
 get_handed nodes (y ∷ xs) (l ∷ ls) e zero x at =
@@ -161,6 +172,7 @@ record CameFrom (g : Setup) (s : PipeState) (i : ℕ) (l : LoadState) : Type 0 w
   pub made : LoadState
   pub culled : IsCulled g.lens (node_at (copy_at (loads_in s.a.taken) (i + 1))) sent.cut made
   pub images : AreImages g.lens (length sent.cut.views) made.images
+  pub numbers : l.stats ≡ made.stats
   pub drawn : AreImages g.lens (length made.lists) made.images → l.bytes ≡ painted g.lens g.back made.lists
 
 came_from : (g : Setup) (dbase : List BaseLine) (seats : Seats) (s : PipeState) → PipeFits g dbase seats s → HasEditsInRange s.log →
@@ -172,7 +184,8 @@ came_from g dbase seats s fits fit i l at =
     let q = sent_load s.b.sent s.b.taken s.cull.held fits.link_b i d.other d.stands in
     let w = get_handed empty_scene.nodes (loads_in (passed s.b.sent s.cull.held)) (loads_in s.a.taken) fits.cull.loads i d.other q in
     let r = sent_load s.a.sent s.a.taken s.app.held fits.link_a i w.was w.stands in
-    let f = get_match (λ (x : LoadState). x.cut) cut_of_frame (loads_in (passed s.a.sent s.app.held)) (frames_of g.channels seats.app log) fits.app.cuts i w.was r in
+    let f = get_match (λ (x : LoadState). x.cut) cut_of_frame (loads_in (passed s.a.sent s.app.held))
+    (frames_of g.channels seats.app log) fits.app.cuts i w.was r in
     let all = all_frames g dbase seats s fits in
     let framed = subst (λ (cs : List Cutting). slice_get cs i ≡ Some f.other) all f.stands in
     let ready = fits.app.ready i w.was r in
@@ -187,7 +200,9 @@ came_from g dbase seats s fits fit i l at =
       copied = copied_at g.channels log (loads_in s.a.taken) of_cuts i w.was f.other w.stands framed;
       made = d.other;
       culled = fits.cull.culled i w.was d.other w.stands q can;
-      images = subst (λ (images : List Pixmap). AreImages g.lens (length w.was.cut.views) images) (sym (ap (λ (k : Carried). k.images) w.alike)) ready.images;
+      images = subst (λ (images : List Pixmap). AreImages g.lens (length w.was.cut.views) images)
+          (sym (ap (λ (k : Carried). k.images) w.alike)) ready.images;
+      numbers = ap (λ (k : Kept). k.stats) d.alike;
       drawn = fits.draw.painted i d.other l d.stands m;
     }
 
@@ -201,13 +216,29 @@ shows culling g s i l fit c =
     let many : length c.made.lists ≡ length c.sent.cut.views =
     sym (length-map c.made.lists instances_in) ∙ ap length c.culled.lists ∙ length-map c.sent.cut.views _ in
     let images = subst (λ (n : ℕ). AreImages g.lens n c.made.images) (sym many) c.images in
-    let walked = painted_culled culling g.lens g.back (node_at (copy_at (loads_in s.a.taken) (i + 1))) c.sent.cut.frame c.sent.cut.views c.made.lists c.culled.lists in
+    let walked =
+    painted_culled culling g.lens g.back
+    (node_at (copy_at (loads_in s.a.taken) (i + 1))) c.sent.cut.frame c.sent.cut.views c.made.lists c.culled.lists in
     let shown : l.bytes ≡ picture_of_state g.lens g.back x =
     c.drawn images ∙ walked
     ∙ ap (λ (n : Nodes). channels_shown g (node_at n) c.sent.cut.frame c.sent.cut.views) c.copied
     ∙ ap (λ (d : Cut). channels_shown g (node_at x.graph.nodes) d.frame d.views) c.cut
     ∙ ap (λ (t : ℕ). channels_shown g (node_at x.graph.nodes) t x.views) (sym is.time) in
     get_map (picture_of_state g.lens g.back) (found_by_frames g.channels s.log) i x found ∙ ap Some (sym shown)
+
+-- and its numbers are those of that state
+counts : (g : Setup) (s : PipeState) (i : ℕ) (l : LoadState) → HasEditsInRange s.log → CameFrom g s i l →
+    slice_get (frame_numbers g.channels g.lens s.log) i ≡ Some l.stats
+counts g s i l fit c =
+    let x = c.frame.found in
+    let found = get_map (λ (d : Cutting). d.found) (cuttings [] (opening_state g.channels) s.log) i c.frame c.framed in
+    let is = frames_found g.channels s.log fit i x found in
+    let counted : l.stats ≡ numbers_of_state g.lens x =
+    c.numbers ∙ c.culled.stats
+    ∙ ap (λ (n : Nodes). channels_counted g (node_at n) c.sent.cut.frame c.sent.cut.views) c.copied
+    ∙ ap (λ (d : Cut). channels_counted g (node_at x.graph.nodes) d.frame d.views) c.cut
+    ∙ ap (λ (t : ℕ). channels_counted g (node_at x.graph.nodes) t x.views) (sym is.time) in
+    get_map (numbers_of_state g.lens) (found_by_frames g.channels s.log) i x found ∙ ap Some (sym counted)
 
 -- The stream
 
@@ -218,29 +249,21 @@ at_front zero (suc n) (x ∷ shown) l = refl
 at_front (suc b) (suc n) (x ∷ shown) l = at_front b n shown (omega arith)
 
 -- what is streamed of a front is what is streamed of the whole
-streamed_front : (b n : ℕ) (fault : Option ℕ) (shown : List (List ℕ)) → b + cut_short fault ≡ n → streamed b fault (take n shown) ≡ streamed b fault shown
+streamed_front : (b n : ℕ) (fault : Option ℕ) (shown : List (List ℕ)) → b + cut_short fault ≡ n →
+    streamed b fault (take n shown) ≡ streamed b fault shown
 streamed_front b n None shown e = ap (λ (x : List (List ℕ)). concat x ++ []) (take_front b n shown (omega (arith, e)))
 streamed_front b n (Some k) shown e =
     ap (λ (x : List (List ℕ)). concat x ++ take k (slice_index_or (take n shown) b [])) (take_front b n shown (omega (arith, e)))
     ∙ ap (λ (x : List ℕ). concat (take b shown) ++ take k x) (at_front b n shown (omega (arith, e)))
 
 -- where all are written, no fault cut one short
-all_streamed : (b n : ℕ) (fault : Option ℕ) (shown : List (List ℕ)) → b + cut_short fault ≤ n → b ≡ n → length shown ≤ n → streamed b fault shown ≡ concat shown
+all_streamed : (b n : ℕ) (fault : Option ℕ) (shown : List (List ℕ)) → b + cut_short fault ≤ n → b ≡ n → length shown ≤ n →
+    streamed b fault shown ≡ concat shown
 all_streamed b n None shown l e m = append-nil (concat (take b shown)) ∙ ap concat (take_all b shown (omega (arith, e, m)))
 all_streamed b n (Some k) shown l e m = absurd (omega (arith, l, e))
 
--- A load with these bytes.
-record HasBytes (loads : List LoadState) (i : ℕ) (x : List ℕ) : Type 0 where
-  pub load : LoadState
-  pub stands : slice_get loads i ≡ Some load
-  pub same : load.bytes ≡ x
-
-get_bytes : (loads : List LoadState) (i : ℕ) (x : List ℕ) → slice_get (map (λ l. l.bytes) loads) i ≡ Some x → HasBytes loads i x
-get_bytes [] i x at = absurd (cc)
-get_bytes (l ∷ loads) zero x at = record { load = l; stands = refl; same = same_Some l.bytes x at }
-get_bytes (l ∷ loads) (suc i) x at = let r = get_bytes loads i x at in record { load = r.load; stands = r.stands; same = r.same }
-
-stream_is : CullingKeepsPictures → (g : Setup) (dbase : List BaseLine) (seats : Seats) (s : PipeState) → PipeFits g dbase seats s → HasEditsInRange s.log →
+stream_is : CullingKeepsPictures → (g : Setup) (dbase : List BaseLine) (seats : Seats) (s : PipeState) → PipeFits g dbase seats s →
+    HasEditsInRange s.log →
     s.stream ≡ streamed s.app.written s.app.fault (pictures g.channels g.lens g.back s.log)
 stream_is culling g dbase seats s fits fit =
     let none = no_end_taken s.c.sent s.c.taken s.draw.held fits.link_c fits.draw.ends in
@@ -249,13 +272,27 @@ stream_is culling g dbase seats s fits fit =
     let front : map (λ (l : LoadState). l.bytes) loads ≡ take (length (map (λ (l : LoadState). l.bytes) loads)) shown =
     front_of (map (λ (l : LoadState). l.bytes) loads) shown
     (λ i x at.
-    let l = get_bytes loads i x at in
-    shows culling g s i l.load fit (came_from g dbase seats s fits fit i l.load l.stands) ∙ ap Some l.same) in
+    let l = get_mapped (λ (l : LoadState). l.bytes) loads i x at in
+    shows culling g s i l.from fit (came_from g dbase seats s fits fit i l.from l.stands) ∙ ap Some l.same) in
     let many : length (map (λ (l : LoadState). l.bytes) loads) ≡ length s.c.taken = length-map loads _ ∙ many_loads s.c.taken none in
     let received : map bytes_in s.c.taken ≡ take (length s.c.taken) shown =
     all_loads s.c.taken none ∙ front ∙ ap (λ (n : ℕ). take n shown) many in
     fits.stream.bytes ∙ ap (streamed s.app.written s.app.fault) received
     ∙ streamed_front s.app.written (length s.c.taken) s.app.fault shown fits.stream.all
+
+numbers_are : (g : Setup) (dbase : List BaseLine) (seats : Seats) (s : PipeState) → PipeFits g dbase seats s → HasEditsInRange s.log →
+    s.app.stats ≡ take (length s.c.taken) (frame_numbers g.channels g.lens s.log)
+numbers_are g dbase seats s fits fit =
+    let none = no_end_taken s.c.sent s.c.taken s.draw.held fits.link_c fits.draw.ends in
+    let loads = loads_in s.c.taken in
+    let counted = map (λ (l : LoadState). l.stats) loads in
+    let front : counted ≡ take (length counted) (frame_numbers g.channels g.lens s.log) =
+    front_of counted (frame_numbers g.channels g.lens s.log)
+    (λ i x at.
+    let l = get_mapped (λ (l : LoadState). l.stats) loads i x at in
+    counts g s i l.from fit (came_from g dbase seats s fits fit i l.from l.stands) ∙ ap Some l.same) in
+    let many : length counted ≡ length s.c.taken = length-map loads _ ∙ many_loads s.c.taken none in
+    fits.stream.numbers ∙ front ∙ ap (λ (n : ℕ). take n (frame_numbers g.channels g.lens s.log)) many
 
 pub stream_law : StreamLaw
 stream_law culling g dbase seats s fits fit =
@@ -263,10 +300,19 @@ stream_law culling g dbase seats s fits fit =
     let begun = frames_begun g dbase seats s fits in
     let shown = pictures g.channels g.lens g.back s.log in
     let many : length shown ≡ s.app.frames = sym (frames_many g dbase seats s fits) in
+    let found = found_by_frames g.channels s.log in
+    let long : length (frame_numbers g.channels g.lens s.log) ≡ s.app.frames =
+    length-map found (numbers_of_state g.lens) ∙ sym (length-map found (picture_of_state g.lens g.back)) ∙ many in
+    let counted = numbers_are g dbase seats s fits fit in
     record {
       front = front;
       written = omega (arith, begun, fits.stream.all, fits.stream.begun);
       retired = subst (λ (r : ℕ). r ≤ s.app.written) (last_is_retired g dbase seats s fits) fits.stream.retired;
       whole = λ closed.
-          front ∙ all_streamed s.app.written s.app.frames s.app.fault shown (omega (arith, fits.stream.all, fits.stream.begun)) (fits.app.late closed) (omega (arith, many));
+          front ∙ all_streamed s.app.written s.app.frames s.app.fault shown (omega (arith, fits.stream.all, fits.stream.begun))
+          (fits.app.late closed) (omega (arith, many));
+      numbers = counted;
+      all_numbers = λ closed.
+          let late = fits.app.late closed in
+          counted ∙ take_all (length s.c.taken) (frame_numbers g.channels g.lens s.log) (omega (arith, late, long, fits.stream.all));
     }

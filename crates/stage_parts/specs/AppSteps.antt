@@ -1,5 +1,5 @@
 -- How the application's part goes on.
-use Rattle.std.specs.Prelude.{◌≡◌, ℕ, suc, ◌+◌, ◌<◌, ◌≤◌, true, false, ◌||◌, List, [], ◌∷◌, ◌++◌, length, take, Some, None}
+use Rattle.std.specs.Prelude.{◌≡◌, ℕ, suc, ◌+◌, ◌<◌, ◌≤◌, true, false, ◌||◌, List, [], ◌∷◌, ◌++◌, map, length, take, Some, None}
 use Rattle.std.specs.List.{AllByRecursion}
 use Rattle.draw_list.specs.declared.stats.Stats.{Stats}
 use Rattle.pf_history.specs.declared.commands.Caller.TheVariants.{App}
@@ -60,11 +60,11 @@ pub record AppGoesOn (g : Setup) (seat : ℕ) (a : AppState) (log : Log) (taken 
       AppKeeps g seat (record a { closed = true; held = Some End }) (log ++ e ∷ []) taken sent stream
   -- as it takes a packet back, while a frame is away, and writes its picture
   pub writes : (p : Packet) (spare : List LoadState) (stats : List Stats) → a.fault ≡ None → length taken < a.frames →
-      length spare ≡ length a.spare + length (loads_in (p ∷ [])) →
+      length spare ≡ length a.spare + length (loads_in (p ∷ [])) → stats ≡ a.stats ++ map (λ l. l.stats) (loads_in (p ∷ [])) →
       AppKeeps g seat (record a { written = a.written + 1; spare = spare; stats = stats }) log (taken ++ p ∷ []) sent (stream ++ bytes_in p)
   -- or so many bytes of it before a fault
   pub fails : (p : Packet) (n : ℕ) (spare : List LoadState) (stats : List Stats) → a.fault ≡ None → length taken < a.frames →
-      length spare ≡ length a.spare + length (loads_in (p ∷ [])) →
+      length spare ≡ length a.spare + length (loads_in (p ∷ [])) → stats ≡ a.stats ++ map (λ l. l.stats) (loads_in (p ∷ [])) →
       AppKeeps g seat (record a { fault = Some n; spare = spare; stats = stats }) log (taken ++ p ∷ []) sent (stream ++ take n (bytes_in p))
 
 abbrev pub AppLaw : Type 0

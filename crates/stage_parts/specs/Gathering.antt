@@ -1,8 +1,8 @@
 -- The pipe invariant and what the stages keep.
-use Rattle.std.specs.Prelude.{◌≡◌, ℕ, ◌+◌, ◌<◌, true, List, [], length, Some, None}
+use Rattle.std.specs.Prelude.{◌≡◌, ◌+◌, ◌<◌, true, List, [], length, Some, None}
 use Rattle.pf_model.specs.declared.lines.BaseLine.{BaseLine}
 use Rattle.pf_history.specs.declared.commands.Caller.TheVariants.{App, Dbase}
-use Rattle.pf_history.specs.Logs.{Log, IsLegal, is_by}
+use Rattle.pf_history.specs.Logs.{IsLegal, is_by}
 use Rattle.pf_history.specs.Asks.{asked_dbase}
 use Rattle.pf_history.specs.Fits.{FitsPlay, FitsWholly}
 use Rattle.stage_parts.specs.declared.packets.Packet.{Packet}

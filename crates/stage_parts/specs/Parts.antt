@@ -1,5 +1,5 @@
 -- What each stage keeps, of what it received itself and of the log that its own turns found.
-use Rattle.std.specs.Prelude.{◌≡◌, ℕ, ◌+◌, ◌<◌, ◌≤◌, Bool, true, false, if◌then◌else◌, List, [], ◌∷◌, ◌++◌, map, sum, length, slice_get, Option, Some, None}
+use Rattle.std.specs.Prelude.{◌≡◌, ℕ, ◌+◌, ◌<◌, ◌≤◌, Bool, true, false, if◌then◌else◌, List, [], ◌∷◌, ◌++◌, map, length, slice_get, Option, Some}
 use Rattle.std.specs.Option.{option_map_or, option_to_list}
 use Rattle.fx_math.specs.declared.lenses.Lens.{Lens}
 use Rattle.ppm_out.specs.Pixmap.{Pixmap}
@@ -22,7 +22,7 @@ use Rattle.stage_parts.specs.declared.packets.Packet.{Packet}
 use Rattle.stage_parts.specs.Loads.{LoadState, Each, AreImages, HasRoomFor, IsReady}
 use Rattle.stage_parts.specs.Packets.{is_end, has_end, loads_in, bytes_in, copy_at}
 use Rattle.stage_parts.specs.Frames.{frames_of, cut_of_frame, last_sync}
-use Rattle.stage_parts.specs.Pictures.{painted, streamed}
+use Rattle.stage_parts.specs.Pictures.{painted, streamed, sums}
 use Rattle.stage_parts.specs.States.{Setup, AppState, CullState, DrawState, DbaseState, still_asked, still_asked_dbase, in_buffer}
 
 -- what a stage sent and holds to send
@@ -56,13 +56,14 @@ cut_short fault = option_map_or (λ _. 1) fault 0
 
 -- The stream is the pictures received that were wholly written, and what went out of the next one before a fault. No
 -- more frames are retired than were wholly written, no more written than begun, and no more are undelivered than may be
--- in flight.
+-- in flight. The numbers of the frames that came back are kept in order.
 pub record StreamPart (g : Setup) (seat : ℕ) (a : AppState) (log : Log) (taken : List Packet) (stream : List ℕ) : Type 0 where
   pub bytes : stream ≡ streamed a.written a.fault (map bytes_in taken)
   pub all : a.written + cut_short a.fault ≡ length taken
   pub retired : last_sync (turns_at g.channels seat App log) ≤ a.written
   pub begun : length taken ≤ a.frames
   pub in_flight : a.frames ≤ a.written + g.ahead
+  pub numbers : a.stats ≡ map (λ l. l.stats) (loads_in taken)
 
 -- the loads in APP's hand and away are as many as frames may be in flight
 pub record LoadPart (g : Setup) (a : AppState) (taken : List Packet) : Type 0 where
@@ -101,15 +102,6 @@ passed_on nodes (l ∷ ls) = handed_back nodes l ∷ passed_on (updated_by nodes
 -- an instance as a draw list knows it, without its id
 abbrev pub nameless : Instance → Instance
 nameless x = record x { id = 0 }
-
--- the numbers of the channels, added
-abbrev pub sums : List Stats → Stats
-sums ss =
-    record {
-      shown = sum (map (λ s. s.shown) ss);
-      states = sum (map (λ s. s.states) ss);
-      visited = sum (map (λ s. s.visited) ss);
-    }
 
 -- The cull of the load that was received at a place can be exact: up to it the copies are within the limits, and it has
 -- for each view a list with room for the copy.

@@ -1,5 +1,5 @@
 -- The pipe invariant: how the history, the stages, the links and the stream of a pipe belong together.
-use Rattle.std.specs.Prelude.{◌≡◌, ℕ, true, List, length}
+use Rattle.std.specs.Prelude.{◌≡◌, true, List, length}
 use Rattle.pf_model.specs.declared.lines.BaseLine.{BaseLine}
 use Rattle.pf_history.specs.declared.commands.Caller.TheVariants.{App, Dbase}
 use Rattle.pf_history.specs.Logs.{Log, IsLegal, is_by}

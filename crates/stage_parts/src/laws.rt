@@ -1,5 +1,5 @@
 //! Laws of the pipe invariant, each the contract of a call that does nothing.
-ghost use Rattle.stage_parts.specs.Laws.{StreamLaw};
+ghost use Rattle.stage_parts.specs.Laws.{StreamLaw, PaintedLaw};
 ghost use Rattle.stage_parts.specs.Steps.{CullLaw, DrawLaw, SeatFramesLaw};
 ghost use Rattle.stage_parts.specs.AppSteps.{AppLaw};
 ghost use Rattle.stage_parts.specs.DbaseSteps.{DbaseLaw, LinesLaw, OpeningLaw};
@@ -11,6 +11,11 @@ ghost use Rattle.stage_parts.specs.Moves.{MovesLaw};
 /// application has closed, the stream is all pictures.
 pub fn stream_is_a_front_of_the_pictures()
     ensures { StreamLaw }
+{}
+
+/// Images of the lens's size that show the pictures of draw lists have as their bytes what is painted of the lists.
+pub fn shown_images_are_painted()
+    ensures { PaintedLaw }
 {}
 
 /// CULL's part goes on: as it takes a load and holds what it makes of it, as it takes the End and holds it, and as it

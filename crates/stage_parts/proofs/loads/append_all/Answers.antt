@@ -13,11 +13,13 @@ loop-image-preserved c =
     let within : i < length images = search rules in
     let left = bytes_left images i image within c.image-item.is in
     let long : length new.items ≡ length old.items + ppm_size image.width image.height =
-    ap length c.append_ppm_reserved.ensures.exact ∙ length-append old.items (ppm_bytes image) ∙ ap (λ n. length old.items + n) (ppm_length image) in
+    ap length c.append_ppm_reserved.ensures.exact ∙ length-append old.items (ppm_bytes image)
+    ∙ ap (λ n. length old.items + n) (ppm_length image) in
     let counted : vec_len new ≡ length new.items = search rules in
     let counted_old : vec_len old ≡ length old.items = search rules in
     record {
-      items = appended c.args.out.now.items old.items new.items images i image within c.image-item.is c.loop-image.invariant.items c.append_ppm_reserved.ensures.exact;
+      items = appended c.args.out.now.items old.items new.items images i image within c.image-item.is c.loop-image.invariant.items
+          c.append_ppm_reserved.ensures.exact;
       room = omega (arith, c.loop-image.invariant.room, left, long, counted, counted_old, c.append_ppm_reserved.ensures.room);
       capacity = omega (arith, c.loop-image.invariant.capacity, c.append_ppm_reserved.ensures.room);
     }

@@ -7,7 +7,9 @@ pub overflow_mul-size : goal.overflow_mul-size
 overflow_mul-size c =
     let lens = c.args.lens.now in
     let size = most_size lens.w lens.h lens.in_range.most_width lens.in_range.most_height in
-    let most = mul_most c.ppm_len.result c.args.channels 4000000 255 (omega (arith, size, c.ppm_len.ensures.exact)) (omega (arith, c.ranges.channels.fits)) in
+    let most =
+    mul_most c.ppm_len.result c.args.channels 4000000 255 (omega (arith, size, c.ppm_len.ensures.exact))
+    (omega (arith, c.ranges.channels.fits)) in
     omega (arith, most)
 
 pub returns-clause-room : goal.returns-clause-room
