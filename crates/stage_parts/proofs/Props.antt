@@ -13,6 +13,7 @@ use Rattle.stage_parts.specs.declared.packets.Packet.{Packet}
 use Rattle.stage_parts.specs.States.{Setup, Seats, PipeState, AppState, CullState, DrawState, DbaseState}
 use Rattle.stage_parts.specs.Parts.{AppKeeps, CullPart, DrawPart, DbaseKeeps}
 use Rattle.stage_parts.specs.Pipes.{PipeFits}
+use Rattle.stage_parts.specs.Laws.{FactsLaw}
 
 can_make_prop : (s : FrameState) (c : Command) → IsProp (CanMake s c)
 can_make_prop s (command.Edit e) = hlevel props
@@ -45,3 +46,13 @@ draw_part_prop lens back d taken sent = hlevel pipe_props
 pub dbase_keeps_prop : (lines : List BaseLine) (channels seat : ℕ) (d : DbaseState) (log : Log) →
     IsProp (DbaseKeeps lines channels seat d log)
 dbase_keeps_prop lines channels seat d log = hlevel pipe_props
+
+pub facts_law : FactsLaw
+facts_law g dbase seats s =
+    record {
+      fits = pipe_fits_prop g dbase seats s;
+      app = app_keeps_prop g seats.app s.app s.log s.c.taken s.a.sent s.stream;
+      cull = cull_part_prop g.lens s.cull s.a.taken s.b.sent;
+      draw = draw_part_prop g.lens g.back s.draw s.b.taken s.c.sent;
+      base = dbase_keeps_prop dbase g.channels seats.dbase s.dbase s.log;
+    }

@@ -17,6 +17,7 @@ use Rattle.pf_history.specs.Logs.{Log, state_of}
 use Rattle.stage_parts.specs.Loads.{IsOfSize}
 use Rattle.stage_parts.specs.Pictures.{painted, pictures, streamed, frame_numbers}
 use Rattle.stage_parts.specs.States.{Setup, Seats, PipeState}
+use Rattle.stage_parts.specs.Parts.{AppKeeps, CullPart, DrawPart, DbaseKeeps}
 use Rattle.stage_parts.specs.Pipes.{PipeFits}
 
 -- through each lens the picture of a draw list is that of the whole walk
@@ -56,3 +57,14 @@ abbrev pub StreamLaw : Type 0
 StreamLaw =
     CullingKeepsPictures → (g : Setup) (dbase : List BaseLine) (seats : Seats) (s : PipeState) →
     PipeFits g dbase seats s → HasEditsInRange s.log → HasPictures g s
+
+-- any two proofs that a pipe fits, or that a stage keeps its part, are equal
+pub record AreFacts (g : Setup) (dbase : List BaseLine) (seats : Seats) (s : PipeState) : Type 0 where
+  pub fits : IsProp (PipeFits g dbase seats s)
+  pub app : IsProp (AppKeeps g seats.app s.app s.log s.c.taken s.a.sent s.stream)
+  pub cull : IsProp (CullPart g.lens s.cull s.a.taken s.b.sent)
+  pub draw : IsProp (DrawPart g.lens g.back s.draw s.b.taken s.c.sent)
+  pub base : IsProp (DbaseKeeps dbase g.channels seats.dbase s.dbase s.log)
+
+abbrev pub FactsLaw : Type 0
+FactsLaw = (g : Setup) (dbase : List BaseLine) (seats : Seats) (s : PipeState) → AreFacts g dbase seats s

@@ -1,5 +1,5 @@
 //! Laws of the pipe invariant, each the contract of a call that does nothing.
-ghost use Rattle.stage_parts.specs.Laws.{StreamLaw, PaintedLaw};
+ghost use Rattle.stage_parts.specs.Laws.{StreamLaw, PaintedLaw, FactsLaw};
 ghost use Rattle.stage_parts.specs.Steps.{CullLaw, DrawLaw, SeatFramesLaw};
 ghost use Rattle.stage_parts.specs.AppSteps.{AppLaw};
 ghost use Rattle.stage_parts.specs.DbaseSteps.{DbaseLaw, LinesLaw, OpeningLaw};
@@ -73,4 +73,9 @@ pub fn the_opening_fits()
 /// times besides.
 pub fn moves_are_few()
     ensures { MovesLaw }
+{}
+
+/// Any two proofs that a pipe fits, or that a stage keeps its part, are equal, so that a type may keep one.
+pub fn parts_are_facts()
+    ensures { FactsLaw }
 {}
