@@ -17,6 +17,7 @@ use Rattle.stage_parts.specs.Pipes.{PipeFits}
 use Rattle.stage_parts.specs.Gathering.{LinksHaveRoom, EndsFollow, IsDrained, AllCameBack, CountingLaw}
 use Rattle.stage_parts.proofs.Places.{front_of}
 use Rattle.stage_parts.proofs.Sent.{sent_load, many_loads}
+use Rattle.stage_parts.proofs.Streams.{frames_begun, last_is_retired}
 use Rattle.stage_parts.proofs.Pushes.{passed_bare, passed_on_length}
 
 -- Numbers of packets
@@ -207,4 +208,11 @@ all_back g dbase seats s fits is =
 
 pub counting_law : CountingLaw
 counting_law g dbase seats s fits =
-    record { room = rooms g dbase seats s fits; ends = ends_follow g dbase seats s fits; drained = all_back g dbase seats s fits }
+    record {
+      state =
+          record { frames = sym (frames_begun g dbase seats s fits); retired = sym (last_is_retired g dbase seats s fits) };
+      room =
+          rooms g dbase seats s fits;
+      ends = ends_follow g dbase seats s fits;
+      drained = all_back g dbase seats s fits;
+    }

@@ -123,13 +123,13 @@ frames_many g dbase seats s fits =
     ∙ sym (length-map (map (λ (c : Cutting). c.found) frames) (picture_of_state g.lens g.back)
     ∙ length-map frames (λ (c : Cutting). c.found))
 
-frames_begun : (g : Setup) (dbase : List BaseLine) (seats : Seats) (s : PipeState) → PipeFits g dbase seats s →
+pub frames_begun : (g : Setup) (dbase : List BaseLine) (seats : Seats) (s : PipeState) → PipeFits g dbase seats s →
     s.app.frames ≡ (state_of g.channels s.log).frames
 frames_begun g dbase seats s fits =
     let frames = cuttings [] (opening_state g.channels) s.log in
     fits.app.frames ∙ ap length (all_frames g dbase seats s fits) ∙ sym (length-map frames cut_at) ∙ (cuts_law g.channels s.log).many
 
-last_is_retired : (g : Setup) (dbase : List BaseLine) (seats : Seats) (s : PipeState) → PipeFits g dbase seats s →
+pub last_is_retired : (g : Setup) (dbase : List BaseLine) (seats : Seats) (s : PipeState) → PipeFits g dbase seats s →
     last_sync (turns_at g.channels seats.app App s.log) ≡ (state_of g.channels s.log).retired
 last_is_retired g dbase seats s fits =
     let only = each_all (λ (e : ℕ × Entry). is_by App e ≡ true → e.0 ≡ seats.app) s.log fits.history.app_entries in

@@ -2,12 +2,13 @@
 use Rattle.std.specs.Prelude.{◌≡◌, ◌+◌, ◌<◌, true, List, [], length, Some, None}
 use Rattle.pf_model.specs.declared.lines.BaseLine.{BaseLine}
 use Rattle.pf_history.specs.declared.commands.Caller.TheVariants.{App, Dbase}
-use Rattle.pf_history.specs.Logs.{IsLegal, is_by}
+use Rattle.pf_history.specs.Logs.{IsLegal, is_by, state_of}
 use Rattle.pf_history.specs.Asks.{asked_dbase}
-use Rattle.pf_history.specs.Fits.{FitsPlay, FitsWholly}
+use Rattle.pf_history.specs.Fits.{turns_at, FitsPlay, FitsWholly}
 use Rattle.stage_parts.specs.declared.packets.Packet.{Packet}
 use Rattle.stage_parts.specs.Loads.{Each}
 use Rattle.stage_parts.specs.Packets.{LinkPart}
+use Rattle.stage_parts.specs.Frames.{last_sync}
 use Rattle.stage_parts.specs.States.{Setup, Seats, PipeState, still_asked, still_asked_dbase}
 use Rattle.stage_parts.specs.Parts.{AppKeeps, CullPart, DrawPart, DbaseKeeps}
 use Rattle.stage_parts.specs.Pipes.{PipeFits}
@@ -68,8 +69,14 @@ pub record AllCameBack (s : PipeState) : Type 0 where
   pub cull : s.cull.ended ≡ s.app.closed
   pub draw : s.draw.ended ≡ s.app.closed
 
--- How the packets of a pipe that fits are counted.
-pub record IsCounted (g : Setup) (s : PipeState) : Type 0 where
+-- The state after the history has as many frames as APP has begun, and retired as many as its last Sync says.
+pub record StateAgrees (g : Setup) (seats : Seats) (s : PipeState) : Type 0 where
+  pub frames : (state_of g.channels s.log).frames ≡ s.app.frames
+  pub retired : (state_of g.channels s.log).retired ≡ last_sync (turns_at g.channels seats.app App s.log)
+
+-- How the frames and the packets of a pipe that fits are counted.
+pub record IsCounted (g : Setup) (seats : Seats) (s : PipeState) : Type 0 where
+  pub state : StateAgrees g seats s
   pub room : LinksHaveRoom g s
   pub ends : EndsFollow s
   pub drained : IsDrained s → AllCameBack s
@@ -77,4 +84,4 @@ pub record IsCounted (g : Setup) (s : PipeState) : Type 0 where
 abbrev pub CountingLaw : Type 0
 CountingLaw =
     (g : Setup) (dbase : List BaseLine) (seats : Seats) (s : PipeState) →
-    PipeFits g dbase seats s → IsCounted g s
+    PipeFits g dbase seats s → IsCounted g seats s
