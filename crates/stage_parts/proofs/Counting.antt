@@ -12,9 +12,9 @@ use Rattle.stage_parts.specs.Loads.{LoadState}
 use Rattle.stage_parts.specs.Packets.{is_end, has_end, loads_in, LinkPart}
 use Rattle.stage_parts.specs.Frames.{frames_of, cut_of_frame}
 use Rattle.stage_parts.specs.States.{Setup, Seats, PipeState}
-use Rattle.stage_parts.specs.Parts.{passed, end_once, carried, kept}
+use Rattle.stage_parts.specs.Parts.{passed, end_once, cut_short, carried, kept}
 use Rattle.stage_parts.specs.Pipes.{PipeFits}
-use Rattle.stage_parts.specs.Gathering.{LinksHaveRoom, EndsFollow, IsDrained, AllCameBack, CountingLaw}
+use Rattle.stage_parts.specs.Gathering.{StateAgrees, LinksHaveRoom, EndsFollow, IsDrained, AllCameBack, CountingLaw}
 use Rattle.stage_parts.proofs.Places.{front_of}
 use Rattle.stage_parts.proofs.Sent.{sent_load, many_loads}
 use Rattle.stage_parts.proofs.Streams.{frames_begun, last_is_retired}
@@ -196,23 +196,33 @@ all_back g dbase seats s fits is =
     let cull : has_end s.b.sent ≡ s.app.closed =
     ap has_end (sym sent_b) ∙ ends_set (passed s.b.sent s.cull.held) ∙ ap any_set fits.cull.ends ∙ sym (ends_set s.a.taken)
     ∙ ap has_end is.a ∙ app in
+    let back : length s.c.taken ≡ s.app.frames =
+    ap length is.c ∙ ap length (sym sent_c) ∙ many.c ∙ ap (λ (ps : List Packet). length (loads_in ps)) (is.b ∙ sym sent_b)
+    ∙ many.b_loads
+    ∙ ap (λ (ps : List Packet). length (loads_in ps)) (is.a ∙ sym sent_a) ∙ many.all_loads in
     record {
-      back =
-          ap length is.c ∙ ap length (sym sent_c) ∙ many.c ∙ ap (λ (ps : List Packet). length (loads_in ps)) (is.b ∙ sym sent_b)
-          ∙ many.b_loads
-          ∙ ap (λ (ps : List Packet). length (loads_in ps)) (is.a ∙ sym sent_a) ∙ many.all_loads;
+      back = back;
+      written = λ whole. let short : cut_short s.app.fault ≡ 0 = ap cut_short whole in omega (arith, back, fits.stream.all, short);
       app = fits.app.ended ∙ app;
       cull = fits.cull.ended ∙ cull;
       draw = fits.draw.ended ∙ ap has_end is.b ∙ cull;
     }
 
+state_agrees : (g : Setup) (dbase : List BaseLine) (seats : Seats) (s : PipeState) → PipeFits g dbase seats s → StateAgrees g seats s
+state_agrees g dbase seats s fits =
+    let begun = frames_begun g dbase seats s fits in
+    let retired = last_is_retired g dbase seats s fits in
+    record {
+      frames = sym begun;
+      retired = sym retired;
+      room = λ synced. let fresh = fits.app.fresh synced in omega (arith, fresh, begun, retired);
+    }
+
 pub counting_law : CountingLaw
 counting_law g dbase seats s fits =
     record {
-      state =
-          record { frames = sym (frames_begun g dbase seats s fits); retired = sym (last_is_retired g dbase seats s fits) };
-      room =
-          rooms g dbase seats s fits;
+      state = state_agrees g dbase seats s fits;
+      room = rooms g dbase seats s fits;
       ends = ends_follow g dbase seats s fits;
       drained = all_back g dbase seats s fits;
     }

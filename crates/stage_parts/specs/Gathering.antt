@@ -53,8 +53,8 @@ pub record EndsFollow (s : PipeState) : Type 0 where
   pub draw : s.draw.ended ≡ true → s.cull.ended ≡ true
   pub back : s.app.closed ≡ true → length s.c.taken ≡ s.app.frames
 
--- Where no stage holds a packet and all that was sent was received, all frames have come back, and each stage has ended
--- where the application has closed.
+-- Where no stage holds a packet and all that was sent was received, all frames have come back, and were written but for
+-- one that a fault cut short; and each stage has ended where the application has closed.
 pub record IsDrained (s : PipeState) : Type 0 where
   pub app_held : s.app.held ≡ None
   pub cull_held : s.cull.held ≡ None
@@ -65,14 +65,17 @@ pub record IsDrained (s : PipeState) : Type 0 where
 
 pub record AllCameBack (s : PipeState) : Type 0 where
   pub back : length s.c.taken ≡ s.app.frames
+  pub written : s.app.fault ≡ None → s.app.written ≡ s.app.frames
   pub app : s.app.ended ≡ s.app.closed
   pub cull : s.cull.ended ≡ s.app.closed
   pub draw : s.draw.ended ≡ s.app.closed
 
--- The state after the history has as many frames as APP has begun, and retired as many as its last Sync says.
+-- The state after the history has as many frames as APP has begun, and retired as many as its last Sync says; where a
+-- Sync stands since the last Frame, it has room for one more.
 pub record StateAgrees (g : Setup) (seats : Seats) (s : PipeState) : Type 0 where
   pub frames : (state_of g.channels s.log).frames ≡ s.app.frames
   pub retired : (state_of g.channels s.log).retired ≡ last_sync (turns_at g.channels seats.app App s.log)
+  pub room : s.app.synced ≡ true → (state_of g.channels s.log).frames < (state_of g.channels s.log).retired + g.ahead
 
 -- How the frames and the packets of a pipe that fits are counted.
 pub record IsCounted (g : Setup) (seats : Seats) (s : PipeState) : Type 0 where
