@@ -1,0 +1,17 @@
+pub mod Places
+pub mod Sizes
+pub mod Sent
+pub mod Founds
+pub mod Retiring
+pub mod Shown
+pub mod Streams
+pub mod Props
+pub mod Pushes
+pub mod CullSteps
+pub mod DrawSteps
+pub mod SeatSteps
+pub mod AppSteps
+pub mod Gathering
+pub mod Counting
+pub mod DbaseSteps
+pub mod Moves

@@ -1,0 +1,13 @@
+pub mod Loads
+pub mod Packets
+pub mod Frames
+pub mod Pictures
+pub mod States
+pub mod Parts
+pub mod Pipes
+pub mod Laws
+pub mod Steps
+pub mod AppSteps
+pub mod Gathering
+pub mod DbaseSteps
+pub mod Moves
