@@ -1,0 +1,17 @@
+//! Pictures of draw lists by a depth buffer, band by band.
+#![tactic(auto)]
+
+mod bands;
+mod faces;
+mod fragments;
+mod glass;
+mod marks;
+mod panes;
+mod raster;
+mod strip;
+mod strips;
+
+pub use raster::Raster;
+
+#[cfg(test)]
+mod tests;
