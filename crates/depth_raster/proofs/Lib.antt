@@ -6,3 +6,5 @@ pub mod NextPane
 pub mod PaneOrder
 pub mod PanesLeft
 pub mod Shown
+pub mod Sides
+pub mod Skipped

@@ -1,5 +1,6 @@
 pub mod Fragments
 pub mod Faces
+pub mod Extents
 pub mod Bands
 pub mod Following
 pub mod Drawing

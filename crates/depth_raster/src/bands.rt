@@ -1,5 +1,5 @@
 //! Bands of rows.
-ghost use Rattle.std.specs.Prelude.{◌≡◌, ◌<◌};
+ghost use Rattle.std.specs.Prelude.{◌≡◌, ◌-◌, min};
 ghost use Rattle.depth_raster.specs.Bands.{place_in};
 
 /// Some rows of a picture that follow one another: the first of them, how many they are, and their width in pixels.
@@ -16,5 +16,19 @@ impl Band {
         ensures { result ≡ place_in self.now q r }
     {
         r as usize * self.width as usize + q as usize
+    }
+
+    /// The first of the band's rows that lies in the row `top` of the picture or below it.
+    pub(crate) fn rows_from(&self, top: u16) -> u16
+        ensures { result ≡ top - self.now.first }
+    {
+        top.saturating_sub(self.first)
+    }
+
+    /// The number of the band's rows that lie above the row `bottom` of the picture.
+    pub(crate) fn rows_to(&self, bottom: u16) -> u16
+        ensures { result ≡ min self.now.rows (bottom - self.now.first) }
+    {
+        self.rows.min(bottom.saturating_sub(self.first))
     }
 }

@@ -2,6 +2,8 @@
 #![tactic(auto)]
 
 mod bands;
+mod corners;
+mod extents;
 mod faces;
 mod fragments;
 mod glass;
