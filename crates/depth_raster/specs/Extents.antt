@@ -3,9 +3,6 @@ use Rattle.std.specs.Prelude.{◌≡◌, ℕ, ◌*◌, ◌<◌, ◌≤◌, Bool,
 use Rattle.fx_math.specs.Plain.{Point}
 use Rattle.fx_math.specs.Hit.{is_hit}
 use Rattle.fx_math.specs.declared.lenses.Lens.{Lens}
-use Rattle.pf_model.specs.declared.geometry.Tri.{Tri}
-use Rattle.tri_cover.specs.Hits.{vertex}
-use Rattle.depth_raster.specs.declared.extents.Extent.{Extent}
 
 -- a point so far to the side, at a depth, lies on a line of the slope or before it
 abbrev pub lies_before : Lens → (slope side depth : ℤ) → Bool
@@ -74,7 +71,3 @@ pub record Surrounds (lens : Lens) (u v w : Point) (left right top bottom : ℕ)
   pub right_of : (px py : ℕ) → right ≤ px → px < lens.w → is_hit lens px py u v w ≡ false
   pub above : (px py : ℕ) → py < top → is_hit lens px py u v w ≡ false
   pub below : (px py : ℕ) → bottom ≤ py → py < lens.h → is_hit lens px py u v w ≡ false
-
--- the same of the vertices of a triangle
-abbrev pub Encloses : Lens → Tri → Extent → Type 0
-Encloses lens t e = Surrounds lens (vertex t 0) (vertex t 1) (vertex t 2) e.left e.right e.top e.bottom

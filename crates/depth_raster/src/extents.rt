@@ -1,10 +1,9 @@
 //! The columns and rows that a triangle can reach.
 ghost use Rattle.fx_math.specs.Views.{point_of};
-ghost use Rattle.depth_raster.specs.Extents.{Surrounds, Encloses};
+ghost use Rattle.depth_raster.specs.Extents.{Surrounds};
 
 use crate::corners::Corners;
 use fx_math::{Lens, Vec3};
-use pf_model::Tri;
 
 /// Columns and rows of a picture, from the first to before the last.
 #[derive(Clone, Copy)]
@@ -16,15 +15,8 @@ pub(crate) struct Extent {
 }
 
 impl Extent {
-    /// Columns and rows outside of which a triangle in eye coordinates hits nothing.
-    pub(crate) fn of(tri: &Tri, lens: &Lens) -> Extent
-        ensures { Encloses lens.now tri.now result }
-    {
-        let [u, v, w] = tri.v;
-        Extent::around(lens, u, v, w)
-    }
-
-    fn around(lens: &Lens, u: Vec3, v: Vec3, w: Vec3) -> Extent
+    /// Columns and rows outside of which a triangle of these vertices, in eye coordinates, hits nothing.
+    pub(crate) fn around(lens: &Lens, u: Vec3, v: Vec3, w: Vec3) -> Extent
         ensures { Surrounds lens.now (point_of u) (point_of v) (point_of w)
             result.left result.right result.top result.bottom }
     {

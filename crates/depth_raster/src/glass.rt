@@ -7,15 +7,16 @@ ghost use Rattle.draw_list.specs.Lists.{instances_in};
 ghost use Rattle.tri_cover.specs.Glass.{is_glass, is_drawn_before, alpha_of};
 ghost use Rattle.tri_cover.specs.Sorting.{sorted};
 ghost use Rattle.depth_raster.specs.Bands.{IsBandOf, size_of, mark_in, colour_in};
-ghost use Rattle.depth_raster.specs.Extents.{Encloses};
 ghost use Rattle.depth_raster.specs.Following.{Follows, RowFollows};
+ghost use Rattle.depth_raster.specs.Reach.{IsReachOf};
 ghost use Rattle.depth_raster.specs.Drawing.{face_glazes, instance_glazes, glass_glazes};
 
 use crate::bands::Band;
-use crate::extents::Extent;
 use crate::faces::Face;
 use crate::fragments::Fragment;
 use crate::panes::next_pane;
+use crate::pixels::glazed;
+use crate::reach::Reach;
 use draw_list::{DrawList, Item};
 use fx_math::Lens;
 
@@ -120,9 +121,9 @@ fn draw_face(
     ensures { Follows band.now (colour_in band.now pixels.old) (colour_in band.now pixels.new)
         (face_glazes lens.now band.now (mark_in band.now marks.now) face.now alpha) }
 {
-    let extent = Extent::of(&face.tri, lens);
-    for r in band.rows_from(extent.top)..band.rows_to(extent.bottom) {
-        draw_row(pixels, marks, band, lens, face, alpha, &extent, r);
+    let reach = Reach::of(&face.tri, lens);
+    for r in band.rows_from(reach.extent.top)..band.rows_to(reach.extent.bottom) {
+        draw_row(pixels, marks, band, lens, face, alpha, &reach, r);
     }
 }
 
@@ -134,21 +135,30 @@ fn draw_row(
     lens: &Lens,
     face: &Face,
     alpha: u8,
-    extent: &Extent,
+    reach: &Reach,
     r: u16,
 )
     requires pixels { length pixels.old ≡ size_of band.now }
     requires marks { length marks.now ≡ size_of band.now }
     requires band { IsBandOf lens.now band.now }
-    requires extent { Encloses lens.now face.now.tri extent.now }
+    requires reach { IsReachOf lens.now face.now.tri reach.now }
     requires row { r < band.now.rows }
     ensures { RowFollows band.now (colour_in band.now pixels.old) (colour_in band.now pixels.new)
         (face_glazes lens.now band.now (mark_in band.now marks.now) face.now alpha) r }
 {
-    for q in extent.left..extent.right {
+    for q in reach.extent.left..reach.extent.right {
         let place = band.place(q, r);
         let under = pixels[place];
-        let glazed = face.glazed(&marks[place], alpha, under, lens, q, band.first + r);
+        let glazed = glazed(
+            face,
+            reach,
+            &marks[place],
+            alpha,
+            under,
+            lens,
+            q,
+            band.first + r,
+        );
         pixels[place] = glazed;
     }
 }

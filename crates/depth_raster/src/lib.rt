@@ -5,11 +5,14 @@ mod bands;
 mod corners;
 mod extents;
 mod faces;
+mod forms;
 mod fragments;
 mod glass;
 mod marks;
 mod panes;
+mod pixels;
 mod raster;
+mod reach;
 mod strip;
 mod strips;
 

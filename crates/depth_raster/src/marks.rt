@@ -5,14 +5,15 @@ ghost use Rattle.std.specs.List.{slice_get};
 ghost use Rattle.draw_list.specs.Items.{instance_of_item};
 ghost use Rattle.draw_list.specs.Lists.{instances_in};
 ghost use Rattle.depth_raster.specs.Bands.{IsBandOf, size_of, mark_in};
-ghost use Rattle.depth_raster.specs.Extents.{Encloses};
 ghost use Rattle.depth_raster.specs.Following.{Follows, RowFollows};
+ghost use Rattle.depth_raster.specs.Reach.{IsReachOf};
 ghost use Rattle.depth_raster.specs.Drawing.{face_over, instance_over, opaque_over};
 
 use crate::bands::Band;
-use crate::extents::Extent;
 use crate::faces::Face;
 use crate::fragments::Fragment;
+use crate::pixels::nearer;
+use crate::reach::Reach;
 use draw_list::{DrawList, Item};
 use fx_math::Lens;
 
@@ -92,9 +93,9 @@ fn draw_face(marks: &mut [Option<Fragment>], band: &Band, lens: &Lens, face: &Fa
     ensures { Follows band.now (mark_in band.now marks.old) (mark_in band.now marks.new)
         (face_over lens.now band.now face.now) }
 {
-    let extent = Extent::of(&face.tri, lens);
-    for r in band.rows_from(extent.top)..band.rows_to(extent.bottom) {
-        draw_row(marks, band, lens, face, &extent, r);
+    let reach = Reach::of(&face.tri, lens);
+    for r in band.rows_from(reach.extent.top)..band.rows_to(reach.extent.bottom) {
+        draw_row(marks, band, lens, face, &reach, r);
     }
 }
 
@@ -104,19 +105,19 @@ fn draw_row(
     band: &Band,
     lens: &Lens,
     face: &Face,
-    extent: &Extent,
+    reach: &Reach,
     r: u16,
 )
     requires len { length marks.old ≡ size_of band.now }
     requires band { IsBandOf lens.now band.now }
-    requires extent { Encloses lens.now face.now.tri extent.now }
+    requires reach { IsReachOf lens.now face.now.tri reach.now }
     requires row { r < band.now.rows }
     ensures { RowFollows band.now (mark_in band.now marks.old) (mark_in band.now marks.new)
         (face_over lens.now band.now face.now) r }
 {
-    for q in extent.left..extent.right {
+    for q in reach.extent.left..reach.extent.right {
         let place = band.place(q, r);
-        let nearer = face.over(marks[place], lens, q, band.first + r);
+        let nearer = nearer(face, reach, marks[place], lens, q, band.first + r);
         marks[place] = nearer;
     }
 }
