@@ -1,0 +1,104 @@
+-- Items drawn triangle by triangle, and lists item by item.
+use Rattle.std.proofs.Common.{◌≡◌, ℕ, zero, suc, ◌+◌, ◌≤◌, Bool, true, false, cond, List, [], ◌∷◌, ◌++◌, length, take, Option, Some, None, option_map, refl, ap, sym, ◌∙◌, add-one}
+use Rattle.std.specs.Prelude.{fold, filter, filter_map, flat_map, is_none}
+use Rattle.std.specs.List.{enumerate_from, slice_get}
+use Rattle.std.specs.Option.{option_map_or, option_to_list}
+use Rattle.std.proofs.lemmas.Option.{get_or_from_slice_get, slice_get_within}
+use Rattle.std.proofs.lemmas.List.{append-nil}
+use Rattle.std.proofs.lemmas.List.Sums.{fold-append}
+use Rattle.std.proofs.lemmas.List.Concat.{flat_map-append}
+use Rattle.fx_math.specs.declared.lenses.Lens.{Lens}
+use Rattle.pf_model.specs.declared.geometry.Tri.{Tri}
+use Rattle.pf_model.specs.Walks.{Instance}
+use Rattle.tri_cover.specs.declared.hit.Hit.{Hit}
+use Rattle.tri_cover.specs.Hits.{hit}
+use Rattle.tri_cover.specs.Glass.{is_opaque, alpha_of}
+use Rattle.tri_cover.specs.Picture.{Fragment, fragment_of, fragment_at, fragments, nearer, glazed, glazed_by, opaque_fragments}
+use Rattle.depth_raster.specs.declared.bands.Band.{Band}
+use Rattle.depth_raster.specs.declared.faces.Face.{Face}
+use Rattle.depth_raster.specs.Faces.{fragment_in, fragment_by, over, glazed_by_face, IsFaceOf}
+use Rattle.depth_raster.specs.Drawing.{face_over, instance_over, opaque_over, face_glazes, instance_glazes}
+use Rattle.depth_raster.proofs.Folding.{fold_numbered_more, fold_numbered_all}
+
+-- a face shows what its triangle shows
+face_shows : (x : Instance) (n : ℕ) (t : Tri) (f : Face) (lens : Lens) (px py : ℕ) → IsFaceOf x n t f → fragment_by lens px py f ≡ fragment_at lens px py x (n, t)
+unfolding fragment_by
+face_shows x n t f lens px py is = ap (option_map (fragment_in f)) (is.tri lens px py) ∙ by (hit lens px py x.steps t)
+  where
+    by : (h : Option Hit) → option_map (fragment_in f) h ≡ option_map (fragment_of x n) h
+    by None = refl
+    by (Some h) = rw (is.shift, is.place, is.number)
+
+-- ---- the first n triangles of an instance
+abbrev pub part_over : Lens → Band → Instance → ℕ → (q r : ℕ) → Option Fragment → Option Fragment
+part_over lens b x n q r drawn = fold nearer drawn (filter_map (fragment_at lens q (b.first + r) x) (take n (enumerate_from 0 x.tris)))
+
+pub part_more : (lens : Lens) (b : Band) (x : Instance) (n : ℕ) (t : Tri) (f : Face) (q r : ℕ) (drawn : Option Fragment) → slice_get x.tris n ≡ Some t → IsFaceOf x n t f → face_over lens b f q r (part_over lens b x n q r drawn) ≡ part_over lens b x (n + 1) q r drawn
+unfolding over
+part_more lens b x n t f q r drawn at is =
+    let m : Option Fragment = part_over lens b x n q r drawn in
+    ap (λ (o : Option Fragment). option_map_or (nearer m) o m) (face_shows x n t f lens q (b.first + r) is)
+    ∙ sym (fold_numbered_more nearer (fragment_at lens q (b.first + r) x) drawn x.tris n t (slice_get_within x.tris n t at) (sym (get_or_from_slice_get x.tris n t t at)))
+
+pub part_all : (lens : Lens) (b : Band) (x : Instance) (n : ℕ) (q r : ℕ) (drawn : Option Fragment) → length x.tris ≤ n → part_over lens b x n q r drawn ≡ instance_over lens b x q r drawn
+unfolding instance_over
+part_all lens b x n q r drawn all = fold_numbered_all nearer (fragment_at lens q (b.first + r) x) drawn x.tris n all
+
+abbrev pub part_glazes : Lens → Band → (behind : ℕ → ℕ → Option Fragment) → Instance → ℕ → (q r : ℕ) → List ℕ → List ℕ
+part_glazes lens b behind x n q r under = fold (glazed (behind q r) (alpha_of x)) under (filter_map (fragment_at lens q (b.first + r) x) (take n (enumerate_from 0 x.tris)))
+
+pub glazes_more : (lens : Lens) (b : Band) (behind : ℕ → ℕ → Option Fragment) (x : Instance) (n : ℕ) (t : Tri) (f : Face) (q r : ℕ) (under : List ℕ) → slice_get x.tris n ≡ Some t → IsFaceOf x n t f → face_glazes lens b behind f (alpha_of x) q r (part_glazes lens b behind x n q r under) ≡ part_glazes lens b behind x (n + 1) q r under
+unfolding glazed_by_face
+glazes_more lens b behind x n t f q r under at is =
+    let u : List ℕ = part_glazes lens b behind x n q r under in
+    ap (λ (o : Option Fragment). option_map_or (glazed (behind q r) (alpha_of x) u) o u) (face_shows x n t f lens q (b.first + r) is)
+    ∙ sym (fold_numbered_more (glazed (behind q r) (alpha_of x)) (fragment_at lens q (b.first + r) x) under x.tris n t (slice_get_within x.tris n t at) (sym (get_or_from_slice_get x.tris n t t at)))
+
+pub glazes_all : (lens : Lens) (b : Band) (behind : ℕ → ℕ → Option Fragment) (x : Instance) (n : ℕ) (q r : ℕ) (under : List ℕ) → length x.tris ≤ n → part_glazes lens b behind x n q r under ≡ instance_glazes lens b behind x q r under
+unfolding glazed_by
+glazes_all lens b behind x n q r under all = fold_numbered_all (glazed (behind q r) (alpha_of x)) (fragment_at lens q (b.first + r) x) under x.tris n all
+
+-- ---- lists
+take_suc : {X : Type 0} (xs : List X) (i : ℕ) → take (suc i) xs ≡ take i xs ++ option_to_list (slice_get xs i)
+take_suc [] zero = refl
+take_suc [] (suc i) = refl
+take_suc (x ∷ xs) zero = refl
+take_suc {X} (x ∷ xs) (suc i) = ap (λ (ys : List X). x ∷ ys) (take_suc xs i)
+
+opaque_append : (lens : Lens) (px py : ℕ) (xs ys : List Instance) → opaque_fragments lens px py (xs ++ ys) ≡ opaque_fragments lens px py xs ++ opaque_fragments lens px py ys
+opaque_append lens px py xs ys = ap (flat_map (fragments lens px py)) (filters xs) ∙ flat_map-append (fragments lens px py) (filter is_opaque xs) (filter is_opaque ys)
+  where
+    filters : (zs : List Instance) → filter is_opaque (zs ++ ys) ≡ filter is_opaque zs ++ filter is_opaque ys
+    filters [] = refl
+    filters (z ∷ zs) = by (is_opaque z) (filters zs)
+      where
+        by : (t : Bool) → filter is_opaque (zs ++ ys) ≡ filter is_opaque zs ++ filter is_opaque ys → cond t (z ∷ filter is_opaque (zs ++ ys)) (filter is_opaque (zs ++ ys)) ≡ cond t (z ∷ filter is_opaque zs) (filter is_opaque zs) ++ filter is_opaque ys
+        by true h = ap (λ (ws : List Instance). z ∷ ws) h
+        by false h = h
+
+pub opaque_more : (lens : Lens) (b : Band) (xs : List Instance) (n : ℕ) (q r : ℕ) (drawn : Option Fragment) → opaque_over lens b (option_to_list (slice_get xs n)) q r (opaque_over lens b (take n xs) q r drawn) ≡ opaque_over lens b (take (n + 1) xs) q r drawn
+unfolding opaque_over
+opaque_more lens b xs n q r drawn =
+    sym (fold-append nearer drawn (opaque_fragments lens q (b.first + r) (take n xs)) (opaque_fragments lens q (b.first + r) (option_to_list (slice_get xs n))))
+    ∙ ap (fold nearer drawn) (sym (opaque_append lens q (b.first + r) (take n xs) (option_to_list (slice_get xs n))))
+    ∙ ap (λ (ys : List Instance). fold nearer drawn (opaque_fragments lens q (b.first + r) ys)) (sym (take_suc xs n) ∙ ap (λ (m : ℕ). take m xs) (sym (add-one n)))
+
+pub opaque_none : (lens : Lens) (b : Band) (q r : ℕ) (drawn : Option Fragment) → drawn ≡ opaque_over lens b [] q r drawn
+unfolding opaque_over
+opaque_none lens b q r drawn = refl
+
+pub opaque_absent : (lens : Lens) (b : Band) (o : Option Instance) (q r : ℕ) (drawn : Option Fragment) → o ≡ None → drawn ≡ opaque_over lens b (option_to_list o) q r drawn
+opaque_absent lens b o q r drawn is = opaque_none lens b q r drawn ∙ ap (λ (p : Option Instance). opaque_over lens b (option_to_list p) q r drawn) (sym is)
+
+pub opaque_one : (lens : Lens) (b : Band) (x : Instance) (q r : ℕ) (drawn : Option Fragment) → x.tint ≡ None → opaque_over lens b (x ∷ []) q r drawn ≡ instance_over lens b x q r drawn
+unfolding opaque_over instance_over
+opaque_one lens b x q r drawn is =
+    ap (λ (o : Option ℕ). fold nearer drawn (flat_map (fragments lens q (b.first + r)) (cond (is_none o) (x ∷ []) []))) is
+    ∙ ap (fold nearer drawn) (append-nil (fragments lens q (b.first + r) x))
+
+pub opaque_glass : (lens : Lens) (b : Band) (x : Instance) (q r : ℕ) (drawn : Option Fragment) → (alpha : ℕ) → x.tint ≡ Some alpha → opaque_over lens b (x ∷ []) q r drawn ≡ drawn
+unfolding opaque_over
+opaque_glass lens b x q r drawn alpha is = ap (λ (o : Option ℕ). fold nearer drawn (flat_map (fragments lens q (b.first + r)) (cond (is_none o) (x ∷ []) []))) is
+
+pub opaque_some : (lens : Lens) (b : Band) (x : Instance) (o : Option Instance) (q r : ℕ) (drawn : Option Fragment) → o ≡ Some x → opaque_over lens b (x ∷ []) q r drawn ≡ opaque_over lens b (option_to_list o) q r drawn
+opaque_some lens b x o q r drawn is = sym (ap (λ (p : Option Instance). opaque_over lens b (option_to_list p) q r drawn) is)

@@ -1,0 +1,12 @@
+pub mod Following
+pub mod FormLaws
+pub mod Folding
+pub mod Items
+pub mod Listed
+pub mod NextPane
+pub mod PaneOrder
+pub mod PanesLeft
+pub mod Reaching
+pub mod Shown
+pub mod Sides
+pub mod Skipped

@@ -1,0 +1,34 @@
+-- What the face of a triangle shows at a pixel.
+use Rattle.std.specs.Prelude.{◌≡◌, ℕ, ◌-◌, List, [], Option}
+use Rattle.std.specs.Option.{option_map, option_map_or}
+use Rattle.fx_math.specs.declared.lenses.Lens.{Lens}
+use Rattle.pf_model.specs.declared.geometry.Tri.{Tri}
+use Rattle.pf_model.specs.Walks.{Instance}
+use Rattle.tri_cover.specs.declared.hit.Hit.{Hit}
+use Rattle.tri_cover.specs.Hits.{hit, HitsAs}
+use Rattle.tri_cover.specs.Picture.{Fragment, nearer, glazed}
+use Rattle.depth_raster.specs.declared.faces.Face.{Face}
+
+-- what a hit of the face gives
+abbrev pub fragment_in : Face → Hit → Fragment
+fragment_in f h =
+    record { key = record { depth = h.depth - f.shift; place = f.place; number = f.number }; colour = h.colour }
+
+-- the fragment of the face at a pixel, where it hits
+unfoldable pub fragment_by : Lens → (px py : ℕ) → Face → Option Fragment
+fragment_by lens px py f = option_map (fragment_in f) (hit lens px py [] f.tri)
+
+-- the nearer of what is drawn at a pixel and the face
+unfoldable pub over : Lens → (px py : ℕ) → Face → Option Fragment → Option Fragment
+over lens px py f drawn = option_map_or (nearer drawn) (fragment_by lens px py f) drawn
+
+-- what the face, of glass of an alpha, leaves of the colour under it
+unfoldable pub glazed_by_face : Lens → (px py : ℕ) → Face → (alpha : ℕ) → Option Fragment → List ℕ → List ℕ
+glazed_by_face lens px py f alpha behind under = option_map_or (glazed behind alpha under) (fragment_by lens px py f) under
+
+-- the face stands for the triangle of a number of an instance
+pub record IsFaceOf (x : Instance) (n : ℕ) (t : Tri) (f : Face) : Type 0 where
+  pub tri : HitsAs t x.steps f.tri
+  pub place : f.place ≡ x.place
+  pub shift : f.shift ≡ x.shift
+  pub number : f.number ≡ n

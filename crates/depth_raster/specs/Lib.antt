@@ -1,0 +1,10 @@
+pub mod Fragments
+pub mod Faces
+pub mod Extents
+pub mod Forms
+pub mod Reach
+pub mod Bands
+pub mod Following
+pub mod Drawing
+pub mod Panes
+pub mod Strips
