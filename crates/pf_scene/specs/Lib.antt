@@ -1,0 +1,4 @@
+pub mod Scenes
+pub mod Worlds
+pub mod Stock
+pub mod Frames

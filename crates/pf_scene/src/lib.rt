@@ -1,0 +1,13 @@
+//! The scene that all stages share: the graph, the views, the frames and the history, kept as one value under the lock.
+#![tactic(auto)]
+
+pub(crate) mod burial;
+pub(crate) mod copies;
+pub(crate) mod lists;
+pub(crate) mod replies;
+pub mod scene;
+pub(crate) mod stock;
+pub(crate) mod world;
+
+pub use scene::Scene;
+pub use update_lists::{Cut, Views};
