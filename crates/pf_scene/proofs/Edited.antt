@@ -1,5 +1,5 @@
 -- What one edit leaves of the geodes.
-use Rattle.std.proofs.Common.{◌≡◌, ℕ, ◌+◌, ◌<◌, ◌≤◌, Bool, true, false, cond, not, ◌==◌, ◌||◌, nat_eq, List, [], ◌∷◌, ◌++◌, map, length, Option, Some, None, refl, sym, ◌∙◌, ap, subst, arith}
+use Rattle.std.proofs.Common.{◌≡◌, ℕ, ◌+◌, ◌<◌, ◌≤◌, Bool, true, false, cond, not, ◌==◌, ◌||◌, nat_eq, List, [], ◌∷◌, ◌++◌, map, length, Option, Some, None, is_some, refl, sym, ◌∙◌, ap, subst, arith}
 use Rattle.std.proofs.lemmas.Bool.Decides.{nat_tests}
 use Rattle.std.proofs.lemmas.Bool.{eqb-true}
 use Rattle.std.proofs.lemmas.List.{length-append}
@@ -20,7 +20,7 @@ use Rattle.pf_model.specs.Kinds.{geom_of, is_geode, with_pick, with_pose, with_r
 use Rattle.pf_model.specs.Graphs.{Nodes, SceneGraph, node_at, change, put, without}
 use Rattle.pf_model.specs.Limits.{IsGraphWithinLimits}
 use Rattle.pf_model.specs.NodeEdits.{node_after, with_kind}
-use Rattle.pf_model.specs.Edits.{fault_of, effect, remains, when, has_kind, other_count, first}
+use Rattle.pf_model.specs.Edits.{fault_of, effect, remains, when, has_kind, other_count, first, attribute_rules}
 use Rattle.pf_model.specs.Copies.{named_by}
 use Rattle.pf_model.proofs.Finds.{node_at_change, node_at_without}
 use Rattle.pf_model.proofs.Named.{node_at_put_any}
@@ -79,8 +79,8 @@ not_false false h = absurd (cc)
 verts_count : (g : SceneGraph) (id : ℕ) (ts : List Tri) (n : Node) → node_at g.nodes id ≡ Some n → None ≡ fault_of g (edit.Verts id ts)
     → option_map_or (λ (us : List Tri). length us == length ts) (geom_of n.kind) false ≡ true
 verts_count g id ts n found ok =
-    let passed = (all_passed _ ok).1.1.0 in
-    let right : has_kind (λ k. option_map_or (λ (us : List Tri). length us == length ts) (geom_of k) false) (node_at g.nodes id) ≡ true = not_false _ (when_not _ (fault.Many (length ts)) passed) in
+    let passed = (all_passed (attribute_rules (edit.Verts id ts) (node_at g.nodes id)) ok).1.1.0 in
+    let right : has_kind (λ k. option_map_or (λ (us : List Tri). length us == length ts) (geom_of k) false) (node_at g.nodes id) ≡ true = not_false (has_kind (λ k. option_map_or (λ (us : List Tri). length us == length ts) (geom_of k) false) (node_at g.nodes id)) (when_not (not (has_kind (λ k. option_map_or (λ (us : List Tri). length us == length ts) (geom_of k) false) (node_at g.nodes id))) (fault.Many (length ts)) passed) in
     subst (λ (o : Option Node). has_kind (λ k. option_map_or (λ (us : List Tri). length us == length ts) (geom_of k) false) o ≡ true) found right
 
 size_after : (g : SceneGraph) (e : Edit) (n : Node) → node_at g.nodes (named_by e) ≡ Some n → None ≡ fault_of g e → size (node_after g.time e n).kind ≡ size n.kind
@@ -108,14 +108,11 @@ serial_kept time e n = refl
 
 -- The cycles
 
-has_size : (k : Kind) (m : ℕ) → is_geode k ≡ true → is_geode k ≡ true
-has_size k m h = h
-
 -- kinds of the same number of triangles are both geodes or neither
 geode_by_size : (k j : Kind) → size k ≡ size j → is_geode j ≡ true → is_geode k ≡ true
 geode_by_size k j same h = by (geom_of k) (geom_of j) same h
   where
-    by : (a b : Option (List Tri)) → option_map length a ≡ option_map length b → option_map_or (λ (x : List Tri). true) b false ≡ true → option_map_or (λ (x : List Tri). true) a false ≡ true
+    by : (a b : Option (List Tri)) → option_map length a ≡ option_map length b → is_some b ≡ true → is_some a ≡ true
     by (Some a) b e t = refl
     by None None e t = t
     by None (Some b) e t = absurd (cc)

@@ -5,3 +5,5 @@ pub mod Edited
 pub mod Opened
 pub mod Kept
 pub mod Loops
+pub mod Taken
+pub mod Rooms

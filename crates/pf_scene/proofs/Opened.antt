@@ -1,5 +1,6 @@
 -- What accepted edits leave of the geodes and of the deleted nodes.
-use Rattle.std.proofs.Common.{◌≡◌, ⊤, ℕ, ◌+◌, ◌<◌, ◌≤◌, Bool, true, false, cond, ◌&&◌, ◌==◌, ◌||◌, nat_eq, List, [], ◌∷◌, ◌++◌, map, length, Option, Some, None, is_some, refl, sym, ◌∙◌, ap, subst, arith}
+use Rattle.std.proofs.Common.{◌≡◌, ℕ, ◌+◌, ◌<◌, ◌≤◌, Bool, true, false, cond, ◌&&◌, ◌==◌, ◌||◌, nat_eq, List, [], ◌∷◌, ◌++◌, map, length, Option, Some, None, is_some, refl, sym, ◌∙◌, ap, subst, arith}
+use Rattle.std.specs.Prelude.{⊤}
 use Rattle.std.proofs.lemmas.Bool.Decides.{nat_tests}
 use Rattle.std.proofs.lemmas.Bool.{eqb-true}
 use Rattle.std.specs.List.{AllByRecursion, list_any, list_all, fold}
@@ -211,19 +212,25 @@ all_accepted g es ok = ap (λ (o : Option (ℕ × Fault)). cond (is_some o) g (f
 one_accepted : (g : SceneGraph) (e : Edit) → fault_of g e ≡ None → merge_fault g (e ∷ []) ≡ None
 one_accepted g e ok = ap (λ (o : Option Fault). option_map_or (λ f. Some (1, f)) o None) ok
 
-pub opening_one : (v w : Written) (g h : SceneGraph) (e : Edit) → IsGraphWithinLimits g → IsStocked v g → g.gone ≡ [] → fits e ≡ true → fault_of g e ≡ None → h ≡ after g e
-    → ((s : ℕ) → s < g.next_serial → w s ≡ v s) → HaveCycles w g.next_serial (e ∷ []) → ((s : ℕ) → serial_behind g.next_serial (e ∷ []) ≤ s → w s ≡ None)
-    → IsOpen w h (named_by e ∷ [])
-opening_one v w g h e within stocked empty fit ok is same cycles none =
-    subst (λ (k : SceneGraph). IsOpen w k (named_by e ∷ [])) (sym (is ∙ after_accepted g e ok))
-    (opening v w g (e ∷ []) within stocked empty (ap (λ t. t && true) fit) (one_accepted g e ok) same cycles none)
+pub opening_one : (v w : Written) (g h : SceneGraph) (e : Edit) (n : ℕ) (es : List Edit) → es ≡ e ∷ [] → n ≡ g.next_serial → IsGraphWithinLimits g → IsStocked v g → g.gone ≡ [] → fits e ≡ true
+    → fault_of g e ≡ None → h ≡ after g e → ((s : ℕ) → s < n → w s ≡ v s) → HaveCycles w n es → ((s : ℕ) → serial_behind n es ≤ s → w s ≡ None) → IsOpen w h (map named_by es)
+opening_one v w g h e n es one first within stocked empty fit ok is same cycles none =
+    subst (λ (k : SceneGraph). IsOpen w k (map named_by es)) (sym (is ∙ after_accepted g e ok))
+    (subst (λ (xs : List Edit). IsOpen w (effect g e) (map named_by xs)) (sym one)
+    (opening v w g (e ∷ []) within stocked empty (ap (λ t. t && true) fit) (one_accepted g e ok)
+    (λ s l. same s (subst (λ (m : ℕ). s < m) (sym first) l))
+    (subst (λ (m : ℕ). HaveCycles w m (e ∷ [])) first (subst (λ (xs : List Edit). HaveCycles w n xs) one cycles))
+    (λ s l. none s (subst (λ (m : ℕ). serial_behind m es ≤ s) (sym first) (subst (λ (xs : List Edit). serial_behind g.next_serial xs ≤ s) (sym one) l)))))
 
-pub opening_all : (v w : Written) (g h : SceneGraph) (es : List Edit) → IsGraphWithinLimits g → IsStocked v g → g.gone ≡ [] → list_all fits es ≡ true → merge_fault g es ≡ None → h ≡ after_all g es
-    → ((s : ℕ) → s < g.next_serial → w s ≡ v s) → HaveCycles w g.next_serial es → ((s : ℕ) → serial_behind g.next_serial es ≤ s → w s ≡ None)
-    → IsOpen w h (map named_by es)
-opening_all v w g h es within stocked empty fit ok is same cycles none =
-    subst (λ (k : SceneGraph). IsOpen w k (map named_by es)) (sym (is ∙ all_accepted g es ok))
-    (opening v w g es within stocked empty fit ok same cycles none)
+pub opening_all : (v w : Written) (g h : SceneGraph) (all : List Edit) (n : ℕ) (es : List Edit) → es ≡ all → n ≡ g.next_serial → IsGraphWithinLimits g → IsStocked v g → g.gone ≡ [] → list_all fits all ≡ true
+    → merge_fault g all ≡ None → h ≡ after_all g all → ((s : ℕ) → s < n → w s ≡ v s) → HaveCycles w n es → ((s : ℕ) → serial_behind n es ≤ s → w s ≡ None) → IsOpen w h (map named_by es)
+opening_all v w g h all n es same_list first within stocked empty fit ok is same cycles none =
+    subst (λ (k : SceneGraph). IsOpen w k (map named_by es)) (sym (is ∙ all_accepted g all ok))
+    (subst (λ (xs : List Edit). IsOpen w (fold effect g all) (map named_by xs)) (sym same_list)
+    (opening v w g all within stocked empty fit ok
+    (λ s l. same s (subst (λ (m : ℕ). s < m) (sym first) l))
+    (subst (λ (m : ℕ). HaveCycles w m all) first (subst (λ (xs : List Edit). HaveCycles w n xs) same_list cycles))
+    (λ s l. none s (subst (λ (m : ℕ). serial_behind m es ≤ s) (sym first) (subst (λ (xs : List Edit). serial_behind g.next_serial xs ≤ s) (sym same_list) l)))))
 
 pub gone_all : (g h : SceneGraph) (es : List Edit) → g.gone ≡ [] → merge_fault g es ≡ None → h ≡ after_all g es → length h.gone ≤ length es
 gone_all g h es empty ok is =
@@ -255,15 +262,15 @@ pub followed : (v w x : Written) (g h : SceneGraph) (named : List ℕ) → IsOpe
     → ((s : ℕ) → option_map length (w s) ≡ option_map length (v s))
     → ((s : ℕ) → among s (gone_serials g.gone) ≡ false → x s ≡ w s) → ((s : ℕ) → w s ≡ None → x s ≡ None)
     → h ≡ record g { gone = [] } → IsStocked x h
-followed v w x g h named open named_are kept lengths others none is = subst (λ (k : SceneGraph). IsStocked x k) (sym is) (record {
-  contents = λ id. at id (node_at g.nodes id) refl (written id (among id named) refl);
-  fresh = λ s l. none s (none_by_length (w s) (v s) (lengths s) (open.fresh s l));
+followed v w x g h named opens named_are kept lengths others none is = subst (λ (k : SceneGraph). IsStocked x k) (sym is) (record {
+  contents = λ id. here id (node_at g.nodes id) refl (written id (among id named) refl);
+  fresh = λ s l. none s (none_by_length (w s) (v s) (lengths s) (opens.fresh s l));
 })
   where
     written : (id : ℕ) (t : Bool) → among id named ≡ t → IsWritten w (node_at g.nodes id)
     written id true e = named_are id e
-    written id false e = kept id (open.others id e)
+    written id false e = kept id (opens.others id e)
 
-    at : (id : ℕ) (o : Option Node) → node_at g.nodes id ≡ o → IsWritten w (node_at g.nodes id) → IsWritten x (node_at g.nodes id)
-    at id None e h = subst (λ (o : Option Node). IsWritten x o) (sym e) tt
-    at id (Some n) e h = subst (λ (o : Option Node). IsWritten x o) (sym e) (still_there w x n g.gone (open.apart id n e) others (subst (λ (o : Option Node). IsWritten w o) e h))
+    here : (id : ℕ) (o : Option Node) → node_at g.nodes id ≡ o → IsWritten w (node_at g.nodes id) → IsWritten x (node_at g.nodes id)
+    here id None e h = subst (λ (o : Option Node). IsWritten x o) (sym e) tt
+    here id (Some n) e h = subst (λ (o : Option Node). IsWritten x o) (sym e) (still_there w x n g.gone (opens.apart id n e) others (subst (λ (o : Option Node). IsWritten w o) e h))

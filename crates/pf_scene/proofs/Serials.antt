@@ -30,19 +30,17 @@ both_same a b c p q r = apart_true a c b p q (turned_eq c b ∙ r)
 pub apart_serials : (xs : Nodes) → IsDistinct nat_eq (map (λ e. e.1.serial) xs) → (a b : ℕ) (n m : Node) → (a == b) ≡ false → node_at xs a ≡ Some n → node_at xs b ≡ Some m → nat_eq n.serial m.serial ≡ false
 apart_serials [] once a b n m apart fa fb = absurd (cc)
 apart_serials (x ∷ xs) once a b n m apart fa fb =
-    by (x.0 == a) (x.0 == b) refl refl (sym (node_at_step a x xs) ∙ fa) (sym (node_at_step b x xs) ∙ fb)
+    by (x.0 == a) (x.0 == b) refl refl (apart_serials xs (IsDistinct-tail nat_eq x.1.serial (serials xs) once) a b n m apart)
+    (sym (node_at_step a x xs) ∙ fa) (sym (node_at_step b x xs) ∙ fb)
   where
     head : (id : ℕ) (k : Node) → node_at xs id ≡ Some k → nat_eq x.1.serial k.serial ≡ false
     head id k found = all_found_have (λ (e : ℕ × Node). nat_eq x.1.serial e.1.serial ≡ false) xs (unmapped x.1.serial xs (IsDistinct-head nat_eq x.1.serial (serials xs) once)) id k found
 
-    rest : node_at xs a ≡ Some n → node_at xs b ≡ Some m → nat_eq n.serial m.serial ≡ false
-    rest = apart_serials xs (IsDistinct-tail nat_eq x.1.serial (serials xs) once) a b n m apart
-
-    by : (s t : Bool) → (x.0 == a) ≡ s → (x.0 == b) ≡ t → cond s (Some x.1) (node_at xs a) ≡ Some n → cond t (Some x.1) (node_at xs b) ≡ Some m → nat_eq n.serial m.serial ≡ false
-    by true true p q ga gb = absurd (both_same x.0 a b p q apart)
-    by true false p q ga gb = let same : x.1 ≡ n = cc in subst (λ (k : Node). nat_eq k.serial m.serial ≡ false) same (head b m gb)
-    by false true p q ga gb = let same : x.1 ≡ m = cc in flipped m.serial n.serial (subst (λ (k : Node). nat_eq k.serial n.serial ≡ false) same (head a n ga))
-    by false false p q ga gb = rest ga gb
+    by : (s t : Bool) → (x.0 == a) ≡ s → (x.0 == b) ≡ t → (node_at xs a ≡ Some n → node_at xs b ≡ Some m → nat_eq n.serial m.serial ≡ false) → cond s (Some x.1) (node_at xs a) ≡ Some n → cond t (Some x.1) (node_at xs b) ≡ Some m → nat_eq n.serial m.serial ≡ false
+    by true true p q rest ga gb = absurd (both_same x.0 a b p q apart)
+    by true false p q rest ga gb = let same : x.1 ≡ n = cc in subst (λ (k : Node). nat_eq k.serial m.serial ≡ false) same (head b m gb)
+    by false true p q rest ga gb = let same : x.1 ≡ m = cc in flipped m.serial n.serial (subst (λ (k : Node). nat_eq k.serial n.serial ≡ false) same (head a n ga))
+    by false false p q rest ga gb = rest ga gb
 
 -- a node is known by its serial
 pub same_node : (xs : Nodes) → IsDistinct nat_eq (map (λ e. e.1.serial) xs) → (a b : ℕ) (n m : Node) → node_at xs a ≡ Some n → node_at xs b ≡ Some m → n.serial ≡ m.serial → n ≡ m

@@ -129,7 +129,8 @@ impl Scene {
 
     /// The number of frames retired.
     pub fn retired(&self) -> u32
-        ensures { result ≡ (state_in self.now.shared).retired }
+        ensures value { result ≡ (state_in self.now.shared).retired }
+        ensures begun { result ≤ (state_in self.now.shared).frames }
     {
         self.retired
     }
@@ -174,7 +175,8 @@ impl Scene {
     pub fn in_flight(&self) -> u32
         ensures { result + (state_in self.now.shared).retired ≡ (state_in self.now.shared).frames }
     {
-        self.frames - self.retired
+        let retired = self.retired();
+        self.frames() - retired
     }
 
     /// The greatest number of copies that a geode's cycle has had, and 0 before the first cycle was made.

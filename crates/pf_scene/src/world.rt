@@ -106,6 +106,7 @@ impl World {
     {
         let edits = slice::from_ref(e);
         self.graves.reserve(1)?;
+        self.graph.keeps_limits();
         let first = self.graph.next_serial();
         stock::open(&mut self.cycles, first, edits)?;
         match self.graph.edit(e) {
@@ -150,6 +151,7 @@ impl World {
     {
         let edits = list.as_slice();
         self.graves.reserve(edits.len())?;
+        self.graph.keeps_limits();
         let first = self.graph.next_serial();
         stock::open(&mut self.cycles, first, edits)?;
         match self.graph.edits(list) {
