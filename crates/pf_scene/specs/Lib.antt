@@ -2,3 +2,4 @@ pub mod Scenes
 pub mod Worlds
 pub mod Stock
 pub mod Frames
+pub mod Acts
