@@ -1,15 +1,12 @@
 -- What one edit leaves of the geodes.
-use Rattle.std.proofs.Common.{◌≡◌, ℕ, ◌+◌, ◌<◌, ◌≤◌, Bool, true, false, cond, not, ◌==◌, ◌||◌, nat_eq, List, [], ◌∷◌, ◌++◌, map, length, Option, Some, None, is_some, refl, sym, ◌∙◌, ap, subst, arith}
-use Rattle.std.proofs.lemmas.Bool.Decides.{nat_tests}
+use Rattle.std.proofs.Common.{◌≡◌, ℕ, ◌+◌, ◌≤◌, Bool, true, false, cond, not, ◌==◌, List, [], ◌++◌, length, Option, Some, None, is_some, refl, sym, ◌∙◌, ap, subst, arith}
 use Rattle.std.proofs.lemmas.Bool.{eqb-true}
 use Rattle.std.proofs.lemmas.List.{length-append}
-use Rattle.std.specs.List.{AllByRecursion, list_any}
 use Rattle.std.specs.Option.{option_map, option_map_or}
 use Rattle.pf_model.specs.declared.geometry.Tri.{Tri}
 use Rattle.pf_model.specs.declared.nodes.Kind.{Kind}
 use Rattle.pf_model.specs.declared.nodes.Kind.TheVariants.{Switch, Dcs, Lod, Seq, Geode, Glass}
 use Rattle.pf_model.specs.declared.nodes.Node.{Node}
-use Rattle.pf_model.specs.declared.nodes.Gone.{Gone}
 use Rattle.pf_model.specs.declared.nodes.Pick.{Pick}
 use Rattle.pf_model.specs.declared.poses.Pose.{Pose}
 use Rattle.pf_model.specs.declared.edits.Fault.TheVariants as fault
@@ -17,18 +14,15 @@ use Rattle.pf_model.specs.declared.edits.Edit.{Edit}
 use Rattle.pf_model.specs.declared.edits.Edit.TheVariants as edit
 use Rattle.fx_math.specs.declared.vectors.Vec3.{Vec3}
 use Rattle.pf_model.specs.Kinds.{geom_of, is_geode, with_pick, with_pose, with_range, with_centre, with_time, run_from, stopped, with_geom}
-use Rattle.pf_model.specs.Graphs.{Nodes, SceneGraph, node_at, change, put, without}
+use Rattle.pf_model.specs.Graphs.{SceneGraph, node_at}
 use Rattle.pf_model.specs.Limits.{IsGraphWithinLimits}
-use Rattle.pf_model.specs.NodeEdits.{node_after, with_kind}
-use Rattle.pf_model.specs.Edits.{fault_of, effect, remains, when, has_kind, other_count, first, attribute_rules}
+use Rattle.pf_model.specs.NodeEdits.{node_after}
+use Rattle.pf_model.specs.Edits.{fault_of, effect, remains, has_kind, attribute_rules}
 use Rattle.pf_model.specs.Copies.{named_by}
 use Rattle.pf_model.proofs.Finds.{node_at_change, node_at_without}
 use Rattle.pf_model.proofs.Named.{node_at_put_any}
-use Rattle.pf_model.proofs.Keeping.{all_found_have}
 use Rattle.pf_model.proofs.Rules.{all_passed, when_not}
-use Rattle.update_lists.specs.Marks.{among}
 use Rattle.pf_scene.specs.Stock.{Written, serial_after, HasCycle, IsSized}
-use Rattle.pf_scene.proofs.Serials.{apart_serials}
 
 -- The number of triangles of a node
 

@@ -1,10 +1,10 @@
 -- What a scene keeps of its history, when an entry is added.
-use Rattle.std.proofs.Common.{◌≡◌, ℕ, suc, ◌+◌, ◌-◌, ◌^◌, ◌<◌, ◌≤◌, Bool, true, false, cond, List, [], ◌∷◌, ◌++◌, length, map, get_or, is_some, refl, sym, ◌∙◌, ap, subst, arith}
+use Rattle.std.proofs.Common.{◌≡◌, ℕ, ◌+◌, ◌-◌, ◌^◌, ◌<◌, ◌≤◌, Bool, true, false, cond, List, [], ◌∷◌, ◌++◌, length, map, get_or, is_some, refl, sym, ◌∙◌, ap, subst, arith}
 use Rattle.std.proofs.Math.Seq.{get_or-append_seam}
 use Rattle.std.proofs.lemmas.List.{length-set, length-replicate, length-map}
 use Rattle.std.proofs.lemmas.List.Sums.{sum_by_push, sum_by-cons, length-filter, count_by-le-length}
 use Rattle.pf_model.specs.Angles.{home_view}
-use Rattle.std.specs.List.{fold, sum_by, filter}
+use Rattle.std.specs.List.{fold, filter}
 use Rattle.pf_model.specs.declared.edits.Edit.{Edit}
 use Rattle.pf_model.specs.declared.edits.Edit.TheVariants as edit
 use Rattle.pf_model.specs.Graphs.{SceneGraph, node_at}
@@ -19,7 +19,7 @@ use Rattle.pf_history.specs.Objects.{FrameState, opening_state, next_state, repl
 use Rattle.pf_history.specs.declared.commands.Merge.{Merge}
 use Rattle.pf_history.specs.declared.commands.Reply.{Reply}
 use Rattle.pf_history.specs.Commands.{is_frame, caller_of}
-use Rattle.pf_history.specs.Logs.{Log, state_of, state_after, CanMake, IsLegal, IsLegalEntry, entry_of}
+use Rattle.pf_history.specs.Logs.{Log, state_of, state_after, CanMake, IsLegalEntry, entry_of}
 use Rattle.pf_history.specs.Cuts.{cuts_of, cut_of, next_cut, marked, marks_after}
 use Rattle.pf_history.specs.CutLaws.{with_last}
 use Rattle.pf_history.proofs.Folds.{state_push, legal_push, own_entry_legal, kept_after, preparation_law}
@@ -138,7 +138,7 @@ known channels log s marks weight k =
       rising = subst (λ (ids : List ℕ). IsRising ids) k.marks_are (cuts_law channels log).marks_rising;
       retired = subst (λ (t : FrameState). t.retired ≤ t.frames) k.after ((counts_law channels log).retired k.legal);
       views = subst (λ (t : FrameState). length t.views ≡ channels) k.after
-      (kept_after (λ (t : FrameState). length t.views ≡ channels) (many_views channels) (opening_state channels) log (length-replicate channels home_view));
+          (kept_after (λ (t : FrameState). length t.views ≡ channels) (many_views channels) (opening_state channels) log (length-replicate channels home_view));
     }
 
 -- An entry is added

@@ -5,7 +5,6 @@ use Rattle.std.proofs.lemmas.Bool.Decides.{nat_tests}
 use Rattle.std.proofs.lemmas.List.{map-append, drop_all}
 use Rattle.std.specs.List.{list_all, list_any}
 use Rattle.std.specs.Option.{option_map}
-use Rattle.pf_model.specs.declared.geometry.Tri.{Tri}
 use Rattle.pf_model.specs.declared.nodes.Node.{Node}
 use Rattle.pf_model.specs.declared.nodes.Gone.{Gone}
 use Rattle.pf_model.specs.declared.edits.Edit.{Edit}
@@ -71,7 +70,7 @@ pub preparing_more : (v w x : Written) (first serial : ℕ) (es : List Edit) (i 
     → IsPreparing v x first (serial_after serial e) es (i + 1)
 preparing_more v w x first serial es i e l is p cycle others same = record {
   made = λ u agree cycles. p.made u (λ s k. agree s (low e s k) ∙ others s (λ q. absurd (omega arith)))
-  (subst (λ (xs : List Edit). HaveCycles u serial xs) (sym (rest_at es i e l is)) (here u agree, cycles));
+      (subst (λ (xs : List Edit). HaveCycles u serial xs) (sym (rest_at es i e l is)) (here u agree, cycles));
   above = λ s k. over e same s k;
   below = λ s k. let o = p.order in others s (λ q. absurd (omega (arith, o))) ∙ p.below s k;
   behind = ap (λ (xs : List Edit). serial_behind serial xs) (sym (rest_at es i e l is)) ∙ p.behind;

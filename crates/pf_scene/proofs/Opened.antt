@@ -2,8 +2,7 @@
 use Rattle.std.proofs.Common.{◌≡◌, ℕ, ◌+◌, ◌<◌, ◌≤◌, Bool, true, false, cond, ◌&&◌, ◌==◌, ◌||◌, nat_eq, List, [], ◌∷◌, ◌++◌, map, length, Option, Some, None, is_some, refl, sym, ◌∙◌, ap, subst, arith}
 use Rattle.std.specs.Prelude.{⊤}
 use Rattle.std.proofs.lemmas.Bool.Decides.{nat_tests}
-use Rattle.std.proofs.lemmas.Bool.{eqb-true}
-use Rattle.std.specs.List.{AllByRecursion, list_any, list_all, fold}
+use Rattle.std.specs.List.{AllByRecursion, list_all, fold}
 use Rattle.std.specs.Option.{option_map, option_map_or}
 use Rattle.pf_model.specs.declared.geometry.Tri.{Tri}
 use Rattle.pf_model.specs.declared.nodes.Node.{Node}
@@ -11,9 +10,8 @@ use Rattle.pf_model.specs.declared.nodes.Gone.{Gone}
 use Rattle.pf_model.specs.declared.edits.Fault.{Fault}
 use Rattle.pf_model.specs.declared.edits.Edit.{Edit}
 use Rattle.pf_model.specs.declared.edits.Edit.TheVariants as edit
-use Rattle.pf_model.specs.Kinds.{geom_of, is_geode}
 use Rattle.pf_model.specs.Fits.{fits}
-use Rattle.pf_model.specs.Graphs.{Nodes, SceneGraph, node_at}
+use Rattle.pf_model.specs.Graphs.{SceneGraph, node_at}
 use Rattle.pf_model.specs.Limits.{IsGraphWithinLimits}
 use Rattle.pf_model.specs.NodeEdits.{node_after}
 use Rattle.pf_model.specs.Edits.{fault_of, effect, after, remains}
@@ -27,7 +25,7 @@ use Rattle.pf_model.proofs.EditLimits.{limits_effect}
 use Rattle.pf_history.proofs.Lists.{all_append}
 use Rattle.update_lists.specs.Marks.{among}
 use Rattle.update_lists.specs.Taking.{IsWritten}
-use Rattle.pf_scene.specs.Stock.{Written, serial_after, serial_behind, HasCycle, HaveCycles, IsSized, IsStocked, IsOpen}
+use Rattle.pf_scene.specs.Stock.{Written, serial_behind, HaveCycles, IsSized, IsStocked, IsOpen}
 use Rattle.pf_scene.proofs.Serials.{apart_serials}
 use Rattle.pf_scene.proofs.Edited.{sized_effect, serial_effect, gone_effect}
 

@@ -1,5 +1,5 @@
 -- Room in draw lists.
-use Rattle.std.proofs.Common.{◌≡◌, ◌≢◌, ℕ, ◌+◌, ◌<◌, ◌≤◌, Bool, true, false, List, map, length, get_or, refl, sym, ◌∙◌, ap, subst, arith}
+use Rattle.std.proofs.Common.{◌≡◌, ◌≢◌, ℕ, ◌+◌, ◌<◌, Bool, true, false, List, map, length, get_or, refl, sym, subst, arith}
 use Rattle.std.proofs.Math.Seq.{map-set_same}
 use Rattle.std.proofs.lemmas.List.{get_or-set_same, get_or-set_other}
 use Rattle.std.proofs.lemmas.Bool.Decides.{nat_tests}
@@ -8,7 +8,7 @@ use Rattle.std.specs.List.{All, AllWithin}
 use Rattle.pf_model.specs.Graphs.{SceneGraph, node_at, size_of}
 use Rattle.pf_model.specs.Totals.{triangle_count}
 use Rattle.draw_list.specs.Lists.{Drawables}
-use Rattle.pf_scene.specs.Frames.{HasRoom, AllHaveRoom, Drawn, drawn}
+use Rattle.pf_scene.specs.Frames.{HasRoom, AllHaveRoom, drawn}
 
 -- a list in the place of one that draws the same
 pub drawn_set : (xs : List Drawables) (i : ℕ) (x y : Drawables) → drawn y ≡ drawn (get_or xs i x) → map drawn (slice_set xs i y) ≡ map drawn xs

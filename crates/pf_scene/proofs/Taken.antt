@@ -1,5 +1,5 @@
 -- The geodes of a stocked graph can be cut.
-use Rattle.std.proofs.Common.{◌≡◌, ℕ, List, [], ◌∷◌}
+use Rattle.std.proofs.Common.{ℕ, List}
 use Rattle.std.proofs.lemmas.List.Elements.{All-from_get_or}
 use Rattle.std.proofs.Common.{get_or}
 use Rattle.pf_model.specs.Graphs.{SceneGraph, node_at}

@@ -10,7 +10,6 @@ use Rattle.pf_history.specs.declared.commands.Merge.{Merge}
 use Rattle.pf_history.specs.declared.commands.Reply.{Reply}
 use Rattle.pf_history.specs.Objects.{reply_of}
 use Rattle.pf_history.specs.Cuts.{cut_of}
-use Rattle.update_lists.specs.declared.cuts.Cut.{Cut}
 use Rattle.pf_scene.specs.declared.outcomes.Outcome.{Outcome}
 use Rattle.pf_scene.specs.declared.outcomes.Outcome.TheVariants as outcome
 use Rattle.pf_scene.specs.declared.outcomes.Home.{Home}

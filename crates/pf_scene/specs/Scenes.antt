@@ -1,7 +1,6 @@
 -- What clauses see of the scene, and what its type keeps.
 use Rattle.std.specs.Prelude.{◌≡◌, ℕ, ◌+◌, ◌^◌, ◌<◌, ◌≤◌, max, Bool, if◌then◌else◌, is_some, List, [], ◌∷◌, ◌++◌, length}
 use Rattle.std.specs.List.{sum_by, list_any}
-use Rattle.pf_model.specs.declared.edits.Edit.{Edit}
 use Rattle.pf_model.specs.Edits.{fault_of}
 use Rattle.pf_model.specs.Merges.{merge_fault}
 use Rattle.pf_history.specs.declared.commands.Command.{Command}

@@ -7,7 +7,6 @@ ghost use Rattle.pf_scene.specs.Stock.{makes_geode};
 use crate::stock;
 use pf_model::{Edit, Fault};
 
-
 /// The greater of two numbers.
 pub(crate) fn most(a: u32, b: u32) -> u32
     ensures { result ≡ max a b }
@@ -37,7 +36,12 @@ pub(crate) fn after_edit(copies: u32, ahead: u8, e: &Edit, fault: Option<Fault>)
 }
 
 /// The number after a merge.
-pub(crate) fn after_merge(copies: u32, ahead: u8, edits: &[Edit], fault: Option<(u32, Fault)>) -> u32
+pub(crate) fn after_merge(
+    copies: u32,
+    ahead: u8,
+    edits: &[Edit],
+    fault: Option<(u32, Fault)>,
+) -> u32
     ensures { result ≡ (if is_some fault then copies else with_cycle (list_any makes_geode edits.now) ahead copies) }
 {
     match fault {

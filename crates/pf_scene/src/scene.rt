@@ -10,10 +10,8 @@ ghost use Rattle.pf_history.specs.Cuts.{cut_of};
 ghost use Rattle.pf_scene.specs.Scenes.{state_in, entered, weight_in, HasWeight, copies_after, IsSmall};
 ghost use Rattle.pf_scene.specs.Frames.{IsCutOf, AllHaveRoom, drawn};
 
-use crate::copies;
-use crate::lists;
-use crate::replies;
 use crate::world::World;
+use crate::{copies, lists, replies};
 use draw_list::DrawList;
 use pf_history::{Command, History, Merge, Reply};
 use pf_io::NoMemory;

@@ -12,8 +12,7 @@ ghost use Rattle.pf_history.specs.Objects.{emptied};
 ghost use Rattle.cycle_buffer.specs.Cycles.{written_at};
 ghost use Rattle.pf_scene.specs.Stock.{IsStocked, IsOpen};
 
-use crate::burial;
-use crate::stock;
+use crate::{burial, stock};
 use async_delete::Graves;
 use cycle_buffer::Cycles;
 use pf_edits::{EditsError, WorkGraph};

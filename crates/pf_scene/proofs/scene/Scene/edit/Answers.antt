@@ -1,5 +1,5 @@
 -- An edit is made or refused, and its entry added.
-use Rattle.std.proofs.Common.{◌≡◌, ◌+◌, ◌∙◌, ◌++◌, List, [], ◌∷◌, ap, sym, subst, refl, arith}
+use Rattle.std.proofs.Common.{◌+◌, ◌∙◌, ◌++◌, [], ◌∷◌, ap, sym, refl, arith}
 use Rattle.pf_history.specs.declared.commands.Command.TheVariants as command
 use Rattle.std.specs.Option.{option_map_or}
 use Rattle.pf_history.specs.declared.commands.Reply.TheVariants as reply

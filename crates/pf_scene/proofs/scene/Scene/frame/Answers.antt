@@ -1,9 +1,9 @@
 -- A frame is begun, and its entry added.
-use Rattle.std.proofs.Common.{◌≡◌, ◌+◌, ◌∙◌, ◌++◌, List, [], ◌∷◌, ap, sym, subst, refl, arith}
+use Rattle.std.proofs.Common.{◌+◌, ◌∙◌, ◌++◌, [], ◌∷◌, ap, sym, subst, refl, arith}
 use Rattle.pf_model.specs.Graphs.{SceneGraph}
 use Rattle.pf_history.specs.declared.commands.Command.TheVariants as command
 use Rattle.pf_history.specs.Objects.{FrameState}
-use Rattle.pf_history.specs.Logs.{Log, entry_of}
+use Rattle.pf_history.specs.Logs.{Log}
 use Rattle.pf_scene.specs.Scenes.{SceneState, state_in}
 use Rattle.pf_scene.specs.Frames.{AllHaveRoom}
 use Rattle.pf_scene.proofs.Rooms.{room_for}

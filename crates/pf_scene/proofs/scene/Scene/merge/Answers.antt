@@ -1,5 +1,5 @@
 -- A merge is made or refused, and its entry added.
-use Rattle.std.proofs.Common.{◌≡◌, ◌+◌, ◌∙◌, ◌++◌, List, [], ◌∷◌, ap, sym, subst, refl, arith, length}
+use Rattle.std.proofs.Common.{◌+◌, ◌∙◌, ◌++◌, [], ◌∷◌, ap, sym, arith}
 use Rattle.pf_history.specs.declared.commands.Command.TheVariants as command
 use Rattle.std.specs.Option.{option_map_or}
 use Rattle.pf_history.specs.declared.commands.Reply.TheVariants as reply

@@ -1,5 +1,5 @@
 -- A Sync is made, and its entry added.
-use Rattle.std.proofs.Common.{◌≡◌, ◌+◌, ◌≤◌, ◌∙◌, ◌++◌, List, [], ◌∷◌, length, ap, sym, subst, refl, arith}
+use Rattle.std.proofs.Common.{◌+◌, ◌≤◌, ◌∙◌, ◌++◌, [], ◌∷◌, length, ap, sym, subst, refl, arith}
 use Rattle.std.proofs.lemmas.List.{length-append}
 use Rattle.pf_model.specs.Room.{SerialsSoFar}
 use Rattle.pf_model.specs.Copies.{freed_by}

@@ -1,5 +1,5 @@
 -- What follows an accepted edit.
-use Rattle.std.proofs.Common.{◌≡◌, ◌∙◌, [], ap}
+use Rattle.std.proofs.Common.{◌∙◌, ap}
 use Rattle.cycle_buffer.specs.Cycles.{written_at}
 use Rattle.pf_scene.specs.Worlds.{WorldState}
 use Rattle.pf_scene.proofs.Opened.{opening_one}

@@ -1,5 +1,5 @@
 -- What follows accepted edits.
-use Rattle.std.proofs.Common.{◌≡◌, ◌∙◌, [], length, ap, arith}
+use Rattle.std.proofs.Common.{◌∙◌, length, ap, arith}
 use Rattle.cycle_buffer.specs.Cycles.{written_at}
 use Rattle.pf_scene.specs.Worlds.{WorldState}
 use Rattle.pf_scene.proofs.Opened.{opening_all, gone_all}
