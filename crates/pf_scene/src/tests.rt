@@ -57,17 +57,22 @@ fn fault(scene: &mut Scene, e: Edit) -> Option<Fault> {
     }
 }
 
-/// The first of the serials that a Sync frees, and their number.
+/// The first of the serials that a Sync freed, and their number.
+fn freed(reply: &Reply) -> Option<(Option<u32>, usize)> {
+    match reply {
+        Reply::Freed(serials) => Some((serials.at(0), serials.len())),
+        _ => None,
+    }
+}
+
+/// What a Sync frees.
 fn sync(scene: &mut Scene, retired: u32, lists: Vec<Updates>) -> Option<(Option<u32>, usize)> {
     let act = SyncAct {
         retired,
         home: Home { lists },
     };
     match act.act(scene, 0) {
-        Outcome::Entered(synced) => match synced.reply {
-            Reply::Freed(serials) => Some((serials.at(0), serials.len())),
-            _ => None,
-        },
+        Outcome::Entered(synced) => freed(&synced.reply),
         _ => None,
     }
 }
