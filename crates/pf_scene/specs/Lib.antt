@@ -1,5 +1,0 @@
-pub mod Scenes
-pub mod Worlds
-pub mod Stock
-pub mod Frames
-pub mod Acts
