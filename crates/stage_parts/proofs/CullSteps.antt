@@ -23,6 +23,7 @@ next_of taken old can =
     record {
       limits = λ k l. subst (λ (n : Nodes). KeepsLimits (node_at n)) (copy_front taken (old ∷ []) k l) (can.limits k (omega (arith, l)));
       within = subst (λ (n : Nodes). IsWithinLimits (node_at n) old.cut.frame) (copy_push taken old) can.within;
+      few = can.few;
       many = can.many;
       room = subst (λ (n : Nodes). Each (HasRoomFor (size_of (node_at n) 0) (triangle_count (node_at n))) old.lists)
           (copy_push taken old) can.room;
@@ -37,6 +38,7 @@ before_of taken old i l below can =
           (can.limits k m);
       within = subst (λ (n : Nodes). IsWithinLimits (node_at n) l.cut.frame)
           (copy_front taken (old ∷ []) (i + 1) (omega (arith, below))) can.within;
+      few = can.few;
       many = can.many;
       room = subst (λ (n : Nodes). Each (HasRoomFor (size_of (node_at n) 0) (triangle_count (node_at n))) l.lists)
           (copy_front taken (old ∷ []) (i + 1) (omega (arith, below))) can.room;

@@ -1,7 +1,9 @@
 -- The states that the Frames of a history found.
-use Rattle.std.proofs.Common.{◌≡◌, ℕ, zero, suc, ◌+◌, Bool, true, false, cond, ◌&&◌, ◌==◌, List, [], ◌∷◌, map, take, slice_get, Some, refl, sym, ap, subst, eq-eqb}
+use Rattle.std.proofs.Common.{◌≡◌, ℕ, zero, suc, ◌+◌, Bool, true, false, cond, ◌&&◌, ◌==◌, List, [], ◌∷◌, map, length, take, slice_get, Some, refl, sym, ap, ◌∙◌, subst, eq-eqb}
+use Rattle.std.proofs.lemmas.List.{length-set, length-replicate}
 use Rattle.std.proofs.lemmas.Option.{same_Some}
 use Rattle.std.specs.List.{AllByRecursion}
+use Rattle.pf_model.specs.Angles.{home_view}
 use Rattle.pf_model.specs.Limits.{IsGraphWithinLimits}
 use Rattle.pf_model.specs.Copies.{put_all}
 use Rattle.pf_history.specs.declared.commands.Caller.{Caller}
@@ -91,17 +93,31 @@ found_reached ids s (e ∷ es) k x at =
     by true (suc k) first other at = reached_later s e es x (first k at)
     by false k first other at = reached_later s e es x (other k at)
 
--- What a Frame found: a graph within the limits, in preparation for the frame.
-pub record IsFound (x : FrameState) : Type 0 where
+-- a command keeps the number of views
+views_kept : (s : FrameState) (c : Command) → length (next_state s c).views ≡ length s.views
+views_kept s (command.Edit e) = refl
+views_kept s (command.Merge m) = refl
+views_kept s (command.View channel v) = length-set s.views channel v
+views_kept s (command.Sync r) = refl
+views_kept s command.Frame = refl
+
+views_kept_by : (s : FrameState) (log : Log) → length (state_after s log).views ≡ length s.views
+views_kept_by s [] = refl
+views_kept_by s (e ∷ es) = views_kept_by (next_state s e.1.command) es ∙ views_kept s e.1.command
+
+-- What a Frame found: a graph within the limits, in preparation for the frame, and a view for each channel.
+pub record IsFound (channels : ℕ) (x : FrameState) : Type 0 where
   pub limits : IsGraphWithinLimits x.graph
   pub time : x.graph.time ≡ x.frames + 1
+  pub views : length x.views ≡ channels
 
 pub frames_found : (channels : ℕ) (log : Log) → HasEditsInRange log → (k : ℕ) (x : FrameState) →
-    slice_get (found_by_frames channels log) k ≡ Some x → IsFound x
+    slice_get (found_by_frames channels log) k ≡ Some x → IsFound channels x
 frames_found channels log fit k x at =
     let r = found_reached [] (opening_state channels) log k x at in
-    subst IsFound (sym r.same)
+    subst (IsFound channels) (sym r.same)
     (record {
       limits = limits_law channels (take r.many log) (all_take (λ (e : ℕ × Entry). command_fits e.1.command ≡ true) r.many log fit);
       time = preparation_law channels (take r.many log);
+      views = views_kept_by (opening_state channels) (take r.many log) ∙ length-replicate channels home_view;
     })

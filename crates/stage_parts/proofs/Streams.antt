@@ -84,10 +84,10 @@ copied_at channels log loads of_cuts i l c at framed =
     ∙ copy_law channels log i c.found (get_map (λ (d : Cutting). d.found) (cuttings [] (opening_state channels) log) i c framed)
 
 -- the load that a Frame sent can be culled exactly where it was received
-can_cull : (channels : ℕ) (lens : Lens) (log : Log) → HasEditsInRange log → (loads : List LoadState) → AreOfCuts channels log loads →
+can_cull : (channels : ℕ) (lens : Lens) (log : Log) → channels ≤ 4 → HasEditsInRange log → (loads : List LoadState) → AreOfCuts channels log loads →
     (i : ℕ) (l : LoadState) (c : Cutting) → slice_get loads i ≡ Some l → slice_get (cuttings [] (opening_state channels) log) i ≡ Some c →
     l.cut ≡ cut_of_frame c → IsReady lens l → CanCull loads i l
-can_cull channels lens log fit loads of_cuts i l c at framed same ready =
+can_cull channels lens log four fit loads of_cuts i l c at framed same ready =
     let found = get_map (λ (d : Cutting). d.found) (cuttings [] (opening_state channels) log) i c framed in
     let is = frames_found channels log fit i c.found found in
     let long = get_length loads i l at in
@@ -100,6 +100,7 @@ can_cull channels lens log fit loads of_cuts i l c at framed same ready =
       within =
           subst (λ (n : Nodes). IsWithinLimits (node_at n) l.cut.frame) (sym copied)
           (subst (λ (t : ℕ). IsWithinLimits (node_at c.found.graph.nodes) t) time is.limits.within);
+      few = subst (λ (d : Cut). length d.views ≤ 4) (sym same) (subst (λ (n : ℕ). n ≤ 4) (sym is.views) four);
       many = ready.many;
       room =
           subst (λ (n : Nodes). Each (HasRoomFor (size_of (node_at n) 0) (triangle_count (node_at n))) l.lists) (sym copied)
@@ -175,9 +176,9 @@ record CameFrom (g : Setup) (s : PipeState) (i : ℕ) (l : LoadState) : Type 0 w
   pub numbers : l.stats ≡ made.stats
   pub drawn : AreImages g.lens (length made.lists) made.images → l.bytes ≡ painted g.lens g.back made.lists
 
-came_from : (g : Setup) (dbase : List BaseLine) (seats : Seats) (s : PipeState) → PipeFits g dbase seats s → HasEditsInRange s.log →
+came_from : (g : Setup) (dbase : List BaseLine) (seats : Seats) (s : PipeState) → g.channels ≤ 4 → PipeFits g dbase seats s → HasEditsInRange s.log →
     (i : ℕ) (l : LoadState) → slice_get (loads_in s.c.taken) i ≡ Some l → CameFrom g s i l
-came_from g dbase seats s fits fit i l at =
+came_from g dbase seats s four fits fit i l at =
     let log = s.log in
     let m = sent_load s.c.sent s.c.taken s.draw.held fits.link_c i l at in
     let d = get_match kept kept (loads_in (passed s.c.sent s.draw.held)) (loads_in s.b.taken) fits.draw.loads i l m in
@@ -191,7 +192,7 @@ came_from g dbase seats s fits fit i l at =
     let ready = fits.app.ready i w.was r in
     let of_cuts = loads_of_cuts g.channels log (loads_in (passed s.a.sent s.app.held)) (loads_in s.a.taken)
     (fits.app.cuts ∙ ap (map cut_of_frame) all) (sent_load s.a.sent s.a.taken s.app.held fits.link_a) in
-    let can = can_cull g.channels g.lens log fit (loads_in s.a.taken) of_cuts i w.was f.other w.stands framed f.alike ready in
+    let can = can_cull g.channels g.lens log four fit (loads_in s.a.taken) of_cuts i w.was f.other w.stands framed f.alike ready in
     record {
       frame = f.other;
       framed = framed;
@@ -262,10 +263,10 @@ all_streamed : (b n : ℕ) (fault : Option ℕ) (shown : List (List ℕ)) → b 
 all_streamed b n None shown l e m = append-nil (concat (take b shown)) ∙ ap concat (take_all b shown (omega (arith, e, m)))
 all_streamed b n (Some k) shown l e m = absurd (omega (arith, l, e))
 
-stream_is : CullingKeepsPictures → (g : Setup) (dbase : List BaseLine) (seats : Seats) (s : PipeState) → PipeFits g dbase seats s →
+stream_is : CullingKeepsPictures → (g : Setup) (dbase : List BaseLine) (seats : Seats) (s : PipeState) → g.channels ≤ 4 → PipeFits g dbase seats s →
     HasEditsInRange s.log →
     s.stream ≡ streamed s.app.written s.app.fault (pictures g.channels g.lens g.back s.log)
-stream_is culling g dbase seats s fits fit =
+stream_is culling g dbase seats s four fits fit =
     let none = no_end_taken s.c.sent s.c.taken s.draw.held fits.link_c fits.draw.ends in
     let shown = pictures g.channels g.lens g.back s.log in
     let loads = loads_in s.c.taken in
@@ -273,16 +274,16 @@ stream_is culling g dbase seats s fits fit =
     front_of (map (λ (l : LoadState). l.bytes) loads) shown
     (λ i x at.
     let l = get_mapped (λ (l : LoadState). l.bytes) loads i x at in
-    shows culling g s i l.from fit (came_from g dbase seats s fits fit i l.from l.stands) ∙ ap Some l.same) in
+    shows culling g s i l.from fit (came_from g dbase seats s four fits fit i l.from l.stands) ∙ ap Some l.same) in
     let many : length (map (λ (l : LoadState). l.bytes) loads) ≡ length s.c.taken = length-map loads _ ∙ many_loads s.c.taken none in
     let received : map bytes_in s.c.taken ≡ take (length s.c.taken) shown =
     all_loads s.c.taken none ∙ front ∙ ap (λ (n : ℕ). take n shown) many in
     fits.stream.bytes ∙ ap (streamed s.app.written s.app.fault) received
     ∙ streamed_front s.app.written (length s.c.taken) s.app.fault shown fits.stream.all
 
-numbers_are : (g : Setup) (dbase : List BaseLine) (seats : Seats) (s : PipeState) → PipeFits g dbase seats s → HasEditsInRange s.log →
+numbers_are : (g : Setup) (dbase : List BaseLine) (seats : Seats) (s : PipeState) → g.channels ≤ 4 → PipeFits g dbase seats s → HasEditsInRange s.log →
     s.app.stats ≡ take (length s.c.taken) (frame_numbers g.channels g.lens s.log)
-numbers_are g dbase seats s fits fit =
+numbers_are g dbase seats s four fits fit =
     let none = no_end_taken s.c.sent s.c.taken s.draw.held fits.link_c fits.draw.ends in
     let loads = loads_in s.c.taken in
     let counted = map (λ (l : LoadState). l.stats) loads in
@@ -290,20 +291,20 @@ numbers_are g dbase seats s fits fit =
     front_of counted (frame_numbers g.channels g.lens s.log)
     (λ i x at.
     let l = get_mapped (λ (l : LoadState). l.stats) loads i x at in
-    counts g s i l.from fit (came_from g dbase seats s fits fit i l.from l.stands) ∙ ap Some l.same) in
+    counts g s i l.from fit (came_from g dbase seats s four fits fit i l.from l.stands) ∙ ap Some l.same) in
     let many : length counted ≡ length s.c.taken = length-map loads _ ∙ many_loads s.c.taken none in
     fits.stream.numbers ∙ front ∙ ap (λ (n : ℕ). take n (frame_numbers g.channels g.lens s.log)) many
 
 pub stream_law : StreamLaw
-stream_law culling g dbase seats s fits fit =
-    let front = stream_is culling g dbase seats s fits fit in
+stream_law culling g dbase seats s four fits fit =
+    let front = stream_is culling g dbase seats s four fits fit in
     let begun = frames_begun g dbase seats s fits in
     let shown = pictures g.channels g.lens g.back s.log in
     let many : length shown ≡ s.app.frames = sym (frames_many g dbase seats s fits) in
     let found = found_by_frames g.channels s.log in
     let long : length (frame_numbers g.channels g.lens s.log) ≡ s.app.frames =
     length-map found (numbers_of_state g.lens) ∙ sym (length-map found (picture_of_state g.lens g.back)) ∙ many in
-    let counted = numbers_are g dbase seats s fits fit in
+    let counted = numbers_are g dbase seats s four fits fit in
     record {
       front = front;
       written = omega (arith, begun, fits.stream.all, fits.stream.begun);

@@ -56,7 +56,7 @@ pub record HasPictures (g : Setup) (s : PipeState) : Type 0 where
 abbrev pub StreamLaw : Type 0
 StreamLaw =
     CullingKeepsPictures → (g : Setup) (dbase : List BaseLine) (seats : Seats) (s : PipeState) →
-    PipeFits g dbase seats s → HasEditsInRange s.log → HasPictures g s
+    g.channels ≤ 4 → PipeFits g dbase seats s → HasEditsInRange s.log → HasPictures g s
 
 -- any two proofs that a pipe fits, or that a stage keeps its part, are equal
 pub record AreFacts (g : Setup) (dbase : List BaseLine) (seats : Seats) (s : PipeState) : Type 0 where

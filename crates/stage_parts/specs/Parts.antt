@@ -104,10 +104,11 @@ abbrev pub nameless : Instance → Instance
 nameless x = record x { id = 0 }
 
 -- The cull of the load that was received at a place can be exact: up to it the copies are within the limits, and it has
--- for each view a list with room for the copy.
+-- at most four views, and for each view a list with room for the copy.
 pub record CanCull (loads : List LoadState) (i : ℕ) (l : LoadState) : Type 0 where
   pub limits : (k : ℕ) → k ≤ i + 1 → KeepsLimits (node_at (copy_at loads k))
   pub within : IsWithinLimits (node_at (copy_at loads (i + 1))) l.cut.frame
+  pub few : length l.cut.views ≤ 4
   pub many : length l.lists ≡ length l.cut.views
   pub room : Each (HasRoomFor (size_of (node_at (copy_at loads (i + 1))) 0)
       (triangle_count (node_at (copy_at loads (i + 1))))) l.lists

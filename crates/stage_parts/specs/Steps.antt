@@ -27,6 +27,7 @@ use Rattle.stage_parts.specs.Parts.{carried, handed_back, IsCulled, CullPart, ke
 pub record CanCullNext (before : List LoadState) (nodes : Nodes) (l : LoadState) : Type 0 where
   pub limits : (k : ℕ) → k ≤ length before → KeepsLimits (node_at (copy_at before k))
   pub within : IsWithinLimits (node_at nodes) l.cut.frame
+  pub few : length l.cut.views ≤ 4
   pub many : length l.lists ≡ length l.cut.views
   pub room : Each (HasRoomFor (size_of (node_at nodes) 0) (triangle_count (node_at nodes))) l.lists
 
