@@ -1,0 +1,19 @@
+-- The usage `[--mode m] [--ahead n] [--make n]`, as a simple command of clap.
+use Rattle.std.specs.Prelude.{true, Some, codes}
+use Rattle.clap.specs.Words.{App, Rule, Text, new_app, new_rule, with_rule}
+use Rattle.clap.specs.Simple.{on_top}
+use Rattle.clap.specs.declared.builder.ArgAction.TheVariants.{Set}
+
+-- a long option with one value
+abbrev pub option_rule : Text → Rule
+option_rule name = record (new_rule name) { long = Some name; action = Some Set }
+
+-- the command without options: its words begin behind the program's name, and there is neither help nor version
+abbrev pub bare : App
+bare =
+    on_top (λ s. record s { no_binary_name = true; disable_help_flag = true; disable_version_flag = true })
+    (new_app (codes "perfly"))
+
+abbrev pub usage : App
+usage =
+    with_rule (with_rule (with_rule bare (option_rule (codes "mode"))) (option_rule (codes "ahead"))) (option_rule (codes "make"))

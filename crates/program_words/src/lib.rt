@@ -1,0 +1,13 @@
+//! The words after the program's name, read with clap.
+#![tactic(auto)]
+
+mod command;
+mod reading;
+mod values;
+mod words;
+
+pub use reading::read_words;
+pub use words::{Words, WordsError};
+
+#[cfg(test)]
+mod tests;
