@@ -1,5 +1,5 @@
 -- Where a triangle may be seen.
-use Rattle.std.specs.Prelude.{◌≡◌, ℕ, ◌+◌, ◌-◌, ◌*◌, ◌<◌, Option, Some, None, true, false, ℤ, pos, ◌+ℤ◌, ◌*ℤ◌, ◌≤ℤ◌, ◌<ℤ◌, unsigned_abs}
+use Rattle.std.specs.Prelude.{◌≡◌, ℕ, ◌+◌, ◌-◌, ◌*◌, ◌<◌, Option, Some, None, true, false, ℤ, pos, neg_ℤ, ◌+ℤ◌, ◌*ℤ◌, ◌≤ℤ◌, ◌<ℤ◌, unsigned_abs}
 use Rattle.std.specs.Int.{int_min, int_max}
 use Rattle.fx_math.specs.Plain.{Point}
 use Rattle.fx_math.specs.Fixed.{floor_div}
@@ -33,6 +33,39 @@ IsExtentOf lens u v w None = (px py : ℕ) (volume : ℤ) (e : Edges) → IsInsi
 IsExtentOf lens u v w (Some x) = (px py : ℕ) (volume : ℤ) (e : Edges) → IsInside lens px py u v w volume e
     → IsSeenIn lens x px py (depth_of lens volume e)
 
+-- the depths of the vertices lie between the lens's
+pub record IsDeepEnough (lens : Lens) (p : Point) : Type 0 where
+  pub low : lens.near ≤ℤ p.y
+  pub high : p.y ≤ℤ lens.far
+
+pub record AreBetween (lens : Lens) (u v w : Point) : Type 0 where
+  pub first : IsDeepEnough lens u
+  pub second : IsDeepEnough lens v
+  pub third : IsDeepEnough lens w
+
+-- all vertices are too near, or all too far
+pub record IsNearer (lens : Lens) (p : Point) : Type 0 where
+  pub near : p.y <ℤ lens.near
+
+pub record AreNearer (lens : Lens) (u v w : Point) : Type 0 where
+  pub first : IsNearer lens u
+  pub second : IsNearer lens v
+  pub third : IsNearer lens w
+
+pub record IsFarther (lens : Lens) (p : Point) : Type 0 where
+  pub far : lens.far <ℤ p.y
+
+pub record AreFarther (lens : Lens) (u v w : Point) : Type 0 where
+  pub first : IsFarther lens u
+  pub second : IsFarther lens v
+  pub third : IsFarther lens w
+
+-- the vertices lie before the eye
+pub record AreBefore (u v w : Point) : Type 0 where
+  pub first : pos 1 ≤ℤ u.y
+  pub second : pos 1 ≤ℤ v.y
+  pub third : pos 1 ≤ℤ w.y
+
 -- the span lies in a side of so many pixels, and has each of them from the least to the greatest place; where there is no
 -- span there is no such pixel
 pub record IsSpanFrom (size : ℕ) (least greatest : ℤ) (s : Span) : Type 0 where
@@ -56,6 +89,25 @@ least_of a b c = int_min (int_min a b) c
 
 abbrev pub greatest_of : (a b c : ℤ) → ℤ
 greatest_of a b c = int_max (int_max a b) c
+
+-- the pixel's column and row at which a point is seen
+abbrev pub column_of : Lens → Point → ℤ
+column_of lens p = place_of lens.f lens.w p.x p.y
+
+abbrev pub row_of : Lens → Point → ℤ
+row_of lens p = place_of lens.f lens.h (neg_ℤ p.z) p.y
+
+abbrev pub least_column : Lens → (u v w : Point) → ℤ
+least_column lens u v w = least_of (column_of lens u) (column_of lens v) (column_of lens w)
+
+abbrev pub greatest_column : Lens → (u v w : Point) → ℤ
+greatest_column lens u v w = greatest_of (column_of lens u) (column_of lens v) (column_of lens w)
+
+abbrev pub least_row : Lens → (u v w : Point) → ℤ
+least_row lens u v w = least_of (row_of lens u) (row_of lens v) (row_of lens w)
+
+abbrev pub greatest_row : Lens → (u v w : Point) → ℤ
+greatest_row lens u v w = greatest_of (row_of lens u) (row_of lens v) (row_of lens w)
 
 -- the box lies in the picture
 pub record IsInPicture (lens : Lens) (x : Extent) : Type 0 where

@@ -1,5 +1,5 @@
 //! The edge values of a triangle as functions of the pixel.
-ghost use Rattle.std.specs.Prelude.{IfSome};
+ghost use Rattle.std.specs.Prelude.{IfSome, IfNone};
 ghost use Rattle.tri_cover.specs.Linears.{IsNarrow, IsTotal};
 
 use crate::linear::Linear;
@@ -21,7 +21,7 @@ pub struct EdgeFunctions {
 
 impl EdgeFunctions {
     ghost use Rattle.tri_cover.specs.Normals.{AreShort};
-    ghost use Rattle.tri_cover.specs.Planes.{normal_of, AreEdgesOf};
+    ghost use Rattle.tri_cover.specs.Planes.{normal_of, AreEdgesOf, AreSmallPlanes};
 
     /// The edge values of a triangle whose vertices have this determinant, from the planes through its sides; None where a number
     /// would be too large.
@@ -34,6 +34,7 @@ impl EdgeFunctions {
     ) -> Option<EdgeFunctions>
         ensures value { IfSome result (λ g. AreEdgesOf lens.now volume (normal_of first) (normal_of second) (normal_of third) g) }
         ensures short { IfSome result (λ g. AreShort first.x first.y first.z) }
+        ensures small { IfNone result (AreSmallPlanes lens.now (normal_of first) (normal_of second) (normal_of third) → ⊥) }
     {
         let e0 = first.facing(volume).linear(lens)?;
         let e1 = second.facing(volume).linear(lens)?;

@@ -28,4 +28,6 @@ pub use ready::{Ready, face_of};
 pub use stepper::Stepper;
 
 #[cfg(test)]
+mod face_tests;
+#[cfg(test)]
 mod tests;

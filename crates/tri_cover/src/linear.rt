@@ -1,5 +1,5 @@
 //! Linear functions of the pixel.
-ghost use Rattle.std.specs.Prelude.{◌≡◌, ◌<◌, ◌^◌};
+ghost use Rattle.std.specs.Prelude.{◌≡◌, ◌<◌, ◌^◌, pos, ◌+ℤ◌, ◌*ℤ◌};
 ghost use Rattle.fx_math.specs.Limits.{size_limit};
 ghost use Rattle.fx_math.specs.Within.{IsWithin};
 ghost use Rattle.tri_cover.specs.Coefficients.{AreWide};
@@ -23,7 +23,7 @@ impl Linear {
         ensures value { result ≡ value_at self.now px py }
         ensures bound { IsWithin (2 ^ 55) result }
     {
-        self.a * i64::from(px) + self.b * i64::from(py) + self.c
+        sum_of(times(self.a, px), times(self.b, py), self.c)
     }
 
     /// The sum of three edge values.
@@ -34,9 +34,48 @@ impl Linear {
         ensures { IsTotal e0 e1 e2 result }
     {
         Linear {
-            a: e0.a + e1.a + e2.a,
-            b: e0.b + e1.b + e2.b,
-            c: e0.c + e1.c + e2.c,
+            a: slope(e0.a, e1.a, e2.a),
+            b: slope(e0.b, e1.b, e2.b),
+            c: constant(e0.c, e1.c, e2.c),
         }
     }
+}
+
+fn times(slope: i64, place: u16) -> i64
+    requires slope { IsWithin (2 ^ 43) slope }
+    requires place { place < size_limit }
+    ensures value { result ≡ slope *ℤ pos place }
+    ensures bound { IsWithin (2 ^ 53) result }
+{
+    slope * i64::from(place)
+}
+
+fn sum_of(x: i64, y: i64, c: i64) -> i64
+    requires x { IsWithin (2 ^ 53) x }
+    requires y { IsWithin (2 ^ 53) y }
+    requires c { IsWithin (2 ^ 54) c }
+    ensures value { result ≡ x +ℤ y +ℤ c }
+    ensures bound { IsWithin (2 ^ 55) result }
+{
+    x + y + c
+}
+
+fn slope(x: i64, y: i64, z: i64) -> i64
+    requires x { IsWithin (2 ^ 41) x }
+    requires y { IsWithin (2 ^ 41) y }
+    requires z { IsWithin (2 ^ 41) z }
+    ensures value { result ≡ x +ℤ y +ℤ z }
+    ensures bound { IsWithin (2 ^ 43) result }
+{
+    x + y + z
+}
+
+fn constant(x: i64, y: i64, z: i64) -> i64
+    requires x { IsWithin (2 ^ 52) x }
+    requires y { IsWithin (2 ^ 52) y }
+    requires z { IsWithin (2 ^ 52) z }
+    ensures value { result ≡ x +ℤ y +ℤ z }
+    ensures bound { IsWithin (2 ^ 54) result }
+{
+    x + y + z
 }

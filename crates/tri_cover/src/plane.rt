@@ -2,14 +2,12 @@
 //!
 //! The scalar product of such a plane's normal with the ray of a pixel is an edge value, and it is linear in the pixel.
 //! Normals of 40 bits keep its coefficients in 64 bits.
-ghost use Rattle.std.specs.Prelude.{◌≡◌, ◌↔◌, ◌*◌, ◌≤◌, ◌^◌, pos, neg_ℤ, ◌-ℤ◌, ◌*ℤ◌, IsTrue, IfSome};
+ghost use Rattle.std.specs.Prelude.{◌≡◌, ◌↔◌, ◌*◌, ◌^◌, pos, neg_ℤ, ◌+ℤ◌, ◌-ℤ◌, ◌*ℤ◌, IsTrue, IfSome, IfNone};
 ghost use Rattle.fx_math.specs.Within.{IsWithin, IsCoordinate};
-ghost use Rattle.fx_math.specs.Plain.{point};
 ghost use Rattle.fx_math.specs.Views.{point_of};
-ghost use Rattle.tri_cover.specs.Normals.{AreNormal, AreShort};
+ghost use Rattle.tri_cover.specs.Normals.{AreNormal, AreShort, turned};
 
 use crate::linear::Linear;
-use crate::ray::ray;
 use fx_math::{Lens, Vec3};
 
 /// The greatest magnitude of a normal's coordinate, for edge values.
@@ -28,8 +26,7 @@ pub(crate) struct Plane {
 }
 
 impl Plane {
-    ghost use Rattle.fx_math.specs.Hit.{ray};
-    ghost use Rattle.tri_cover.specs.Planes.{normal_of, cross, product, turned_point, IsLinearOf};
+    ghost use Rattle.tri_cover.specs.Planes.{normal_of, cross, product, turned_point, IsSmallPlane, IsLinearOf};
 
     /// The plane through the eye and two points: its normal is their cross product.
     pub(crate) fn through(p: Vec3, q: Vec3) -> Plane
@@ -47,21 +44,17 @@ impl Plane {
         ensures value { result ≡ product (point_of p) (normal_of self.now) }
         ensures bound { IsWithin (3 * 2 ^ 91) result }
     {
-        weigh(p.x, self.x) + weigh(p.y, self.y) + weigh(p.z, self.z)
+        sum(weigh(p.x, self.x), weigh(p.y, self.y), weigh(p.z, self.z))
     }
 
     /// The plane, with its normal turned where the determinant `volume` is below 0.
     pub(crate) fn facing(self, volume: i128) -> Plane
         ensures { normal_of result ≡ turned_point volume (normal_of self) }
     {
-        if volume < 0 {
-            Plane {
-                x: -self.x,
-                y: -self.y,
-                z: -self.z,
-            }
-        } else {
-            self
+        Plane {
+            x: turn(volume, self.x),
+            y: turn(volume, self.y),
+            z: turn(volume, self.z),
         }
     }
 
@@ -69,6 +62,7 @@ impl Plane {
     pub(crate) fn linear(&self, lens: &Lens) -> Option<Linear>
         ensures value { IfSome result (λ g. IsLinearOf lens.now (normal_of self.now) g) }
         ensures short { IfSome result (λ g. AreShort self.now.x self.now.y self.now.z) }
+        ensures small { IfNone result (IsSmallPlane lens.now (normal_of self.now) → ⊥) }
     {
         if !self.is_short() {
             return None;
@@ -78,8 +72,8 @@ impl Plane {
             return None;
         }
         Some(Linear {
-            a: 2 * self.x,
-            b: -2 * self.z,
+            a: double(self.x),
+            b: double(negated(self.z)),
             c,
         })
     }
@@ -87,10 +81,15 @@ impl Plane {
     /// The edge value at the first pixel.
     fn at_first(&self, lens: &Lens) -> i64
         requires { AreShort self.now.x self.now.y self.now.z }
-        ensures { result ≡ product (ray lens.now 0 0) (normal_of self.now) }
+        ensures value { result ≡ (pos 1 -ℤ pos lens.now.w) *ℤ self.now.x +ℤ pos (2 * lens.now.f) *ℤ self.now.y
+            +ℤ (pos lens.now.h -ℤ pos 1) *ℤ self.now.z }
+        ensures bound { IsWithin (2 ^ 59) result }
     {
-        let [x, y, z] = ray(lens, 0, 0);
-        x * self.x + y * self.y + z * self.z
+        add(
+            term(left(lens), self.x),
+            term(ahead(lens), self.y),
+            term(top(lens), self.z),
+        )
     }
 
     fn is_short(&self) -> bool
@@ -108,7 +107,16 @@ fn minor(a: i32, b: i32, c: i32, d: i32) -> i64
     ensures value { result ≡ a *ℤ d -ℤ b *ℤ c }
     ensures bound { IsWithin (2 ^ 61) result }
 {
-    i64::from(a) * i64::from(d) - i64::from(b) * i64::from(c)
+    times(a, d) - times(b, c)
+}
+
+fn times(a: i32, b: i32) -> i64
+    requires a { IsCoordinate a }
+    requires b { IsCoordinate b }
+    ensures value { result ≡ a *ℤ b }
+    ensures bound { IsWithin (2 ^ 60) result }
+{
+    i64::from(a) * i64::from(b)
 }
 
 fn weigh(coordinate: i32, normal: i64) -> i128
@@ -118,6 +126,81 @@ fn weigh(coordinate: i32, normal: i64) -> i128
     ensures bound { IsWithin (2 ^ 91) result }
 {
     i128::from(coordinate) * i128::from(normal)
+}
+
+fn sum(x: i128, y: i128, z: i128) -> i128
+    requires x { IsWithin (2 ^ 91) x }
+    requires y { IsWithin (2 ^ 91) y }
+    requires z { IsWithin (2 ^ 91) z }
+    ensures value { result ≡ x +ℤ y +ℤ z }
+    ensures bound { IsWithin (3 * 2 ^ 91) result }
+{
+    x + y + z
+}
+
+/// The ray of the first pixel to the right, forward and up.
+fn left(lens: &Lens) -> i64
+    ensures value { result ≡ pos 1 -ℤ pos lens.now.w }
+    ensures bound { IsWithin (2 ^ 17) result }
+{
+    1 - i64::from(lens.w)
+}
+
+fn ahead(lens: &Lens) -> i64
+    ensures value { result ≡ pos (2 * lens.now.f) }
+    ensures bound { IsWithin (2 ^ 17) result }
+{
+    2 * i64::from(lens.f)
+}
+
+fn top(lens: &Lens) -> i64
+    ensures value { result ≡ pos lens.now.h -ℤ pos 1 }
+    ensures bound { IsWithin (2 ^ 17) result }
+{
+    i64::from(lens.h) - 1
+}
+
+fn term(ray: i64, normal: i64) -> i64
+    requires ray { IsWithin (2 ^ 17) ray }
+    requires normal { IsWithin (2 ^ 40) normal }
+    ensures value { result ≡ ray *ℤ normal }
+    ensures bound { IsWithin (2 ^ 57) result }
+{
+    ray * normal
+}
+
+fn add(x: i64, y: i64, z: i64) -> i64
+    requires x { IsWithin (2 ^ 57) x }
+    requires y { IsWithin (2 ^ 57) y }
+    requires z { IsWithin (2 ^ 57) z }
+    ensures value { result ≡ x +ℤ y +ℤ z }
+    ensures bound { IsWithin (2 ^ 59) result }
+{
+    x + y + z
+}
+
+fn turn(volume: i128, z: i64) -> i64
+    requires { IsWithin (2 ^ 61) z }
+    ensures value { result ≡ turned volume z }
+    ensures bound { IsWithin (2 ^ 61) result }
+{
+    if volume < 0 { -z } else { z }
+}
+
+fn negated(z: i64) -> i64
+    requires { IsWithin (2 ^ 40) z }
+    ensures value { result ≡ neg_ℤ z }
+    ensures bound { IsWithin (2 ^ 40) result }
+{
+    -z
+}
+
+fn double(z: i64) -> i64
+    requires { IsWithin (2 ^ 40) z }
+    ensures value { result ≡ pos 2 *ℤ z }
+    ensures bound { IsWithin (2 ^ 41) result }
+{
+    2 * z
 }
 
 fn is_small(z: i64) -> bool

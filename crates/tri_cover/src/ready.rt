@@ -1,13 +1,14 @@
 //! Triangles made ready for the pixels of a picture.
 ghost use Rattle.std.specs.Prelude.{◌≡◌, ◌*◌, ◌<◌, ◌^◌, unsigned_abs};
 ghost use Rattle.fx_math.specs.Within.{IsWithin};
-ghost use Rattle.tri_cover.specs.Readiness.{IsReady};
+ghost use Rattle.fx_math.specs.Views.{point_of};
+ghost use Rattle.tri_cover.specs.Readiness.{IsReady, Foretells};
 
 use crate::edge_functions::EdgeFunctions;
 use crate::face::Face;
 use crate::plane::Plane;
 use crate::seen::extent_of;
-use fx_math::Lens;
+use fx_math::{Lens, Vec3};
 use pf_model::Tri;
 
 /// What is known of a triangle in a picture before its pixels are looked at.
@@ -26,6 +27,12 @@ pub fn face_of(tri: &Tri, lens: &Lens) -> Ready
     ensures { IsReady lens.now tri.now result }
 {
     let [u, v, w] = tri.v;
+    face_of_vertices(u, v, w, tri.c, lens)
+}
+
+fn face_of_vertices(u: Vec3, v: Vec3, w: Vec3, colours: [[u8; 3]; 3], lens: &Lens) -> Ready
+    ensures { Foretells lens.now (point_of u) (point_of v) (point_of w) colours result }
+{
     let first = Plane::through(v, w);
     let volume = first.volume(u);
     if volume == 0 {
@@ -44,7 +51,7 @@ pub fn face_of(tri: &Tri, lens: &Lens) -> Ready
         dividend: dividend(lens.f, volume),
         extent,
         nearest: u.y.min(v.y).min(w.y),
-        colours: tri.c,
+        colours,
     })
 }
 
