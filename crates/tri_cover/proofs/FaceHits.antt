@@ -42,15 +42,15 @@ third_false true false false x p = refl
 third_false false b false x p = refl
 third_false a b true x p = cc
 
-shown : (f : Face) (px py : ℕ) → is_in_box f.extent px py ≡ true → is_covered f px py ≡ true → is_seen_at f.extent (depth_at f px py) ≡ true → face_hit f px py ≡ Some (record { depth = depth_at f px py; colour = colour_at f px py })
+pub shown : (f : Face) (px py : ℕ) → is_in_box f.extent px py ≡ true → is_covered f px py ≡ true → is_seen_at f.extent (depth_at f px py) ≡ true → face_hit f px py ≡ Some (record { depth = depth_at f px py; colour = colour_at f px py })
 unfolding face_hit
 shown f px py p q r = all_true (is_in_box f.extent px py) (is_covered f px py) (is_seen_at f.extent (depth_at f px py)) _ p q r
 
-not_covered : (f : Face) (px py : ℕ) → is_covered f px py ≡ false → face_hit f px py ≡ None
+pub not_covered : (f : Face) (px py : ℕ) → is_covered f px py ≡ false → face_hit f px py ≡ None
 unfolding face_hit
 not_covered f px py q = second_false (is_in_box f.extent px py) (is_covered f px py) (is_seen_at f.extent (depth_at f px py)) _ q
 
-not_seen : (f : Face) (px py : ℕ) → is_seen_at f.extent (depth_at f px py) ≡ false → face_hit f px py ≡ None
+pub not_seen : (f : Face) (px py : ℕ) → is_seen_at f.extent (depth_at f px py) ≡ false → face_hit f px py ≡ None
 unfolding face_hit
 not_seen f px py r = third_false (is_in_box f.extent px py) (is_covered f px py) (is_seen_at f.extent (depth_at f px py)) _ r
 

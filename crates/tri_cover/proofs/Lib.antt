@@ -3,6 +3,7 @@ pub mod AnyOrder
 pub mod Depths
 pub mod EdgeLines
 pub mod FaceHits
+pub mod FaceValues
 pub mod Filtering
 pub mod GlassOrder
 pub mod Judgement
