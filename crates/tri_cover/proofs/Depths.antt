@@ -1,11 +1,10 @@
 -- The depths of pixels inside a triangle lie between those of its vertices.
-use Rattle.std.proofs.Common.{◌≡◌, ℕ, ◌+◌, ◌*◌, ◌≤◌, Bool, true, false, ◌&&◌, nat_le, ap, ◌∙◌, sym, arith}
-use Rattle.std.specs.Prelude.{ℤ, pos, ◌+ℤ◌, ◌-ℤ◌, ◌*ℤ◌, ◌≤ℤ◌, ◌<ℤ◌, unsigned_abs, int_le}
+use Rattle.std.proofs.Common.{◌≡◌, ℕ, ◌*◌, ◌≤◌, true, false, ◌&&◌, nat_le, ap, ◌∙◌, arith}
+use Rattle.std.specs.Prelude.{ℤ, pos, ◌+ℤ◌, ◌*ℤ◌, ◌≤ℤ◌, ◌<ℤ◌, unsigned_abs, int_le}
 use Rattle.std.proofs.lemmas.Int.{ints}
 use Rattle.std.proofs.lemmas.Bool.Decides.{nat_tests}
 use lib.IntN.{*ℤ_comm, *ℤ-zero}
 use Rattle.fx_math.specs.Plain.{Point}
-use Rattle.fx_math.specs.Fixed.{floor_div}
 use Rattle.fx_math.specs.declared.lenses.Lens.{Lens}
 use Rattle.fx_math.specs.Hit.{Edges, sum_of, ray, is_in_depth, depth_of}
 use Rattle.fx_math.proofs.Ring.{expand, linear, order}

@@ -1,5 +1,5 @@
 -- Edge values as linear functions of the pixel.
-use Rattle.std.proofs.Common.{◌≡◌, ℕ, ◌*◌, ◌+◌, ◌^◌, lit≤, Bool, true, false, if◌then◌else◌, sym, ap, ◌∙◌, subst, arith, refl}
+use Rattle.std.proofs.Common.{◌≡◌, ℕ, ◌*◌, ◌^◌, lit≤, Bool, true, false, if◌then◌else◌, sym, ap, ◌∙◌, subst, arith, refl}
 use Rattle.std.specs.Prelude.{ℤ, pos, neg_ℤ, ◌+ℤ◌, ◌-ℤ◌, ◌*ℤ◌, int_lt}
 use Rattle.std.proofs.lemmas.Int.{ints}
 use Rattle.fx_math.specs.Within.{IsWithin}
@@ -7,7 +7,7 @@ use Rattle.fx_math.specs.Plain.{Point, point}
 use Rattle.fx_math.specs.Views.{point_of}
 use Rattle.fx_math.specs.declared.vectors.Vec3.{Vec3}
 use Rattle.fx_math.proofs.Size.{within_add, within_neg, within_mul, within_more}
-use Rattle.fx_math.specs.Hit.{Edges, edges, sum_of, det3, ray}
+use Rattle.fx_math.specs.Hit.{Edges, edges, det3, ray}
 use Rattle.fx_math.specs.declared.lenses.Lens.{Lens}
 use Rattle.fx_math.proofs.Ring.{expand, linear}
 use Rattle.tri_cover.specs.declared.linear.Linear.{Linear}

@@ -1,6 +1,6 @@
 -- The hits of a face are those of its triangle.
-use Rattle.std.proofs.Common.{◌≡◌, ◌≢◌, ℕ, ◌+◌, ◌*◌, ◌/◌, ◌<◌, Bool, true, false, ◌&&◌, if◌then◌else◌, Option, Some, None, List, sym, ap, ◌∙◌, subst, arith, refl}
-use Rattle.std.specs.Prelude.{ℤ, pos, ◌+ℤ◌, ◌*ℤ◌, ◌<ℤ◌, ◌≤ℤ◌, int_le, int_lt, unsigned_abs}
+use Rattle.std.proofs.Common.{◌≡◌, ◌≢◌, ℕ, ◌+◌, ◌*◌, ◌/◌, ◌<◌, Bool, true, false, ◌&&◌, if◌then◌else◌, Some, None, List, sym, ap, ◌∙◌, subst, arith, refl}
+use Rattle.std.specs.Prelude.{ℤ, pos, ◌+ℤ◌, ◌*ℤ◌, ◌<ℤ◌, ◌≤ℤ◌, int_lt, unsigned_abs}
 use Rattle.std.proofs.lemmas.Int.{ints}
 use Rattle.fx_math.specs.Plain.{Point}
 use Rattle.fx_math.specs.Fixed.{floor_div}
@@ -9,7 +9,6 @@ use Rattle.fx_math.specs.Laws.{weighed, scaled}
 use Rattle.fx_math.specs.Hit.{Edges, edges, sum_of, det3, ray, is_in_depth, depth_of}
 use Rattle.fx_math.proofs.Cramer.{cramer}
 use Rattle.tri_cover.specs.declared.face.Face.{Face}
-use Rattle.tri_cover.specs.declared.hit.Hit.{Hit}
 use Rattle.tri_cover.specs.Edges.{are_not_below_zero}
 use Rattle.tri_cover.specs.Hits.{mean, mean_colour, channel, judged, hit_of}
 use Rattle.tri_cover.specs.Linears.{value_at, weight_at}

@@ -1,7 +1,6 @@
 -- The values of a face's functions at the pixels of a picture.
-use Rattle.std.proofs.Common.{◌≡◌, ℕ, ◌+◌, ◌*◌, ◌^◌, ◌≤◌, ◌<◌, arith, lit≤, ◌∙◌, sym, ap}
-use Rattle.std.specs.Prelude.{ℤ, pos, ◌+ℤ◌, ◌*ℤ◌, ◌≤ℤ◌, ◌<ℤ◌}
-use Rattle.std.proofs.lemmas.Int.{ints}
+use Rattle.std.proofs.Common.{ℕ, ◌^◌, ◌<◌, arith, lit≤}
+use Rattle.std.specs.Prelude.{pos}
 use Rattle.fx_math.specs.Within.{IsWithin}
 use Rattle.fx_math.specs.Limits.{size_limit}
 use Rattle.fx_math.proofs.Size.{within_add, within_mul, within_more}

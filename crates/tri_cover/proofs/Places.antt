@@ -1,14 +1,13 @@
 -- The pixels inside a triangle lie between those of its vertices.
-use Rattle.std.proofs.Common.{◌≡◌, ℕ, ◌+◌, ◌-◌, ◌*◌, ◌≤◌, ap, ◌∙◌, sym, arith}
+use Rattle.std.proofs.Common.{◌≡◌, ℕ, ◌+◌, ◌-◌, ◌*◌, ◌≤◌, ap, ◌∙◌, arith}
 use Rattle.std.specs.Prelude.{ℤ, pos, neg_ℤ, ◌+ℤ◌, ◌-ℤ◌, ◌*ℤ◌, ◌≤ℤ◌, ◌<ℤ◌}
 use Rattle.std.proofs.lemmas.Int.{ints, clamps}
 use Rattle.fx_math.specs.Plain.{Point}
-use Rattle.fx_math.specs.Fixed.{floor_div}
 use Rattle.fx_math.specs.declared.lenses.Lens.{Lens}
-use Rattle.fx_math.specs.Hit.{Edges, sum_of, ray}
+use Rattle.fx_math.specs.Hit.{Edges, ray}
 use Rattle.fx_math.proofs.Ring.{expand, linear, order, times_lt, mul-neg}
 use Rattle.fx_math.proofs.Floor.{least_floor, below_floor}
-use lib.IntN.{*ℤ_comm, *ℤ-zero}
+use lib.IntN.{*ℤ-zero}
 use Rattle.tri_cover.specs.Extents.{IsInside, AreBefore, place_times, place_of, least_of, greatest_of}
 use Rattle.tri_cover.proofs.Weighing.{AreWeights, mix, mean_at_least, mean_below}
 use Rattle.tri_cover.proofs.Depths.{weights_of, sum_above}

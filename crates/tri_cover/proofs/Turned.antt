@@ -2,12 +2,12 @@
 use Rattle.std.proofs.Common.{◌≡◌, ◌≢◌, ℕ, ◌*◌, Bool, true, false, ◌&&◌, ◌||◌, if◌then◌else◌, List, sym, ap, ◌∙◌, arith, refl}
 use Rattle.std.specs.Prelude.{ℤ, pos, neg_ℤ, ◌+ℤ◌, ◌*ℤ◌, ◌≤ℤ◌, ◌<ℤ◌, int_lt, int_le, unsigned_abs}
 use Rattle.std.proofs.lemmas.Int.{ints}
-use Rattle.fx_math.specs.Plain.{Point, point}
+use Rattle.fx_math.specs.Plain.{Point}
 use Rattle.fx_math.specs.Fixed.{floor_div}
 use Rattle.fx_math.specs.Laws.{weighed, scaled}
 use Rattle.fx_math.specs.declared.lenses.Lens.{Lens}
 use Rattle.fx_math.specs.Hit.{Edges, sum_of, is_inside, is_in_depth, depth_of}
-use Rattle.fx_math.proofs.Ring.{expand, linear, order, mul-neg, neg-mul}
+use Rattle.fx_math.proofs.Ring.{linear, order, mul-neg, neg-mul}
 use Rattle.fx_math.proofs.Floor.{floor_neg}
 use Rattle.fx_math.proofs.Same.{point_same}
 use Rattle.tri_cover.specs.Hits.{mean, mean_colour, channel, judged}

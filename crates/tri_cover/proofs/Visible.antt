@@ -1,15 +1,15 @@
 -- Extents hold what is seen of a triangle.
 use Rattle.std.proofs.Common.{◌≡◌, ℕ, ◌+◌, ◌<◌, ◌≤◌, Bool, true, false, ◌&&◌, nat_le, Option, Some, None, ap, ◌∙◌, sym, subst, arith, refl}
-use Rattle.std.specs.Prelude.{ℤ, pos, neg_ℤ, ◌+ℤ◌, ◌≤ℤ◌, ◌<ℤ◌, unsigned_abs}
+use Rattle.std.specs.Prelude.{ℤ, pos, neg_ℤ, ◌+ℤ◌, ◌≤ℤ◌, unsigned_abs}
 use Rattle.std.proofs.lemmas.Int.{ints}
 use Rattle.std.proofs.lemmas.Bool.Decides.{nat_tests}
 use Rattle.fx_math.specs.Plain.{Point}
 use Rattle.fx_math.specs.declared.lenses.Lens.{Lens}
-use Rattle.fx_math.specs.Hit.{Edges, is_in_depth, depth_of}
+use Rattle.fx_math.specs.Hit.{depth_of}
 use Rattle.tri_cover.specs.declared.extent.Extent.{Extent}
 use Rattle.tri_cover.specs.declared.extent.Span.{Span}
-use Rattle.tri_cover.specs.Extents.{IsInside, IsSeenIn, IsExtentOf, AreBetween, AreNearer, AreFarther, AreBefore, IsSpanFrom, IsSpanOf, IsWhole, least_of, greatest_of, least_column, greatest_column, least_row, greatest_row}
-use Rattle.tri_cover.specs.Faces.{is_in_span, is_in_box, is_seen_at}
+use Rattle.tri_cover.specs.Extents.{IsExtentOf, AreBetween, AreNearer, AreFarther, AreBefore, IsSpanFrom, IsSpanOf, IsWhole, least_of, greatest_of, least_column, greatest_column, least_row, greatest_row}
+use Rattle.tri_cover.specs.Faces.{is_in_span}
 use Rattle.tri_cover.proofs.Depths.{depth_at_least, depth_at_most, depth_not_below, too_near, too_far, in_depth, same_depths, most_far}
 use Rattle.tri_cover.proofs.Places.{IsBetween, columns_between, rows_between}
 

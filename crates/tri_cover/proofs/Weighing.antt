@@ -1,8 +1,8 @@
 -- Means of three numbers, weighed by numbers that are not below 0.
-use Rattle.std.proofs.Common.{◌≡◌, arith, ◌∙◌, ap, sym}
+use Rattle.std.proofs.Common.{◌≡◌, arith, ◌∙◌, ap}
 use Rattle.std.specs.Prelude.{ℤ, pos, ◌+ℤ◌, ◌*ℤ◌, ◌≤ℤ◌, ◌<ℤ◌}
 use Rattle.std.proofs.lemmas.Int.{ints, by_lt_z}
-use Rattle.fx_math.proofs.Ring.{expand, linear, order, times_le, times_lt, mul-add, times_one}
+use Rattle.fx_math.proofs.Ring.{expand, linear, order, times_le, times_lt, times_one}
 
 -- the weights
 pub record AreWeights (a b c : ℤ) : Type 0 where

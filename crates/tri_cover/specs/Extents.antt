@@ -4,7 +4,7 @@ use Rattle.std.specs.Int.{int_min, int_max}
 use Rattle.fx_math.specs.Plain.{Point}
 use Rattle.fx_math.specs.Fixed.{floor_div}
 use Rattle.fx_math.specs.Laws.{weighed, scaled}
-use Rattle.fx_math.specs.Hit.{Edges, sum_of, ray, is_in_depth, depth_of}
+use Rattle.fx_math.specs.Hit.{Edges, ray, is_in_depth, depth_of}
 use Rattle.fx_math.specs.declared.lenses.Lens.{Lens}
 use Rattle.tri_cover.specs.declared.extent.Extent.{Extent}
 use Rattle.tri_cover.specs.declared.extent.Span.{Span}

@@ -1,5 +1,5 @@
 -- Planes through the eye and two points, by their normals.
-use Rattle.std.specs.Prelude.{◌≡◌, ℕ, ◌^◌, if◌then◌else◌, ℤ, pos, neg_ℤ, ◌+ℤ◌, ◌-ℤ◌, ◌*ℤ◌, int_lt}
+use Rattle.std.specs.Prelude.{◌≡◌, ℕ, ◌^◌, ℤ, ◌+ℤ◌, ◌-ℤ◌, ◌*ℤ◌}
 use Rattle.fx_math.specs.Within.{IsWithin}
 use Rattle.fx_math.specs.Plain.{Point, point}
 use Rattle.fx_math.specs.Hit.{ray}

@@ -9,7 +9,7 @@ use Rattle.fx_math.proofs.Size.{back}
 use Rattle.tri_cover.specs.declared.extent.Extent.{Extent}
 use Rattle.tri_cover.specs.Extents.{IsExtentOf}
 use Rattle.tri_cover.specs.Planes.{normal_of, cross, product, AreEdgesOf}
-use Rattle.tri_cover.proofs.EdgeLines.{det_first, product_short, edges_same, small_same}
+use Rattle.tri_cover.proofs.EdgeLines.{det_first, product_short, edges_same}
 use Rattle.tri_cover.proofs.FaceHits.{flat_hits, unseen_hits, face_hits}
 use Rattle.tri_cover.proofs.ready.face_of_vertices.Goals as goal
 

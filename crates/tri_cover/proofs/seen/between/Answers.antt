@@ -1,4 +1,4 @@
-use Rattle.std.proofs.Common.{◌≡◌, Option, Some, None, sym, subst, refl}
+use Rattle.std.proofs.Common.{Option, sym, subst, refl}
 use Rattle.fx_math.specs.Views.{point_of}
 use Rattle.tri_cover.specs.declared.extent.Extent.{Extent}
 use Rattle.tri_cover.specs.Extents.{IsExtentOf}

@@ -1,4 +1,4 @@
-use Rattle.std.proofs.Common.{◌≡◌, ℤ, w64, FitsSigned, to_z, of_z, ◌∙◌, rules}
+use Rattle.std.proofs.Common.{w64, FitsSigned, ◌∙◌, rules}
 use Rattle.std.proofs.lemmas.Int.{to_z-of_z}
 use Rattle.fx_math.specs.Views.{point_of}
 use Rattle.tri_cover.specs.Extents.{row_of}
