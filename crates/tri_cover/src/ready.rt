@@ -22,7 +22,8 @@ pub enum Ready {
     Slow,
 }
 
-/// Makes a triangle in eye coordinates ready for the pixels of a picture.
+/// Makes a triangle in eye coordinates ready for the pixels of a picture: what it answers holds at each of them, on either side
+/// of the triangle. It takes no memory.
 pub fn face_of(tri: &Tri, lens: &Lens) -> Ready
     ensures { IsReady lens.now tri.now result }
 {
@@ -38,13 +39,13 @@ fn face_of_vertices(u: Vec3, v: Vec3, w: Vec3, colours: [[u8; 3]; 3], lens: &Len
     if volume == 0 {
         return Ready::Nothing;
     }
+    let Some(extent) = extent_of(u, v, w, lens) else {
+        return Ready::Nothing;
+    };
     let second = Plane::through(w, u);
     let third = Plane::through(u, v);
     let Some(edges) = EdgeFunctions::new(first, second, third, volume, lens) else {
         return Ready::Slow;
-    };
-    let Some(extent) = extent_of(u, v, w, lens) else {
-        return Ready::Nothing;
     };
     Ready::Face(Face {
         edges,
