@@ -1,0 +1,9 @@
+pub mod Written
+pub mod Filling
+pub mod Serials
+pub mod Edited
+pub mod Opened
+pub mod Kept
+pub mod Loops
+pub mod Taken
+pub mod Rooms

@@ -1,0 +1,40 @@
+-- A Sync is made, and its entry added.
+use Rattle.std.proofs.Common.{◌+◌, ◌≤◌, ◌∙◌, ◌++◌, [], ◌∷◌, length, ap, sym, subst, refl, arith}
+use Rattle.std.proofs.lemmas.List.{length-append}
+use Rattle.pf_model.specs.Room.{SerialsSoFar}
+use Rattle.pf_model.specs.Copies.{freed_by}
+use Rattle.pf_history.specs.declared.commands.Command.TheVariants as command
+use Rattle.pf_history.specs.declared.commands.Reply.TheVariants as reply
+use Rattle.pf_history.specs.Objects.{FrameState}
+use Rattle.pf_history.specs.Logs.{Log}
+use Rattle.pf_scene.specs.Scenes.{SceneState, state_in}
+use Rattle.pf_scene.proofs.Kept.{scene_entered, light_enough, entry_is, sync_state, few_freed}
+use Rattle.pf_scene.proofs.scene.Scene.sync.Goals as goal
+
+pub tell_again-requires : goal.tell_again-requires
+tell_again-requires c =
+    let graves = c.self.inside.world.graves in
+    let told = ap length (c.as_slice.ensures ∙ c.finish-freed.ensures ∙ c.sync.ensures.freed) in
+    let both = length-append c.in_ok-freed.freed.items (freed_by c.args.retired graves) in
+    let none = ap (λ (b : SerialsSoFar). length b.items) c.in_ok-freed.ensures in
+    let room = ap (λ (b : SerialsSoFar). b.spare) c.in_ok-told.ensures in
+    let few = few_freed c.args.retired graves in
+    let many = c.graves-graves.ensures in
+    omega (arith, told, both, none, room, few, many)
+
+pub invariant_of-self-2 : goal.invariant_of-self-2
+invariant_of-self-2 c =
+    let i = c.self.inside in
+    let r = c.args.retired in
+    let e = c.own_entry-entry.result in
+    let s : FrameState = record { graph = i.world.graph; views = i.views.items; frames = i.frames; retired = i.retired; merges = i.merges; graves = i.world.graves } in
+    let back = subst (λ (t : FrameState). t.retired ≤ r) c.self.invariant.kept.after (subst (λ (v : SceneState). (state_in v.shared).retired ≤ r) (sym c.self.view_is) c.requires.back) in
+    let begun = subst (λ (t : FrameState). r ≤ t.frames) c.self.invariant.kept.after (subst (λ (v : SceneState). r ≤ (state_in v.shared).frames) (sym c.self.view_is) c.requires.begun) in
+    let freed = c.finish-freed.ensures ∙ c.sync.ensures.freed ∙ ap (λ (b : SerialsSoFar). b.items ++ freed_by r i.world.graves) c.in_ok-freed.ensures in
+    scene_entered i.ahead i.channels i.history.entries c.push_reserved.new.self.entries s _ i.world.marks c.sync.new.self.marks i.weight (i.weight + 1) i.seat (command.Sync r) e
+    c.self.invariant (back, begun)
+    (light_enough c.args.self.now i.history.entries i.weight (command.Sync r) (ap (λ (v : SceneState). v.shared.log) (sym c.self.view_is)) c.self.invariant.kept.weighs c.requires.weight)
+    (c.push_reserved.ensures.entries ∙ ap (λ (es : Log). es ++ (i.seat, e) ∷ []) c.reserve.ensures.entries)
+    (entry_is s (command.Sync r) e (reply.Freed c.finish-freed.result) c.own_entry-entry.ensures (ap (λ xs. reply.Freed xs) freed))
+    (sync_state s r c.sync.new.self.graph c.sync.new.self.graves c.sync.ensures.graph c.sync.ensures.graves)
+    c.sync.ensures.marks refl

@@ -1,0 +1,12 @@
+-- The marked geodes have cycles of their triangles, under serials that differ.
+use Rattle.std.proofs.Common.{sym, subst}
+use Rattle.pf_model.specs.Limits.{IsRising}
+use Rattle.cycle_buffer.specs.Cycles.{written_at}
+use Rattle.pf_scene.specs.Worlds.{WorldState}
+use Rattle.pf_scene.proofs.Taken.{can_take}
+use Rattle.pf_scene.proofs.world.World.cut.Goals as goal
+
+pub cut-requires : goal.cut-requires
+cut-requires c =
+    can_take (written_at c.self.inside.cycles) c.self.inside.graph c.self.inside.dirty c.keeps_limits.ensures c.self.invariant
+    (subst (λ (w : WorldState). IsRising w.marks) (sym c.self.view_is) c.requires)

@@ -1,0 +1,21 @@
+-- What follows accepted edits.
+use Rattle.std.proofs.Common.{◌∙◌, length, ap, arith}
+use Rattle.cycle_buffer.specs.Cycles.{written_at}
+use Rattle.pf_scene.specs.Worlds.{WorldState}
+use Rattle.pf_scene.proofs.Opened.{opening_all, gone_all}
+use Rattle.pf_scene.proofs.world.World.merge.Goals as goal
+
+pub follow-requires-clause-open : goal.follow-requires-clause-open
+follow-requires-clause-open c =
+    let i = c.self.inside in
+    opening_all (written_at i.cycles) (written_at c.open.new.cycles) i.graph c.edits.new.self c.args.list.now c.next_serial-first.result _ c.as_slice-edits.ensures c.next_serial-first.ensures
+    c.keeps_limits.ensures c.self.invariant (ap (λ (w : WorldState). w.graph.gone) c.self.view_is ∙ c.requires.empty) c.requires.fits
+    c.in-Ok.ensures.done c.in-Ok.ensures.after c.open.ensures.below c.in_ok-open.ensures.made c.open.ensures.above
+
+pub follow-requires-clause-room : goal.follow-requires-clause-room
+follow-requires-clause-room c =
+    let i = c.self.inside in
+    let few = gone_all i.graph c.edits.new.self c.args.list.now (ap (λ (w : WorldState). w.graph.gone) c.self.view_is ∙ c.requires.empty) c.in-Ok.ensures.done c.in-Ok.ensures.after in
+    let room = c.in_ok-reserve.ensures.room in
+    let same = ap length c.as_slice-edits.ensures in
+    omega (arith, few, room, same)

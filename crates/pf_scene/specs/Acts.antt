@@ -1,0 +1,124 @@
+-- What an act does to the scene that it finds, and what a glance shows of it.
+use Rattle.std.specs.Prelude.{◌≡◌, ℕ, ◌+◌, ◌<◌, ◌≤◌, true, [], length, map}
+use Rattle.std.specs.List.{list_all}
+use Rattle.pf_model.specs.declared.edits.Edit.{Edit}
+use Rattle.pf_model.specs.Angles.{Viewpoint}
+use Rattle.pf_model.specs.Fits.{fits}
+use Rattle.pf_history.specs.declared.commands.Command.{Command}
+use Rattle.pf_history.specs.declared.commands.Command.TheVariants as command
+use Rattle.pf_history.specs.declared.commands.Merge.{Merge}
+use Rattle.pf_history.specs.declared.commands.Reply.{Reply}
+use Rattle.pf_history.specs.Objects.{reply_of}
+use Rattle.pf_history.specs.Cuts.{cut_of}
+use Rattle.pf_scene.specs.declared.outcomes.Outcome.{Outcome}
+use Rattle.pf_scene.specs.declared.outcomes.Outcome.TheVariants as outcome
+use Rattle.pf_scene.specs.declared.outcomes.Home.{Home}
+use Rattle.pf_scene.specs.declared.outcomes.Synced.{Synced}
+use Rattle.pf_scene.specs.declared.outcomes.Channels.{Channels}
+use Rattle.pf_scene.specs.declared.outcomes.Framed.{Framed}
+use Rattle.pf_scene.specs.declared.outcomes.Sight.{Sight}
+use Rattle.pf_scene.specs.Scenes.{Shared, SceneState, state_in, entered, weight_in, HasWeight, copies_after}
+use Rattle.pf_scene.specs.Frames.{IsCutOf, AllHaveRoom, drawn}
+
+-- a seat is in charge
+abbrev pub seated : ℕ → Shared → Shared
+seated seat s = record s { seat = seat }
+
+-- When a command may be made
+
+-- The numbers of an edit are in range, and the weight can be borne.
+pub record MayEdit (s : Shared) (e : Edit) : Type 0 where
+  pub fit : fits e ≡ true
+  pub light : HasWeight s (command.Edit e)
+
+-- So are those of all edits of a merge.
+pub record MayMerge (s : Shared) (m : Merge) : Type 0 where
+  pub fit : list_all fits m.edits ≡ true
+  pub light : HasWeight s (command.Merge m)
+
+-- The channel is there.
+pub record MayView (s : Shared) (channel : ℕ) (v : Viewpoint) : Type 0 where
+  pub there : channel < s.channels
+  pub light : HasWeight s (command.View channel v)
+
+-- The frames to retire were begun, and none comes back.
+pub record MaySync (s : Shared) (retired : ℕ) : Type 0 where
+  pub back : (state_in s).retired ≤ retired
+  pub begun : retired ≤ (state_in s).frames
+  pub light : HasWeight s (command.Sync retired)
+
+-- Fewer frames are in flight than may be ahead, which is the scene's number, and there is a draw list for each channel.
+pub record MayFrame (s : Shared) (ahead lists : ℕ) : Type 0 where
+  pub agreed : ahead ≡ s.ahead
+  pub free : (state_in s).frames < (state_in s).retired + ahead
+  pub many : lists ≡ s.channels
+  pub light : HasWeight s command.Frame
+
+-- What an act did
+
+-- the command was entered under the seat, and the copies are as after it
+pub record Enters (c : Command) (seat : ℕ) (found left : SceneState) : Type 0 where
+  pub shared : left.shared ≡ entered c (seated seat found.shared)
+  pub copies : left.copies ≡ copies_after found.shared.ahead (state_in found.shared) c found.copies
+
+-- an edit was entered where it may be made; it may not be made; or there was no memory
+abbrev pub DoesEdit : Edit → ℕ → SceneState → SceneState → Outcome Reply Edit → Type 0
+DoesEdit e seat found left (outcome.Entered r) =
+    MayEdit found.shared e × Enters (command.Edit e) seat found left × (r ≡ reply_of (state_in found.shared) (command.Edit e))
+DoesEdit e seat found left (outcome.NotNow back) = (left ≡ found) × (back ≡ e) × (MayEdit found.shared e → ⊥)
+DoesEdit e seat found left (outcome.NoMemory back) = (left.shared ≡ seated seat found.shared) × (back ≡ e)
+
+abbrev pub DoesMerge : Merge → ℕ → SceneState → SceneState → Outcome Reply Merge → Type 0
+DoesMerge m seat found left (outcome.Entered r) =
+    MayMerge found.shared m × Enters (command.Merge m) seat found left × (r ≡ reply_of (state_in found.shared) (command.Merge m))
+DoesMerge m seat found left (outcome.NotNow back) = (left ≡ found) × (back ≡ m) × (MayMerge found.shared m → ⊥)
+DoesMerge m seat found left (outcome.NoMemory back) = (left.shared ≡ seated seat found.shared) × (back ≡ m)
+
+abbrev pub DoesView : ℕ → Viewpoint → ℕ → SceneState → SceneState → Outcome Reply (Unit {0}) → Type 0
+DoesView channel v seat found left (outcome.Entered r) =
+    MayView found.shared channel v × Enters (command.View channel v) seat found left
+    × (r ≡ reply_of (state_in found.shared) (command.View channel v))
+DoesView channel v seat found left (outcome.NotNow back) = (left ≡ found) × (MayView found.shared channel v → ⊥)
+DoesView channel v seat found left (outcome.NoMemory back) = left.shared ≡ seated seat found.shared
+
+-- a Sync that was entered leaves no list to bring home
+abbrev pub DoesSync : ℕ → Home → ℕ → SceneState → SceneState → Outcome Synced Home → Type 0
+DoesSync retired home seat found left (outcome.Entered r) =
+    MaySync found.shared retired × Enters (command.Sync retired) seat found left
+    × (r.reply ≡ reply_of (state_in found.shared) (command.Sync retired)) × (r.home.lists.items ≡ [])
+DoesSync retired home seat found left (outcome.NotNow back) =
+    (left ≡ found) × (back ≡ home) × (MaySync found.shared retired → ⊥)
+DoesSync retired home seat found left (outcome.NoMemory back) =
+    (left.shared ≡ seated seat found.shared) × (back.lists.items ≡ home.lists.items)
+
+-- What a Frame that was entered did: its cut is that of the history, and each draw list has room and is as before.
+pub record Begins (ahead : ℕ) (channels : Channels) (seat : ℕ) (found left : SceneState) (r : Framed) : Type 0 where
+  pub may : MayFrame found.shared ahead (length channels.lists.items)
+  pub shared : left.shared ≡ entered command.Frame (seated seat found.shared)
+  pub copies : found.copies ≤ left.copies
+  pub cut : IsCutOf r.cut found.shared
+  pub updates : r.cut.updates ≡ cut_of left.shared.channels left.shared.log r.cut.frame
+  pub room : AllHaveRoom (state_in found.shared).graph r.channels.lists.items
+  pub lists : map drawn r.channels.lists.items ≡ map drawn channels.lists.items
+
+abbrev pub DoesFrame : ℕ → Channels → ℕ → SceneState → SceneState → Outcome Framed Channels → Type 0
+DoesFrame ahead channels seat found left (outcome.Entered r) = Begins ahead channels seat found left r
+DoesFrame ahead channels seat found left (outcome.NotNow back) =
+    (left ≡ found) × (back ≡ channels) × (MayFrame found.shared ahead (length channels.lists.items) → ⊥)
+DoesFrame ahead channels seat found left (outcome.NoMemory back) =
+    (left.shared ≡ seated seat found.shared) × (found.copies ≤ left.copies)
+    × (map drawn back.lists.items ≡ map drawn channels.lists.items)
+
+-- the stop mark is set, and nothing else changed
+abbrev pub DoesStop : SceneState → SceneState → Type 0
+DoesStop found left = left ≡ record found { shared = record found.shared { stopped = true } }
+
+-- What a glance shows: the stop mark, the counts of the state after the log, the weight and the copies.
+pub record Shows (found : SceneState) (sight : Sight) : Type 0 where
+  pub stopped : sight.stopped ≡ found.shared.stopped
+  pub frames : sight.frames ≡ (state_in found.shared).frames
+  pub retired : sight.retired ≡ (state_in found.shared).retired
+  pub merges : sight.merges ≡ (state_in found.shared).merges
+  pub graves : sight.graves ≡ length (state_in found.shared).graves
+  pub weight : sight.weight ≡ weight_in found.shared.log
+  pub copies : sight.copies ≡ found.copies

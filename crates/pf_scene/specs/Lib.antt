@@ -1,0 +1,5 @@
+pub mod Scenes
+pub mod Worlds
+pub mod Stock
+pub mod Frames
+pub mod Acts

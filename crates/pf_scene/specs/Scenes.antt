@@ -1,0 +1,78 @@
+-- What clauses see of the scene, and what its type keeps.
+use Rattle.std.specs.Prelude.{◌≡◌, ℕ, ◌+◌, ◌^◌, ◌<◌, ◌≤◌, max, Bool, if◌then◌else◌, is_some, List, [], ◌∷◌, ◌++◌, length}
+use Rattle.std.specs.List.{sum_by, list_any}
+use Rattle.pf_model.specs.Edits.{fault_of}
+use Rattle.pf_model.specs.Merges.{merge_fault}
+use Rattle.pf_history.specs.declared.commands.Command.{Command}
+use Rattle.pf_history.specs.declared.commands.Command.TheVariants as command
+use Rattle.pf_history.specs.Objects.{FrameState}
+use Rattle.pf_history.specs.Logs.{Log, state_of, IsLegal}
+use Rattle.pf_history.specs.Laws.{own_entry}
+use Rattle.pf_history.specs.Cuts.{marked}
+use Rattle.pf_scene.specs.Stock.{makes_geode}
+
+-- What the stages share: the log, the number of the seat under which the next entries stand, whether the stop mark is
+-- set, how many frames may be ahead, and how many channels there are.
+pub record Shared : Type 0 where
+  pub log : Log
+  pub seat : ℕ
+  pub stopped : Bool
+  pub ahead : ℕ
+  pub channels : ℕ
+
+-- What clauses see of the scene: what is shared, and the greatest number of copies that a geode's cycle has had.
+pub record SceneState : Type 0 where
+  pub shared : Shared
+  pub copies : ℕ
+
+-- the state of the one-thread object after the log
+abbrev pub state_in : Shared → FrameState
+state_in s = state_of s.channels s.log
+
+-- the one-thread object's own entry for a command stands at the end of the log
+abbrev pub entered : Command → Shared → Shared
+entered c s = record s { log = s.log ++ own_entry s.channels s.log s.seat c ∷ [] }
+
+-- what a command adds to the weight of a log: its entry, and the edits of a merge
+abbrev pub weight_of : Command → ℕ
+weight_of (command.Merge m) = 1 + length m.edits
+weight_of _ = 1
+
+-- the number of the entries of a log and of the edits of its merges
+abbrev pub weight_in : Log → ℕ
+weight_in log = sum_by (λ e. weight_of e.1.command) log
+
+-- with this command the weight stays below 2 ^ 31
+abbrev pub HasWeight : Shared → Command → Type 0
+HasWeight s c = weight_in s.log + weight_of c < 2 ^ 31
+
+-- the greatest number of copies after one more cycle was made, where one was
+abbrev pub with_cycle : Bool → ℕ → ℕ → ℕ
+with_cycle made ahead most = if made then max most (ahead + 1) else most
+
+-- the greatest number of copies after an edit or a merge: each geode that it makes has `ahead` + 1 copies
+abbrev pub copies_after : ℕ → FrameState → Command → ℕ → ℕ
+copies_after ahead s (command.Edit e) most =
+    if is_some (fault_of s.graph e) then most else with_cycle (makes_geode e) ahead most
+copies_after ahead s (command.Merge m) most =
+    if is_some (merge_fault s.graph m.edits) then most else with_cycle (list_any makes_geode m.edits) ahead most
+copies_after ahead s _ most = most
+
+-- from 1 to 4
+abbrev pub IsSmall : ℕ → Type 0
+IsSmall n = (1 ≤ n) × (n ≤ 4)
+
+-- What the type of a scene keeps: the history is legal, the state is the state after it, the marked ids are those that
+-- the next Frame cuts, and the weight is that of the log.
+pub record IsKept (channels : ℕ) (log : Log) (state : FrameState) (marks : List ℕ) (weight : ℕ) : Type 0 where
+  pub legal : IsLegal channels log
+  pub after : state_of channels log ≡ state
+  pub marks_are : marked channels log ≡ marks
+  pub weighs : weight ≡ weight_in log
+  pub light : weight < 2 ^ 31
+
+-- A scene: what it keeps of its history, and its two numbers from 1 to 4.
+pub record IsScene (ahead channels : ℕ) (log : Log) (state : FrameState) (marks : List ℕ) (weight : ℕ) : Type 0 where
+  pub few_ahead : IsSmall ahead
+  pub few_channels : IsSmall channels
+  pub kept : IsKept channels log state marks weight
