@@ -1,49 +1,14 @@
 //! The cull, poll by poll.
-ghost use Rattle.std.specs.Prelude.{None, []};
-
 use crate::{CullStage, Did, Load, Packet};
 use frame_link::{ListLink, SendEnd, TakeEnd};
 use fx_math::Lens;
-use pf_io::{FreeGate, NoMemory};
-use pf_model::{Arrays, Geom, Node, NodeView, View};
+use pf_io::FreeGate;
+use pf_model::View;
 use pf_scene::{Scene, StopAct};
 use seat_lock::{Desk, PlainDesk};
 use std::alloc::Global;
 use std::test::Fail;
-use update_lists::{Cut, Dirty, Updates, Views};
-
-/// A scene without nodes.
-#[derive(Drop)]
-struct NoNodes;
-
-impl NodeView for NoNodes {
-    ghost look = { λ _ _. None };
-
-    fn node(&self, id: u16) -> Option<&Node> {
-        let _ = id;
-        None
-    }
-}
-
-/// No arrays.
-#[derive(Drop)]
-struct NoArrays;
-
-impl Arrays for NoArrays {
-    ghost free = { λ _ _. 0 };
-
-    ghost written = { λ _ _. None };
-
-    fn ready(&mut self, serial: u32) -> Result<(), NoMemory> {
-        let _ = serial;
-        unreachable!()
-    }
-
-    fn array(&mut self, serial: u32, geom: &Geom) -> Geom {
-        let _ = (serial, geom.len());
-        unreachable!()
-    }
-}
+use update_lists::{Cut, Updates, Views};
 
 /// The cull with its desk and its links.
 #[derive(Drop)]
@@ -94,28 +59,21 @@ fn send(bench: &mut Bench, packet: Packet) -> Result<(), Fail> {
     }
 }
 
-/// The update list that takes the scene out.
-fn without_scene(alloc: Global) -> Result<Updates, Fail> {
-    let mut dirty = Dirty::new(alloc)?;
-    dirty.mark(0);
-    Ok(dirty.cut(&NoNodes, &mut NoArrays)?)
-}
-
 /// The cut of the first frame, of one channel.
-fn small_cut(alloc: Global, updates: Updates) -> Result<Cut, Fail> {
+fn small_cut(alloc: Global) -> Result<Cut, Fail> {
     Ok(Cut {
         frame: 1,
         views: Views::of(alloc, &[View::home()])?,
         size: 1,
         tris: 0,
-        updates,
+        updates: Updates::new(alloc),
     })
 }
 
 /// The load of the first frame, of one channel.
-fn small_load(alloc: Global, updates: Updates) -> Result<Load, Fail> {
+fn small_load(alloc: Global) -> Result<Load, Fail> {
     let mut load = Load::new(alloc, &small_lens()?, 1)?;
-    let _ = load.replace_cut(small_cut(alloc, updates)?);
+    let _ = load.replace_cut(small_cut(alloc)?);
     Ok(load)
 }
 
@@ -131,36 +89,10 @@ fn taken(bench: &mut Bench) -> Result<Load, Fail> {
 #[test]
 fn a_load_is_culled_and_sent_on(rt: HostRuntime) -> Result<(), Fail> {
     let mut bench = new_bench(rt.alloc(), 1)?;
-    send(
-        &mut bench,
-        Packet::Frame(small_load(rt.alloc(), Updates::new(rt.alloc()))?),
-    )?;
+    send(&mut bench, Packet::Frame(small_load(rt.alloc())?))?;
     assert_eq!(rt; two_polls(&mut bench)?, (Did::Did, Did::Did));
     assert_eq!(rt; taken(&mut bench)?.stats().visited, 1);
     assert_eq!(rt; poll(&mut bench)?, Did::NotYet);
-    Ok(())
-}
-
-/// The node that an update list has at its first place.
-fn first_node(mut updates: Updates) -> Option<Node> {
-    let mut place = None;
-    if updates.len() > 0 {
-        updates.swap(0, &mut place);
-    }
-    place
-}
-
-/// What stood in the copy goes back in place of an update.
-#[test]
-fn the_old_node_goes_back(rt: HostRuntime) -> Result<(), Fail> {
-    let mut bench = new_bench(rt.alloc(), 1)?;
-    send(
-        &mut bench,
-        Packet::Frame(small_load(rt.alloc(), without_scene(rt.alloc())?)?),
-    )?;
-    two_polls(&mut bench)?;
-    let back = taken(&mut bench)?.take_updates();
-    assert!(rt; first_node(back).is_some());
     Ok(())
 }
 
