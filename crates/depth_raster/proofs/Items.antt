@@ -14,10 +14,9 @@ use Rattle.tri_cover.specs.declared.hit.Hit.{Hit}
 use Rattle.tri_cover.specs.Hits.{hit}
 use Rattle.tri_cover.specs.Glass.{is_opaque, alpha_of}
 use Rattle.tri_cover.specs.Picture.{Fragment, fragment_of, fragment_at, fragments, nearer, glazed, glazed_by, opaque_fragments}
-use Rattle.depth_raster.specs.declared.bands.Band.{Band}
 use Rattle.depth_raster.specs.declared.faces.Face.{Face}
 use Rattle.depth_raster.specs.Faces.{fragment_in, fragment_by, over, glazed_by_face, IsFaceOf}
-use Rattle.depth_raster.specs.Drawing.{face_over, instance_over, opaque_over, face_glazes, instance_glazes}
+use Rattle.depth_raster.specs.Drawing.{instance_over, opaque_over, instance_glazes}
 use Rattle.depth_raster.proofs.Folding.{fold_numbered_more, fold_numbered_all}
 
 -- a face shows what its triangle shows
@@ -30,33 +29,34 @@ face_shows x n t f lens px py is = ap (option_map (fragment_in f)) (is.tri lens 
     by (Some h) = rw (is.shift, is.place, is.number)
 
 -- ---- the first n triangles of an instance
-abbrev pub part_over : Lens → Band → Instance → ℕ → (q r : ℕ) → Option Fragment → Option Fragment
-part_over lens b x n q r drawn = fold nearer drawn (filter_map (fragment_at lens q (b.first + r) x) (take n (enumerate_from 0 x.tris)))
+abbrev pub part_over : Lens → Instance → ℕ → (px py : ℕ) → Option Fragment → Option Fragment
+part_over lens x n px py drawn = fold nearer drawn (filter_map (fragment_at lens px py x) (take n (enumerate_from 0 x.tris)))
 
-pub part_more : (lens : Lens) (b : Band) (x : Instance) (n : ℕ) (t : Tri) (f : Face) (q r : ℕ) (drawn : Option Fragment) → slice_get x.tris n ≡ Some t → IsFaceOf x n t f → face_over lens b f q r (part_over lens b x n q r drawn) ≡ part_over lens b x (n + 1) q r drawn
+pub part_more : (lens : Lens) (x : Instance) (n : ℕ) (t : Tri) (f : Face) (px py : ℕ) (drawn : Option Fragment) → slice_get x.tris n ≡ Some t → IsFaceOf x n t f → over lens px py f (part_over lens x n px py drawn) ≡ part_over lens x (n + 1) px py drawn
 unfolding over
-part_more lens b x n t f q r drawn at is =
-    let m : Option Fragment = part_over lens b x n q r drawn in
-    ap (λ (o : Option Fragment). option_map_or (nearer m) o m) (face_shows x n t f lens q (b.first + r) is)
-    ∙ sym (fold_numbered_more nearer (fragment_at lens q (b.first + r) x) drawn x.tris n t (slice_get_within x.tris n t at) (sym (get_or_from_slice_get x.tris n t t at)))
+part_more lens x n t f px py drawn at is =
+    let m : Option Fragment = part_over lens x n px py drawn in
+    ap (λ (o : Option Fragment). option_map_or (nearer m) o m) (face_shows x n t f lens px py is)
+    ∙ sym (fold_numbered_more nearer (fragment_at lens px py x) drawn x.tris n t (slice_get_within x.tris n t at) (sym (get_or_from_slice_get x.tris n t t at)))
 
-pub part_all : (lens : Lens) (b : Band) (x : Instance) (n : ℕ) (q r : ℕ) (drawn : Option Fragment) → length x.tris ≤ n → part_over lens b x n q r drawn ≡ instance_over lens b x q r drawn
+pub part_all : (lens : Lens) (x : Instance) (n : ℕ) (px py : ℕ) (drawn : Option Fragment) → length x.tris ≤ n → part_over lens x n px py drawn ≡ instance_over lens x px py drawn
 unfolding instance_over
-part_all lens b x n q r drawn all = fold_numbered_all nearer (fragment_at lens q (b.first + r) x) drawn x.tris n all
+part_all lens x n px py drawn all = fold_numbered_all nearer (fragment_at lens px py x) drawn x.tris n all
 
-abbrev pub part_glazes : Lens → Band → (behind : ℕ → ℕ → Option Fragment) → Instance → ℕ → (q r : ℕ) → List ℕ → List ℕ
-part_glazes lens b behind x n q r under = fold (glazed (behind q r) (alpha_of x)) under (filter_map (fragment_at lens q (b.first + r) x) (take n (enumerate_from 0 x.tris)))
+abbrev pub part_glazes : Lens → (behind : Option Fragment) → Instance → ℕ → (px py : ℕ) → List ℕ → List ℕ
+part_glazes lens behind x n px py under = fold (glazed behind (alpha_of x)) under (filter_map (fragment_at lens px py x) (take n (enumerate_from 0 x.tris)))
 
-pub glazes_more : (lens : Lens) (b : Band) (behind : ℕ → ℕ → Option Fragment) (x : Instance) (n : ℕ) (t : Tri) (f : Face) (q r : ℕ) (under : List ℕ) → slice_get x.tris n ≡ Some t → IsFaceOf x n t f → face_glazes lens b behind f (alpha_of x) q r (part_glazes lens b behind x n q r under) ≡ part_glazes lens b behind x (n + 1) q r under
+pub glazes_more : (lens : Lens) (behind : Option Fragment) (x : Instance) (n : ℕ) (t : Tri) (f : Face) (px py : ℕ) (under : List ℕ) → slice_get x.tris n ≡ Some t → IsFaceOf x n t f → glazed_by_face lens px py f behind (part_glazes lens behind x n px py under) ≡ part_glazes lens behind x (n + 1) px py under
 unfolding glazed_by_face
-glazes_more lens b behind x n t f q r under at is =
-    let u : List ℕ = part_glazes lens b behind x n q r under in
-    ap (λ (o : Option Fragment). option_map_or (glazed (behind q r) (alpha_of x) u) o u) (face_shows x n t f lens q (b.first + r) is)
-    ∙ sym (fold_numbered_more (glazed (behind q r) (alpha_of x)) (fragment_at lens q (b.first + r) x) under x.tris n t (slice_get_within x.tris n t at) (sym (get_or_from_slice_get x.tris n t t at)))
+glazes_more lens behind x n t f px py under at is =
+    let u : List ℕ = part_glazes lens behind x n px py under in
+    ap (λ (a : ℕ). option_map_or (glazed behind a u) (fragment_by lens px py f) u) is.alpha
+    ∙ ap (λ (o : Option Fragment). option_map_or (glazed behind (alpha_of x) u) o u) (face_shows x n t f lens px py is)
+    ∙ sym (fold_numbered_more (glazed behind (alpha_of x)) (fragment_at lens px py x) under x.tris n t (slice_get_within x.tris n t at) (sym (get_or_from_slice_get x.tris n t t at)))
 
-pub glazes_all : (lens : Lens) (b : Band) (behind : ℕ → ℕ → Option Fragment) (x : Instance) (n : ℕ) (q r : ℕ) (under : List ℕ) → length x.tris ≤ n → part_glazes lens b behind x n q r under ≡ instance_glazes lens b behind x q r under
+pub glazes_all : (lens : Lens) (behind : Option Fragment) (x : Instance) (n : ℕ) (px py : ℕ) (under : List ℕ) → length x.tris ≤ n → part_glazes lens behind x n px py under ≡ instance_glazes lens behind x px py under
 unfolding glazed_by
-glazes_all lens b behind x n q r under all = fold_numbered_all (glazed (behind q r) (alpha_of x)) (fragment_at lens q (b.first + r) x) under x.tris n all
+glazes_all lens behind x n px py under all = fold_numbered_all (glazed behind (alpha_of x)) (fragment_at lens px py x) under x.tris n all
 
 -- ---- lists
 take_suc : {X : Type 0} (xs : List X) (i : ℕ) → take (suc i) xs ≡ take i xs ++ option_to_list (slice_get xs i)
@@ -76,29 +76,33 @@ opaque_append lens px py xs ys = ap (flat_map (fragments lens px py)) (filters x
         by true h = ap (λ (ws : List Instance). z ∷ ws) h
         by false h = h
 
-pub opaque_more : (lens : Lens) (b : Band) (xs : List Instance) (n : ℕ) (q r : ℕ) (drawn : Option Fragment) → opaque_over lens b (option_to_list (slice_get xs n)) q r (opaque_over lens b (take n xs) q r drawn) ≡ opaque_over lens b (take (n + 1) xs) q r drawn
+pub opaque_more : (lens : Lens) (xs : List Instance) (n : ℕ) (px py : ℕ) (drawn : Option Fragment) → opaque_over lens (option_to_list (slice_get xs n)) px py (opaque_over lens (take n xs) px py drawn) ≡ opaque_over lens (take (n + 1) xs) px py drawn
 unfolding opaque_over
-opaque_more lens b xs n q r drawn =
-    sym (fold-append nearer drawn (opaque_fragments lens q (b.first + r) (take n xs)) (opaque_fragments lens q (b.first + r) (option_to_list (slice_get xs n))))
-    ∙ ap (fold nearer drawn) (sym (opaque_append lens q (b.first + r) (take n xs) (option_to_list (slice_get xs n))))
-    ∙ ap (λ (ys : List Instance). fold nearer drawn (opaque_fragments lens q (b.first + r) ys)) (sym (take_suc xs n) ∙ ap (λ (m : ℕ). take m xs) (sym (add-one n)))
+opaque_more lens xs n px py drawn =
+    sym (fold-append nearer drawn (opaque_fragments lens px py (take n xs)) (opaque_fragments lens px py (option_to_list (slice_get xs n))))
+    ∙ ap (fold nearer drawn) (sym (opaque_append lens px py (take n xs) (option_to_list (slice_get xs n))))
+    ∙ ap (λ (ys : List Instance). fold nearer drawn (opaque_fragments lens px py ys)) (sym (take_suc xs n) ∙ ap (λ (m : ℕ). take m xs) (sym (add-one n)))
 
-pub opaque_none : (lens : Lens) (b : Band) (q r : ℕ) (drawn : Option Fragment) → drawn ≡ opaque_over lens b [] q r drawn
+pub opaque_none : (lens : Lens) (px py : ℕ) (drawn : Option Fragment) → drawn ≡ opaque_over lens [] px py drawn
 unfolding opaque_over
-opaque_none lens b q r drawn = refl
+opaque_none lens px py drawn = refl
 
-pub opaque_absent : (lens : Lens) (b : Band) (o : Option Instance) (q r : ℕ) (drawn : Option Fragment) → o ≡ None → drawn ≡ opaque_over lens b (option_to_list o) q r drawn
-opaque_absent lens b o q r drawn is = opaque_none lens b q r drawn ∙ ap (λ (p : Option Instance). opaque_over lens b (option_to_list p) q r drawn) (sym is)
+pub opaque_absent : (lens : Lens) (o : Option Instance) (px py : ℕ) (drawn : Option Fragment) → o ≡ None → drawn ≡ opaque_over lens (option_to_list o) px py drawn
+opaque_absent lens o px py drawn is = opaque_none lens px py drawn ∙ ap (λ (p : Option Instance). opaque_over lens (option_to_list p) px py drawn) (sym is)
 
-pub opaque_one : (lens : Lens) (b : Band) (x : Instance) (q r : ℕ) (drawn : Option Fragment) → x.tint ≡ None → opaque_over lens b (x ∷ []) q r drawn ≡ instance_over lens b x q r drawn
+pub opaque_one : (lens : Lens) (x : Instance) (px py : ℕ) (drawn : Option Fragment) → x.tint ≡ None → opaque_over lens (x ∷ []) px py drawn ≡ instance_over lens x px py drawn
 unfolding opaque_over instance_over
-opaque_one lens b x q r drawn is =
-    ap (λ (o : Option ℕ). fold nearer drawn (flat_map (fragments lens q (b.first + r)) (cond (is_none o) (x ∷ []) []))) is
-    ∙ ap (fold nearer drawn) (append-nil (fragments lens q (b.first + r) x))
+opaque_one lens x px py drawn is =
+    ap (λ (o : Option ℕ). fold nearer drawn (flat_map (fragments lens px py) (cond (is_none o) (x ∷ []) []))) is
+    ∙ ap (fold nearer drawn) (append-nil (fragments lens px py x))
 
-pub opaque_glass : (lens : Lens) (b : Band) (x : Instance) (q r : ℕ) (drawn : Option Fragment) → (alpha : ℕ) → x.tint ≡ Some alpha → opaque_over lens b (x ∷ []) q r drawn ≡ drawn
+pub opaque_glass : (lens : Lens) (x : Instance) (px py : ℕ) (drawn : Option Fragment) → (alpha : ℕ) → x.tint ≡ Some alpha → opaque_over lens (x ∷ []) px py drawn ≡ drawn
 unfolding opaque_over
-opaque_glass lens b x q r drawn alpha is = ap (λ (o : Option ℕ). fold nearer drawn (flat_map (fragments lens q (b.first + r)) (cond (is_none o) (x ∷ []) []))) is
+opaque_glass lens x px py drawn alpha is = ap (λ (o : Option ℕ). fold nearer drawn (flat_map (fragments lens px py) (cond (is_none o) (x ∷ []) []))) is
 
-pub opaque_some : (lens : Lens) (b : Band) (x : Instance) (o : Option Instance) (q r : ℕ) (drawn : Option Fragment) → o ≡ Some x → opaque_over lens b (x ∷ []) q r drawn ≡ opaque_over lens b (option_to_list o) q r drawn
-opaque_some lens b x o q r drawn is = sym (ap (λ (p : Option Instance). opaque_over lens b (option_to_list p) q r drawn) is)
+pub opaque_some : (lens : Lens) (x : Instance) (o : Option Instance) (px py : ℕ) (drawn : Option Fragment) → o ≡ Some x → opaque_over lens (x ∷ []) px py drawn ≡ opaque_over lens (option_to_list o) px py drawn
+opaque_some lens x o px py drawn is = sym (ap (λ (p : Option Instance). opaque_over lens (option_to_list p) px py drawn) is)
+
+-- what the first n triangles of an instance of glass make of a colour
+abbrev pub part_glazed : Lens → Instance → ℕ → (behind : Option Fragment) → (px py : ℕ) → List ℕ → List ℕ
+part_glazed lens x n behind px py under = part_glazes lens behind x n px py under

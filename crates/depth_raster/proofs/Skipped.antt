@@ -1,35 +1,31 @@
 -- Pixels that a face leaves as they are.
-use Rattle.std.proofs.Common.{◌≡◌, ℕ, ◌<◌, ◌≤◌, Bool, List, [], Option, option_map, refl, ap, sym, ◌∙◌, arith, ⊎_elim, false}
+use Rattle.std.proofs.Common.{◌≡◌, ℕ, ◌<◌, ◌≤◌, List, Option, option_map, refl, ap, sym, ◌∙◌, arith, ⊎_elim}
 use Rattle.std.specs.Option.{option_map_or}
 use Rattle.std.proofs.lemmas.Bool.{cases_lt}
 use Rattle.fx_math.specs.declared.lenses.Lens.{Lens}
-use Rattle.fx_math.specs.Hit.{is_hit}
 use Rattle.tri_cover.specs.declared.hit.Hit.{Hit}
-use Rattle.tri_cover.specs.Hits.{vertex}
-use Rattle.tri_cover.specs.Picture.{Fragment, nearer, glazed}
-use Rattle.tri_cover.proofs.Judgement.{no_hit}
-use Rattle.depth_raster.specs.declared.bands.Band.{Band}
+use Rattle.tri_cover.specs.Picture.{Fragment, glazed}
+use Rattle.depth_raster.specs.declared.blocks.Block.{Block}
 use Rattle.depth_raster.specs.declared.faces.Face.{Face}
-use Rattle.depth_raster.specs.Faces.{fragment_in, fragment_by, over, glazed_by_face}
+use Rattle.depth_raster.specs.declared.marks.Mark.{Mark}
+use Rattle.depth_raster.specs.Around.{IsUnhit}
+use Rattle.depth_raster.specs.Faces.{fragment_in, fragment_by, glazed_by_face}
+use Rattle.depth_raster.specs.Marks.{mark_of, mark_with, mark_over}
 use Rattle.depth_raster.specs.Following.{Follows, RowsFollow, PixelsFollow, RowFollows}
 
--- a pixel whose ray does not meet the face
-abbrev pub is_met : Lens → (px py : ℕ) → Face → Bool
-is_met lens px py f = is_hit lens px py (vertex f.tri 0) (vertex f.tri 1) (vertex f.tri 2)
+pub mark_missed : (lens : Lens) (px py : ℕ) (f : Face) (m : Mark) → IsUnhit lens f.tri px py → mark_over lens px py f m ≡ m
+unfolding mark_over
+mark_missed lens px py f m unhit = ap (λ (h : Option Hit). mark_with m (option_map (mark_of f) h)) unhit
 
-pub over_missed : (lens : Lens) (px py : ℕ) (f : Face) (drawn : Option Fragment) → is_met lens px py f ≡ false → over lens px py f drawn ≡ drawn
-unfolding over fragment_by
-over_missed lens px py f drawn missed = ap (λ (h : Option Hit). option_map_or (nearer drawn) (option_map (fragment_in f) h) drawn) (no_hit lens px py [] f.tri missed)
-
-pub glazed_missed : (lens : Lens) (px py : ℕ) (f : Face) (alpha : ℕ) (behind : Option Fragment) (under : List ℕ) → is_met lens px py f ≡ false → glazed_by_face lens px py f alpha behind under ≡ under
+pub glazed_missed : (lens : Lens) (px py : ℕ) (f : Face) (behind : Option Fragment) (under : List ℕ) → IsUnhit lens f.tri px py → glazed_by_face lens px py f behind under ≡ under
 unfolding glazed_by_face fragment_by
-glazed_missed lens px py f alpha behind under missed = ap (λ (h : Option Hit). option_map_or (glazed behind alpha under) (option_map (fragment_in f) h) under) (no_hit lens px py [] f.tri missed)
+glazed_missed lens px py f behind under unhit = ap (λ (h : Option Hit). option_map_or (glazed behind f.alpha under) (option_map (fragment_in f) h) under) unhit
 
 -- ---- a row whose ends are left as they are
-pub pixels_skipped : {X : Type 0} (b : Band) (before : ℕ → ℕ → X) (f : ℕ → ℕ → X → X) (r n : ℕ) → ((q : ℕ) → q < n → q < b.width → f q r (before q r) ≡ before q r) → PixelsFollow b before before f r n
+pub pixels_skipped : {X : Type 0} (b : Block) (before : ℕ → ℕ → X) (f : ℕ → ℕ → X → X) (r n : ℕ) → ((q : ℕ) → q < n → q < b.width → f q r (before q r) ≡ before q r) → PixelsFollow b before before f r n
 pixels_skipped b before f r n still = record { drawn = λ q l in_row. sym (still q l in_row); ahead = λ q l in_row. refl; others = λ q s in_row apart. refl }
 
-pub pixels_rest : {X : Type 0} (b : Band) (before after : ℕ → ℕ → X) (f : ℕ → ℕ → X → X) (r n : ℕ) → PixelsFollow b before after f r n → ((q : ℕ) → n ≤ q → q < b.width → f q r (before q r) ≡ before q r) → RowFollows b before after f r
+pub pixels_rest : {X : Type 0} (b : Block) (before after : ℕ → ℕ → X) (f : ℕ → ℕ → X → X) (r n : ℕ) → PixelsFollow b before after f r n → ((q : ℕ) → n ≤ q → q < b.width → f q r (before q r) ≡ before q r) → RowFollows b before after f r
 pixels_rest b before after f r n so_far still = record {
   drawn = λ q l in_row. ⊎_elim
       (λ below. so_far.drawn q below in_row)
@@ -39,11 +35,11 @@ pixels_rest b before after f r n so_far still = record {
   others = so_far.others;
 }
 
-pub rows_skipped : {X : Type 0} (b : Band) (before : ℕ → ℕ → X) (f : ℕ → ℕ → X → X) (n : ℕ) → ((q r : ℕ) → q < b.width → r < n → f q r (before q r) ≡ before q r) → RowsFollow b before before f n
-rows_skipped b before f n still = record { drawn = λ q r in_row l. sym (still q r in_row l); ahead = λ q r in_row l. refl }
+pub rows_skipped : {X : Type 0} (b : Block) (before : ℕ → ℕ → X) (f : ℕ → ℕ → X → X) (n : ℕ) → ((q r : ℕ) → q < b.width → r < b.rows → r < n → f q r (before q r) ≡ before q r) → RowsFollow b before before f n
+rows_skipped b before f n still = record { drawn = λ q r in_row in_rows l. sym (still q r in_row in_rows l); ahead = λ q r in_row l. refl }
 
-pub rows_rest : {X : Type 0} (b : Band) (before after : ℕ → ℕ → X) (f : ℕ → ℕ → X → X) (n : ℕ) → RowsFollow b before after f n → ((q r : ℕ) → q < b.width → n ≤ r → r < b.rows → f q r (before q r) ≡ before q r) → Follows b before after f
+pub rows_rest : {X : Type 0} (b : Block) (before after : ℕ → ℕ → X) (f : ℕ → ℕ → X → X) (n : ℕ) → RowsFollow b before after f n → ((q r : ℕ) → q < b.width → n ≤ r → r < b.rows → f q r (before q r) ≡ before q r) → Follows b.width b.rows before after f
 rows_rest b before after f n so_far still q r column row = ⊎_elim
-    (λ below. so_far.drawn q r column below)
+    (λ below. so_far.drawn q r column row below)
     (λ beyond. so_far.ahead q r column beyond ∙ sym (still q r column beyond row))
     (cases_lt r n)

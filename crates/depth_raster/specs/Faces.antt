@@ -5,6 +5,7 @@ use Rattle.fx_math.specs.declared.lenses.Lens.{Lens}
 use Rattle.pf_model.specs.declared.geometry.Tri.{Tri}
 use Rattle.pf_model.specs.Walks.{Instance}
 use Rattle.tri_cover.specs.declared.hit.Hit.{Hit}
+use Rattle.tri_cover.specs.Glass.{alpha_of}
 use Rattle.tri_cover.specs.Hits.{hit, HitsAs}
 use Rattle.tri_cover.specs.Picture.{Fragment, nearer, glazed}
 use Rattle.depth_raster.specs.declared.faces.Face.{Face}
@@ -22,9 +23,13 @@ fragment_by lens px py f = option_map (fragment_in f) (hit lens px py [] f.tri)
 unfoldable pub over : Lens → (px py : ℕ) → Face → Option Fragment → Option Fragment
 over lens px py f drawn = option_map_or (nearer drawn) (fragment_by lens px py f) drawn
 
--- what the face, of glass of an alpha, leaves of the colour under it
-unfoldable pub glazed_by_face : Lens → (px py : ℕ) → Face → (alpha : ℕ) → Option Fragment → List ℕ → List ℕ
-glazed_by_face lens px py f alpha behind under = option_map_or (glazed behind alpha under) (fragment_by lens px py f) under
+-- what a hit of the face, of glass, leaves of the colour under it
+abbrev pub glazed_by_hit : Face → (behind : Option Fragment) → Option Hit → List ℕ → List ℕ
+glazed_by_hit f behind h under = option_map_or (glazed behind f.alpha under) (option_map (fragment_in f) h) under
+
+-- what the face, of glass, leaves of the colour under it
+unfoldable pub glazed_by_face : Lens → (px py : ℕ) → Face → (behind : Option Fragment) → List ℕ → List ℕ
+glazed_by_face lens px py f behind under = option_map_or (glazed behind f.alpha under) (fragment_by lens px py f) under
 
 -- the face stands for the triangle of a number of an instance
 pub record IsFaceOf (x : Instance) (n : ℕ) (t : Tri) (f : Face) : Type 0 where
@@ -32,3 +37,4 @@ pub record IsFaceOf (x : Instance) (n : ℕ) (t : Tri) (f : Face) : Type 0 where
   pub place : f.place ≡ x.place
   pub shift : f.shift ≡ x.shift
   pub number : f.number ≡ n
+  pub alpha : f.alpha ≡ alpha_of x

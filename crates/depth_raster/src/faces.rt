@@ -1,87 +1,88 @@
 //! Triangles of a draw list in eye coordinates.
-ghost use Rattle.std.specs.Prelude.{◌≡◌, ◌<◌, [], length, option_map};
+ghost use Rattle.std.specs.Prelude.{◌≡◌, ◌<◌, ◌-◌, [], length, IfSome};
+ghost use Rattle.draw_list.specs.Items.{instance_of_item};
 ghost use Rattle.draw_list.specs.Joints.{steps_at};
-ghost use Rattle.tri_cover.specs.Hits.{HitsAs};
-ghost use Rattle.depth_raster.specs.Faces.{fragment_by, over, glazed_by_face};
-ghost use Rattle.depth_raster.specs.Fragments.{fragment_of};
+ghost use Rattle.tri_cover.specs.Glass.{alpha_of};
+ghost use Rattle.tri_cover.specs.Hits.{hit, HitsAs};
+ghost use Rattle.depth_raster.specs.Faces.{glazed_by_face, IsFaceOf};
+ghost use Rattle.depth_raster.specs.Marks.{mark_over, behind_as};
 
-use crate::fragments::{Fragment, Key};
+use crate::glazing::blend;
+use crate::marks::Mark;
 use draw_list::{DrawList, Item};
 use fx_math::Lens;
 use pf_model::Tri;
 use tri_cover::cover;
 
-/// A triangle in eye coordinates, with what its item says of it: its place, its decal shift, and its number in the item.
+/// A triangle in eye coordinates, with what its item says of it: its place, its decal shift, its number in the item and the
+/// alpha of glass; and its rank among the faces that are drawn together, from 1.
 #[derive(Clone, Copy)]
 pub(crate) struct Face {
     pub(crate) tri: Tri,
     pub(crate) place: u32,
     pub(crate) shift: u32,
     pub(crate) number: u32,
+    pub(crate) rank: u32,
+    pub(crate) alpha: u8,
 }
 
 impl Face {
-    /// The face of the triangle of a number in an item.
+    /// The face of the triangle of a number in an item, of no rank yet.
     pub(crate) fn of(list: &DrawList, item: &Item, number: u32, tri: &Tri) -> Face
         requires { item.now.joint < length list.now.joints.lists }
-        ensures tri { HitsAs tri.now (steps_at list.now.joints.lists item.now.joint) result.tri }
-        ensures place { result.place ≡ item.now.place }
-        ensures shift { result.shift ≡ item.now.shift }
-        ensures number { result.number ≡ number }
+        ensures { IsFaceOf (instance_of_item list.now.joints.lists list.now.kept.tris item.now) number tri.now result }
     {
         Face {
             tri: at_eye(list, item.joint, tri),
             place: item.place,
             shift: item.shift,
             number,
+            rank: 0,
+            alpha: alpha(item),
         }
     }
 
-    /// The fragment of this face at a pixel, where it hits.
-    #[tactic(auto, unfolding(crate::specs::Faces::fragment_by))]
-    fn fragment(&self, lens: &Lens, px: u16, py: u16) -> Option<Fragment>
+    /// The nearer of what is nearest at a pixel and this face.
+    #[tactic(auto, unfolding(crate::specs::Marks::mark_over))]
+    pub(crate) fn over(&self, mark: Mark, lens: &Lens, px: u16, py: u16) -> Mark
         requires x { px < lens.now.w }
         requires y { py < lens.now.h }
-        ensures { option_map fragment_of result ≡ fragment_by lens.now px py self.now }
+        ensures { result ≡ mark_over lens.now px py self.now mark }
     {
-        let hit = cover(&self.tri, px, py, lens)?;
-        let depth = hit.depth.saturating_sub(self.shift);
-        let colour = hit.colour;
-        Some(Fragment {
-            key: Key {
-                depth,
-                place: self.place,
-                number: self.number,
-            },
-            colour,
-        })
-    }
-
-    /// The nearer of what is drawn at a pixel and this face.
-    #[tactic(auto, unfolding(crate::specs::Faces::over))]
-    pub(crate) fn over(
-        &self,
-        mark: Option<Fragment>,
-        lens: &Lens,
-        px: u16,
-        py: u16,
-    ) -> Option<Fragment>
-        requires x { px < lens.now.w }
-        requires y { py < lens.now.h }
-        ensures { option_map fragment_of result ≡ over lens.now px py self.now (option_map fragment_of mark) }
-    {
-        match self.fragment(lens, px, py) {
-            Some(fragment) => Fragment::nearer(mark, fragment),
+        match cover(&self.tri, px, py, lens) {
+            Some(hit) => mark.lesser(self.mark(hit.depth)),
             None => mark,
         }
     }
 
-    /// What this face, of glass of an alpha, leaves of the colour under it at a pixel.
-    #[tactic(auto, unfolding(crate::specs::Faces::glazed_by_face))]
+    /// The mark of a hit at a depth.
+    pub(crate) fn mark(&self, depth: u32) -> Mark
+        ensures { result ≡ record { depth = depth - self.now.shift; place = self.now.place; number = self.now.number; rank = self.now.rank } }
+    {
+        Mark {
+            depth: depth.saturating_sub(self.shift),
+            place: self.place,
+            number: self.number,
+            rank: self.rank,
+        }
+    }
+
+    /// The colour of this face at a pixel where it hits.
+    pub(crate) fn colour(&self, lens: &Lens, px: u16, py: u16) -> [u8; 3]
+        requires x { px < lens.now.w }
+        requires y { py < lens.now.h }
+        ensures { IfSome (hit lens.now px py [] self.now.tri) (λ h. result ≡ h.colour) }
+    {
+        match cover(&self.tri, px, py, lens) {
+            Some(hit) => hit.colour,
+            None => [0; 3],
+        }
+    }
+
+    /// What this face, of glass, leaves of the colour under it at a pixel.
     pub(crate) fn glazed(
         &self,
-        behind: &Option<Fragment>,
-        alpha: u8,
+        behind: &Mark,
         under: [u8; 3],
         lens: &Lens,
         px: u16,
@@ -89,12 +90,28 @@ impl Face {
     ) -> [u8; 3]
         requires x { px < lens.now.w }
         requires y { py < lens.now.h }
-        ensures { result ≡ glazed_by_face lens.now px py self.now alpha (option_map fragment_of behind.now) under }
+        ensures { result ≡ glazed_by_face lens.now px py self.now (behind_as behind.now) under }
     {
-        match self.fragment(lens, px, py) {
-            Some(fragment) => fragment.glazed(behind, alpha, under),
+        match cover(&self.tri, px, py, lens) {
+            Some(hit) => {
+                if behind.depth < hit.depth.saturating_sub(self.shift) {
+                    under
+                } else {
+                    blend(self.alpha, hit.colour, under)
+                }
+            }
             None => under,
         }
+    }
+}
+
+/// The alpha of an item; 0 where it is opaque.
+fn alpha(item: &Item) -> u8
+    ensures { result ≡ alpha_of (instance_of_item [] [] item.now) }
+{
+    match item.tint {
+        Some(tint) => tint.alpha,
+        None => 0,
     }
 }
 

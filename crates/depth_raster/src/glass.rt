@@ -1,39 +1,35 @@
-//! Glass over the pixels of a band.
-ghost use Rattle.std.specs.Prelude.{◌≡◌, ◌<◌, filter, length};
+//! Glass over a picture, batch by batch.
+ghost use Rattle.std.specs.Prelude.{◌≡◌, ◌<◌, [], filter, length};
 ghost use Rattle.std.specs.Option.{option_to_list};
 ghost use Rattle.std.specs.List.{slice_get};
-ghost use Rattle.draw_list.specs.Items.{instance_of_item, label_of};
+ghost use Rattle.draw_list.specs.Items.{instance_of_item};
 ghost use Rattle.draw_list.specs.Lists.{instances_in};
-ghost use Rattle.tri_cover.specs.Glass.{is_glass, is_drawn_before, alpha_of};
+ghost use Rattle.tri_cover.specs.Glass.{is_glass, is_drawn_before};
 ghost use Rattle.tri_cover.specs.Sorting.{sorted};
-ghost use Rattle.depth_raster.specs.Bands.{IsBandOf, size_of, mark_in, colour_in};
-ghost use Rattle.depth_raster.specs.Following.{Follows, RowFollows};
-ghost use Rattle.depth_raster.specs.Reach.{IsReachOf};
-ghost use Rattle.depth_raster.specs.Drawing.{face_glazes, instance_glazes, glass_glazes};
+ghost use Rattle.depth_raster.specs.Canvas.{IsOpen, Glazes, face_glazed, instance_glazed, glass_glazed};
 
-use crate::bands::Band;
+use crate::batch::Batch;
 use crate::faces::Face;
-use crate::fragments::Fragment;
+use crate::glass_strips::glaze_strips;
+use crate::opaque::thread_count;
 use crate::panes::next_pane;
-use crate::pixels::glazed;
-use crate::reach::Reach;
+use crate::strip::Strip;
 use draw_list::{DrawList, Item};
 use fx_math::Lens;
+use std::thread::Threads;
 
-/// Draws the glass of a list over the colours of a band, from far to near.
-pub(crate) fn draw_glass(
-    pixels: &mut [[u8; 3]],
-    marks: &[Option<Fragment>],
-    band: &Band,
+/// Draws the glass of a list, from far to near.
+pub(crate) fn draw_glass<R: Threads + Sync>(
+    rt: &R,
+    strips: &mut [Strip],
+    batch: &mut Batch,
     lens: &Lens,
     list: &DrawList,
 )
-    requires pixels { length pixels.old ≡ size_of band.now }
-    requires marks { length marks.now ≡ size_of band.now }
-    requires band { IsBandOf lens.now band.now }
-    ensures { Follows band.now (colour_in band.now pixels.old) (colour_in band.now pixels.new)
-        (glass_glazes lens.now band.now (mark_in band.now marks.now)
-        (sorted is_drawn_before (filter is_glass (instances_in list.now)))) }
+    requires sound { IsOpen lens.now strips.old batch.old.pieces.items }
+    ensures sound { IsOpen lens.now strips.new batch.new.pieces.items }
+    ensures glass { Glazes lens.now strips.old batch.old.pieces.items strips.new batch.new.pieces.items
+        (glass_glazed lens.now (sorted is_drawn_before (filter is_glass (instances_in list.now)))) }
 {
     let mut last = None;
     for count in 0..list.len() {
@@ -41,124 +37,98 @@ pub(crate) fn draw_glass(
             Some(pane) => pane,
             None => return,
         };
-        draw_pane(pixels, marks, band, lens, list, pane.number);
+        draw_pane(rt, strips, batch, lens, list, pane.number);
         last = Some(pane);
     }
 }
 
 /// Draws the item of a number, which is glass.
-fn draw_pane(
-    pixels: &mut [[u8; 3]],
-    marks: &[Option<Fragment>],
-    band: &Band,
+fn draw_pane<R: Threads + Sync>(
+    rt: &R,
+    strips: &mut [Strip],
+    batch: &mut Batch,
     lens: &Lens,
     list: &DrawList,
     number: usize,
 )
-    requires pixels { length pixels.old ≡ size_of band.now }
-    requires marks { length marks.now ≡ size_of band.now }
-    requires band { IsBandOf lens.now band.now }
-    ensures { Follows band.now (colour_in band.now pixels.old) (colour_in band.now pixels.new)
-        (glass_glazes lens.now band.now (mark_in band.now marks.now)
-        (option_to_list (slice_get (instances_in list.now) number))) }
+    requires sound { IsOpen lens.now strips.old batch.old.pieces.items }
+    ensures sound { IsOpen lens.now strips.new batch.new.pieces.items }
+    ensures glass { Glazes lens.now strips.old batch.old.pieces.items strips.new batch.new.pieces.items
+        (glass_glazed lens.now (option_to_list (slice_get (instances_in list.now) number))) }
 {
     match list.item(number) {
-        Some(item) => draw_item(pixels, marks, band, lens, list, item),
+        Some(item) => draw_item(rt, strips, batch, lens, list, item),
         None => {}
     }
 }
 
 /// Draws the triangles of an item of glass.
-fn draw_item(
-    pixels: &mut [[u8; 3]],
-    marks: &[Option<Fragment>],
-    band: &Band,
+fn draw_item<R: Threads + Sync>(
+    rt: &R,
+    strips: &mut [Strip],
+    batch: &mut Batch,
     lens: &Lens,
     list: &DrawList,
     item: &Item,
 )
-    requires pixels { length pixels.old ≡ size_of band.now }
-    requires marks { length marks.now ≡ size_of band.now }
-    requires band { IsBandOf lens.now band.now }
+    requires sound { IsOpen lens.now strips.old batch.old.pieces.items }
     requires joint { item.now.joint < length list.now.joints.lists }
-    ensures { Follows band.now (colour_in band.now pixels.old) (colour_in band.now pixels.new)
-        (instance_glazes lens.now band.now (mark_in band.now marks.now)
-        (instance_of_item list.now.joints.lists list.now.kept.tris item.now)) }
+    ensures sound { IsOpen lens.now strips.new batch.new.pieces.items }
+    ensures glass { Glazes lens.now strips.old batch.old.pieces.items strips.new batch.new.pieces.items
+        (instance_glazed lens.now (instance_of_item list.now.joints.lists list.now.kept.tris item.now)) }
 {
-    let alpha = alpha(item);
     for number in 0..item.geom.len {
         let tri = match list.tri(item.geom, number) {
             Some(tri) => tri,
             None => return,
         };
         let face = Face::of(list, item, number, &tri);
-        draw_face(pixels, marks, band, lens, &face, alpha);
+        draw_face(rt, strips, batch, lens, face);
     }
 }
 
-/// The alpha of an item; 0 where it is opaque.
-fn alpha(item: &Item) -> u8
-    ensures { result ≡ alpha_of (label_of item.now) }
-{
-    match item.tint {
-        Some(tint) => tint.alpha,
-        None => 0,
-    }
-}
-
-/// Draws a face of glass.
-fn draw_face(
-    pixels: &mut [[u8; 3]],
-    marks: &[Option<Fragment>],
-    band: &Band,
+/// Draws a face of glass: it becomes one of those that are drawn together; where these have no more room, they are drawn
+/// before.
+fn draw_face<R: Threads + Sync>(
+    rt: &R,
+    strips: &mut [Strip],
+    batch: &mut Batch,
     lens: &Lens,
-    face: &Face,
-    alpha: u8,
+    face: Face,
 )
-    requires pixels { length pixels.old ≡ size_of band.now }
-    requires marks { length marks.now ≡ size_of band.now }
-    requires band { IsBandOf lens.now band.now }
-    ensures { Follows band.now (colour_in band.now pixels.old) (colour_in band.now pixels.new)
-        (face_glazes lens.now band.now (mark_in band.now marks.now) face.now alpha) }
+    requires sound { IsOpen lens.now strips.old batch.old.pieces.items }
+    ensures sound { IsOpen lens.now strips.new batch.new.pieces.items }
+    ensures glass { Glazes lens.now strips.old batch.old.pieces.items strips.new batch.new.pieces.items
+        (face_glazed lens.now face) }
 {
-    let reach = Reach::of(&face.tri, lens);
-    for r in band.rows_from(reach.extent.top)..band.rows_to(reach.extent.bottom) {
-        draw_row(pixels, marks, band, lens, face, alpha, &reach, r);
+    make_room(rt, strips, batch, lens);
+    batch.push(face, lens);
+}
+
+/// Draws a full batch.
+fn make_room<R: Threads + Sync>(rt: &R, strips: &mut [Strip], batch: &mut Batch, lens: &Lens)
+    requires sound { IsOpen lens.now strips.old batch.old.pieces.items }
+    ensures sound { IsOpen lens.now strips.new batch.new.pieces.items }
+    ensures room { length batch.new.pieces.items < 16384 }
+    ensures glass { Glazes lens.now strips.old batch.old.pieces.items strips.new batch.new.pieces.items
+        (λ behind px py under. under) }
+{
+    if batch.is_full() {
+        flush(rt, strips, batch, lens);
     }
 }
 
-/// Draws a face of glass in a row of the band.
-fn draw_row(
-    pixels: &mut [[u8; 3]],
-    marks: &[Option<Fragment>],
-    band: &Band,
-    lens: &Lens,
-    face: &Face,
-    alpha: u8,
-    reach: &Reach,
-    r: u16,
-)
-    requires pixels { length pixels.old ≡ size_of band.now }
-    requires marks { length marks.now ≡ size_of band.now }
-    requires band { IsBandOf lens.now band.now }
-    requires reach { IsReachOf lens.now face.now.tri reach.now }
-    requires row { r < band.now.rows }
-    ensures { RowFollows band.now (colour_in band.now pixels.old) (colour_in band.now pixels.new)
-        (face_glazes lens.now band.now (mark_in band.now marks.now) face.now alpha) r }
+/// Draws the pieces of glass of a batch, which has none then.
+pub(crate) fn flush<R: Threads + Sync>(rt: &R, strips: &mut [Strip], batch: &mut Batch, lens: &Lens)
+    requires sound { IsOpen lens.now strips.old batch.old.pieces.items }
+    ensures sound { IsOpen lens.now strips.new batch.new.pieces.items }
+    ensures empty { batch.new.pieces.items ≡ [] }
+    ensures glass { Glazes lens.now strips.old batch.old.pieces.items strips.new []
+        (λ behind px py under. under) }
 {
-    for q in reach.extent.left..reach.extent.right {
-        let place = band.place(q, r);
-        let under = pixels[place];
-        let glazed = glazed(
-            face,
-            reach,
-            &marks[place],
-            alpha,
-            under,
-            lens,
-            q,
-            band.first + r,
-        );
-        pixels[place] = glazed;
+    if batch.pieces.len() == 0 {
+        return;
     }
+    glaze_strips(rt, strips, thread_count(&batch.pieces), lens, &batch.pieces);
+    batch.clear();
 }

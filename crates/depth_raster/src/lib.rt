@@ -1,20 +1,32 @@
 //! Pictures of draw lists by a depth buffer, band by band.
 #![tactic(auto)]
 
-mod bands;
+mod across;
+mod batch;
+mod blocks;
 mod corners;
 mod extents;
 mod faces;
-mod forms;
-mod fragments;
 mod glass;
+mod glass_strips;
+mod glass_tiles;
+mod glazing;
+mod hiding;
+mod looks;
 mod marks;
+mod opaque;
+mod painting;
 mod panes;
+mod pieces;
 mod pixels;
 mod raster;
-mod reach;
+mod shades;
+mod shown;
+mod slots;
 mod strip;
 mod strips;
+mod tile;
+mod tiles;
 
 pub use raster::Raster;
 

@@ -1,43 +1,74 @@
-//! A face at a pixel, refused without a division where its reach tells that it changes nothing there.
-ghost use Rattle.std.specs.Prelude.{◌≡◌, ◌+◌, ◌<◌, option_map};
-ghost use Rattle.depth_raster.specs.Faces.{over, glazed_by_face};
-ghost use Rattle.depth_raster.specs.Fragments.{fragment_of};
-ghost use Rattle.depth_raster.specs.Reach.{IsReachOf, is_hidden_by};
+//! A piece at a pixel.
+ghost use Rattle.std.specs.Prelude.{◌≡◌, ◌+◌, ◌<◌, option_map, true, IfSome, Some, []};
+ghost use Rattle.fx_math.specs.Limits.{size_limit};
+ghost use Rattle.tri_cover.specs.Faces as faces;
+ghost use Rattle.tri_cover.specs.declared.hit.Hit.{Hit};
+ghost use Rattle.tri_cover.specs.Hits.{hit};
+ghost use Rattle.depth_raster.specs.Around.{IsWithin};
+ghost use Rattle.depth_raster.specs.Faces.{glazed_by_face, glazed_by_hit};
+ghost use Rattle.depth_raster.specs.Marks.{mark_of, mark_with, mark_over, behind_as};
+ghost use Rattle.depth_raster.specs.Pieces.{IsPieceOf};
 
 use crate::faces::Face;
-use crate::fragments::Fragment;
-use crate::reach::Reach;
+use crate::glazing::blend;
+use crate::looks::look;
+use crate::marks::Mark;
+use crate::pieces::Piece;
+use crate::shades::shade;
 use fx_math::Lens;
+use tri_cover::Ready;
 
-/// The nearer of what is drawn at a pixel and a face.
-pub(crate) fn nearer(
-    face: &Face,
-    reach: &Reach,
-    drawn: Option<Fragment>,
-    lens: &Lens,
-    px: u16,
-    py: u16,
-) -> Option<Fragment>
+/// The nearer of a mark and a piece at a pixel.
+pub(crate) fn nearer(piece: &Piece, mark: Mark, lens: &Lens, px: u16, py: u16) -> Mark
     requires x { px < lens.now.w }
     requires y { py < lens.now.h }
-    requires reach { IsReachOf lens.now face.now.tri reach.now }
-    ensures { option_map fragment_of result ≡ over lens.now px py face.now (option_map fragment_of drawn) }
+    requires ready { IsPieceOf lens.now piece.now }
+    requires inside { IsWithin piece.now.extent px py }
+    ensures { result ≡ mark_over lens.now px py piece.now.face mark }
 {
-    if reach.misses(px, py) {
-        return drawn;
+    match &piece.ready {
+        Ready::Face(face) => nearer_face(face, &piece.face, mark, px, py),
+        _ => piece.face.over(mark, lens, px, py),
     }
-    if is_hidden(face, reach, &drawn, px, py) {
-        return drawn;
-    }
-    face.over(drawn, lens, px, py)
 }
 
-/// What a face, of glass of an alpha, leaves of the colour under it at a pixel.
+/// The nearer of a mark and a face at a pixel.
+fn nearer_face(face: &tri_cover::Face, label: &Face, mark: Mark, px: u16, py: u16) -> Mark
+    requires x { px < size_limit }
+    requires y { py < size_limit }
+    requires inside { faces.is_in_box face.now.extent px py ≡ true }
+    ensures { result ≡ mark_with mark (option_map (mark_of label.now) (faces.face_hit face.now px py)) }
+{
+    match look(face, limit(mark.depth, label.shift), px, py) {
+        Some(depth) => mark.lesser(label.mark(depth)),
+        None => mark,
+    }
+}
+
+/// The least depth of a hit that lies behind a depth even when it is brought nearer by a decal shift.
+pub(crate) fn limit(depth: u32, shift: u32) -> u64
+    ensures { result ≡ depth + 1 + shift }
+{
+    u64::from(depth) + 1 + u64::from(shift)
+}
+
+/// The colour of a piece at a pixel where it is hit; a guess that is near makes it cheap.
+pub(crate) fn colour(piece: &Piece, guess: [u8; 3], lens: &Lens, px: u16, py: u16) -> [u8; 3]
+    requires x { px < lens.now.w }
+    requires y { py < lens.now.h }
+    requires ready { IsPieceOf lens.now piece.now }
+    ensures { IfSome (hit lens.now px py [] piece.now.face.tri) (λ h. result ≡ h.colour) }
+{
+    match &piece.ready {
+        Ready::Face(face) => shade(face, guess, px, py),
+        _ => piece.face.colour(lens, px, py),
+    }
+}
+
+/// What a piece of glass leaves of the colour under it at a pixel.
 pub(crate) fn glazed(
-    face: &Face,
-    reach: &Reach,
-    behind: &Option<Fragment>,
-    alpha: u8,
+    piece: &Piece,
+    behind: &Mark,
     under: [u8; 3],
     lens: &Lens,
     px: u16,
@@ -45,34 +76,33 @@ pub(crate) fn glazed(
 ) -> [u8; 3]
     requires x { px < lens.now.w }
     requires y { py < lens.now.h }
-    requires reach { IsReachOf lens.now face.now.tri reach.now }
-    ensures { result ≡ glazed_by_face lens.now px py face.now alpha (option_map fragment_of behind.now) under }
+    requires ready { IsPieceOf lens.now piece.now }
+    requires inside { IsWithin piece.now.extent px py }
+    ensures { result ≡ glazed_by_face lens.now px py piece.now.face (behind_as behind.now) under }
 {
-    if reach.misses(px, py) {
-        return under;
-    }
-    if is_hidden(face, reach, behind, px, py) {
-        return under;
-    }
-    face.glazed(behind, alpha, under, lens, px, py)
-}
-
-/// Whether the reach of a face tells that it lies behind what is drawn at a pixel.
-fn is_hidden(face: &Face, reach: &Reach, behind: &Option<Fragment>, px: u16, py: u16) -> bool
-    ensures { result ≡ is_hidden_by face.now reach.now (option_map fragment_of behind.now) px py }
-{
-    match behind {
-        Some(nearest) => {
-            let depth = depth_behind(nearest.key.depth, face.shift);
-            reach.is_behind(depth, px, py)
-        }
-        None => false,
+    match &piece.ready {
+        Ready::Face(face) => glazed_face(face, &piece.face, behind, under, px, py),
+        _ => piece.face.glazed(behind, under, lens, px, py),
     }
 }
 
-/// The least depth of a hit that lies behind a depth even when it is brought nearer by a decal shift.
-fn depth_behind(depth: u32, shift: u32) -> u64
-    ensures { result ≡ depth + 1 + shift }
+/// What a face of glass leaves of the colour under it at a pixel.
+fn glazed_face(
+    face: &tri_cover::Face,
+    label: &Face,
+    behind: &Mark,
+    under: [u8; 3],
+    px: u16,
+    py: u16,
+) -> [u8; 3]
+    requires x { px < size_limit }
+    requires y { py < size_limit }
+    requires inside { faces.is_in_box face.now.extent px py ≡ true }
+    requires small { (h : Hit) → faces.face_hit face.now px py ≡ Some h → h.depth < 2147483648 }
+    ensures { result ≡ glazed_by_hit label.now (behind_as behind.now) (faces.face_hit face.now px py) under }
 {
-    u64::from(depth) + 1 + u64::from(shift)
+    match look(face, limit(behind.depth, label.shift), px, py) {
+        Some(_depth) => blend(label.alpha, shade(face, under, px, py), under),
+        None => under,
+    }
 }

@@ -1,15 +1,20 @@
 //! The renderer.
-ghost use Rattle.std.specs.Prelude.{◌≡◌, ℕ, ◌+◌, ◌*◌, ◌<◌, ◌≤◌, length, slice_index_or, IfOk};
-ghost use Rattle.ppm_out.specs.Pixmap.{Shows, SetsRows, pixel};
+ghost use Rattle.std.specs.Prelude.{◌≡◌, ℕ, ◌*◌, ◌<◌, [], IfOk};
+ghost use Rattle.std.specs.Int.{div_ceil};
+ghost use Rattle.ppm_out.specs.Pixmap.{Shows};
 ghost use Rattle.tri_cover.specs.Picture.{picture};
 ghost use Rattle.draw_list.specs.Lists.{instances_in};
-ghost use Rattle.depth_raster.specs.Bands.{colour_in};
-ghost use Rattle.depth_raster.specs.Strips.{band_at, AreStrips};
-ghost use Rattle.depth_raster.specs.declared.strip.Strip.{Strip};
+ghost use Rattle.depth_raster.specs.Canvas.{colour_at};
+ghost use Rattle.depth_raster.specs.Strips.{band_at, tile_block, AreTilesOf, AreStrips};
 
-use crate::bands::Band;
+use crate::across::COLUMNS;
+use crate::batch::Batch;
+use crate::blocks::Block;
+use crate::shown::{assemble_strips, show};
 use crate::strip::Strip;
-use crate::strips::{ROWS, draw_strips};
+use crate::strips::{ROWS, clear_strips};
+use crate::tile::Tile;
+use crate::{glass, opaque};
 use draw_list::DrawList;
 use fx_math::Lens;
 use pf_io::NoMemory;
@@ -18,20 +23,16 @@ use std::alloc::Global;
 use std::marker::Model;
 use std::thread::Threads;
 
-/// The most threads that draw one picture.
-const MOST_THREADS: usize = 4;
-
-/// The items from which on a picture is drawn by several threads.
-const MANY_ITEMS: usize = 64;
-
 /// A renderer with a depth buffer for the pictures of one lens, which it is seen as.
 #[derive(Drop)]
 pub struct Raster {
     lens: Lens,
     strips: Vec<Strip>,
+    batch: Batch,
 }
 
 impl Model for Raster {
+    ghost use Rattle.std.specs.Prelude.{◌≡◌, []};
     ghost use Rattle.fx_math.specs.declared.lenses.Lens.{Lens};
     ghost use Rattle.depth_raster.specs.Strips.{AreStrips};
 
@@ -39,18 +40,20 @@ impl Model for Raster {
 
     ghost view = { λ r. r.lens };
 
-    ghost invariant = { λ r. AreStrips r.lens r.strips.items };
+    ghost invariant = { λ r. AreStrips r.lens r.strips.items × (r.batch.pieces.items ≡ []) };
 }
 
 impl Raster {
-    /// The renderer of a lens.
+    /// The renderer of a lens, with all the memory that it will ever need.
     pub fn new(alloc: Global, lens: &Lens) -> Result<Raster, NoMemory>
         ensures { IfOk result (λ raster. raster ≡ lens.now) }
     {
         let strips = new_strips(alloc, lens)?;
+        let batch = Batch::new(alloc)?;
         Ok(Raster {
             lens: *lens,
             strips,
+            batch,
         })
     }
 
@@ -71,7 +74,15 @@ impl Raster {
         ensures height { image.new.height ≡ image.old.height }
         ensures pixels { Shows image.new (picture self.old back (instances_in list.now)) }
     {
-        draw_all(rt, &mut self.strips, &self.lens, list, back, image);
+        draw_all(
+            rt,
+            &mut self.strips,
+            &mut self.batch,
+            &self.lens,
+            list,
+            back,
+            image,
+        );
     }
 }
 
@@ -79,32 +90,48 @@ impl Raster {
 fn draw_all<R: Threads + Sync>(
     rt: &R,
     strips: &mut [Strip],
+    batch: &mut Batch,
     lens: &Lens,
     list: &DrawList,
     back: [u8; 3],
     image: &mut Image,
 )
     requires strips { AreStrips lens.now strips.old }
+    requires empty { batch.old.pieces.items ≡ [] }
     requires width { image.old.width ≡ lens.now.w }
     requires height { image.old.height ≡ lens.now.h }
     ensures strips { AreStrips lens.now strips.new }
+    ensures empty { batch.new.pieces.items ≡ [] }
     ensures width { image.new.width ≡ image.old.width }
     ensures height { image.new.height ≡ image.old.height }
     ensures pixels { Shows image.new (picture lens.now back (instances_in list.now)) }
 {
-    draw_strips(rt, strips, thread_count(list), lens, back, list);
+    draw_strips(rt, strips, batch, lens, list, back);
+    assemble_strips(strips, lens);
     show(image, strips, lens);
 }
 
-/// How many threads a list is worth.
-fn thread_count(list: &DrawList) -> usize
-    ensures { 0 < result }
+/// Draws the picture of a list in strips.
+fn draw_strips<R: Threads + Sync>(
+    rt: &R,
+    strips: &mut [Strip],
+    batch: &mut Batch,
+    lens: &Lens,
+    list: &DrawList,
+    back: [u8; 3],
+)
+    requires strips { AreStrips lens.now strips.old }
+    requires empty { batch.old.pieces.items ≡ [] }
+    ensures strips { AreStrips lens.now strips.new }
+    ensures empty { batch.new.pieces.items ≡ [] }
+    ensures colours { (px py : ℕ) → px < lens.now.w → py < lens.now.h
+        → colour_at strips.new px py ≡ picture lens.now back (instances_in list.now) px py }
 {
-    if list.len() < MANY_ITEMS {
-        1
-    } else {
-        MOST_THREADS
-    }
+    clear_strips(strips);
+    opaque::draw_opaque(rt, strips, batch, lens, back, list);
+    opaque::flush(rt, strips, batch, lens, back);
+    glass::draw_glass(rt, strips, batch, lens, list);
+    glass::flush(rt, strips, batch, lens);
 }
 
 /// The strips of a lens's picture, from the top.
@@ -113,45 +140,59 @@ fn new_strips(alloc: Global, lens: &Lens) -> Result<Vec<Strip>, NoMemory>
 {
     let mut strips = Vec::new(alloc);
     for i in 0..lens.h.div_ceil(ROWS) {
-        strips.push(Strip::new(alloc, band_at(lens, i))?)?;
+        strips.push(new_strip(alloc, band_at(lens, i))?)?;
     }
     Ok(strips)
 }
 
 /// The band of a number in a lens's picture.
-fn band_at(lens: &Lens, i: u16) -> Band
+fn band_at(lens: &Lens, i: u16) -> Block
     requires { 16 * i < lens.now.h }
     ensures { result ≡ band_at lens.now i }
 {
     let first = ROWS * i;
-    Band {
+    Block {
+        left: 0,
         first,
-        rows: ROWS.min(lens.h - first),
         width: lens.w,
+        rows: ROWS.min(lens.h - first),
     }
 }
 
-/// Puts the colours of all strips into an image.
-fn show(image: &mut Image, strips: &[Strip], lens: &Lens)
-    requires width { image.old.width ≡ lens.now.w }
-    requires height { image.old.height ≡ lens.now.h }
-    requires strips { AreStrips lens.now strips.now }
-    ensures width { image.new.width ≡ image.old.width }
-    ensures height { image.new.height ≡ image.old.height }
-    ensures pixels { (i q r : ℕ) (d : Strip) → i < length strips.now → q < lens.now.w
-        → r < (slice_index_or strips.now i d).band.rows → pixel image.new q (16 * i + r)
-        ≡ colour_in (slice_index_or strips.now i d).band (slice_index_or strips.now i d).pixels.items q r }
+/// A strip of nothing, black.
+fn new_strip(alloc: Global, band: Block) -> Result<Strip, NoMemory>
+    ensures { IfOk result (λ s. (s.band ≡ band) × AreTilesOf band s.tiles.items) }
 {
-    for i in 0..strips.len() {
-        show_strip(image, &strips[i]);
-    }
+    let tiles = new_tiles(alloc, &band)?;
+    let count = band.rows as usize * band.width as usize;
+    Ok(Strip {
+        band,
+        tiles,
+        pixels: vec![in alloc; [0; 3]; count]?,
+    })
 }
 
-/// Puts the colours of a strip into an image.
-fn show_strip(image: &mut Image, strip: &Strip)
-    requires width { strip.now.band.width ≡ image.old.width }
-    requires height { strip.now.band.first + strip.now.band.rows ≤ image.old.height }
-    ensures { SetsRows image.old image.new strip.now.band.first strip.now.pixels.items }
+/// The tiles of a band, from the left.
+fn new_tiles(alloc: Global, band: &Block) -> Result<Vec<Tile>, NoMemory>
+    ensures { IfOk result (λ tiles. AreTilesOf band.now tiles.items) }
 {
-    image.set_rows(strip.band.first, &strip.pixels);
+    let mut tiles = Vec::new(alloc);
+    for j in 0..band.width.div_ceil(COLUMNS) {
+        tiles.push(Tile::new(alloc, tile_block(band, j))?)?;
+    }
+    Ok(tiles)
+}
+
+/// The block of the tile of a number in a band.
+fn tile_block(band: &Block, j: u16) -> Block
+    requires { 16 * j < band.now.width }
+    ensures { result ≡ tile_block band.now j }
+{
+    let left = COLUMNS * j;
+    Block {
+        left,
+        first: band.first,
+        width: COLUMNS.min(band.width - left),
+        rows: band.rows,
+    }
 }

@@ -1,18 +1,18 @@
 //! The strips of a picture, drawn.
-ghost use Rattle.std.specs.Prelude.{◌≡◌, ℕ, ◌<◌, [], None, All, length, replicate, option_map, slice_index_or};
-ghost use Rattle.tri_cover.specs.Picture.{colour_under, picture};
-ghost use Rattle.draw_list.specs.Lists.{instances_in};
-ghost use Rattle.depth_raster.specs.Fragments.{fragment_of};
-ghost use Rattle.depth_raster.specs.Bands.{IsBandOf, size_of};
-ghost use Rattle.depth_raster.specs.Strips.{ShowsBand, IsDrawn};
-ghost use Rattle.depth_raster.specs.declared.strip.Strip.{Strip};
+ghost use Rattle.std.specs.Prelude.{◌≡◌, ◌<◌, All};
+ghost use Rattle.depth_raster.specs.Blocks.{IsBlockOf};
+ghost use Rattle.depth_raster.specs.Pieces.{IsPieceOf, AreRanked};
+ghost use Rattle.depth_raster.specs.Slots.{AreSlotsOf};
+ghost use Rattle.depth_raster.specs.Strips.{AreTilesOf, TilesRelate, IsStripOf, StripRelates, StripsRelate};
+ghost use Rattle.depth_raster.specs.Tiles.{IsCleared, IsPainted, IsDrawn};
 
-use crate::bands::Band;
-use crate::fragments::Fragment;
-use crate::glass::draw_glass;
-use crate::marks::draw_opaque;
+use crate::across::draw_slots;
+use crate::blocks::Block;
+use crate::painting::{clear, paint};
+use crate::pieces::Piece;
+use crate::slots::Slot;
 use crate::strip::Strip;
-use draw_list::DrawList;
+use crate::tile::Tile;
 use fx_math::Lens;
 use std::thread;
 use std::thread::Threads;
@@ -20,86 +20,87 @@ use std::thread::Threads;
 /// The rows of a strip; the last one of a picture may have fewer.
 pub(crate) const ROWS: u16 = 16;
 
-/// Draws the picture of a list in its strips, in at most so many threads.
+/// Clears the marks of strips.
+pub(crate) fn clear_strips(strips: &mut [Strip])
+    ensures { StripsRelate IsCleared strips.old strips.new }
+{
+    for i in 0..strips.len() {
+        clear_tiles(&mut strips[i]);
+    }
+}
+
+fn clear_tiles(strip: &mut Strip)
+    ensures { StripRelates IsCleared strip.old strip.new }
+{
+    for t in 0..strip.tiles.len() {
+        clear(&mut strip.tiles[t]);
+    }
+}
+
+/// Draws opaque pieces in strips, in at most so many threads.
 pub(crate) fn draw_strips<R: Threads + Sync>(
     rt: &R,
     strips: &mut [Strip],
     threads: usize,
     lens: &Lens,
     back: [u8; 3],
-    list: &DrawList,
+    pieces: &[Piece],
+    slots: &[Slot],
 )
     requires threads { 0 < threads }
-    requires bands { All (λ s. IsBandOf lens.now s.band) strips.old }
-    ensures { (i : ℕ) (d : Strip) → i < length strips.old
-        → IsDrawn lens.now back (instances_in list.now) (slice_index_or strips.old i d) (slice_index_or strips.new i d) }
+    requires strips { All (IsStripOf lens.now) strips.old }
+    requires pieces { All (IsPieceOf lens.now) pieces.now }
+    requires ranks { AreRanked pieces.now }
+    requires slots { AreSlotsOf lens.now pieces.now slots.now }
+    ensures { StripsRelate (IsDrawn lens.now back pieces.now) strips.old strips.new }
 {
     thread::for_each_mut(
         rt,
         strips,
         threads,
-        &|_, strip| draw_strip(strip, lens, back, list),
+        &|_, strip| draw_strip(strip, lens, back, pieces, slots),
     );
 }
 
-/// Draws a strip's part of the picture of a list before a background.
-fn draw_strip(strip: &mut Strip, lens: &Lens, back: [u8; 3], list: &DrawList)
-    requires { IsBandOf lens.now strip.old.band }
-    ensures { IsDrawn lens.now back (instances_in list.now) strip.old strip.new }
+/// Draws opaque pieces in a strip.
+fn draw_strip(strip: &mut Strip, lens: &Lens, back: [u8; 3], pieces: &[Piece], slots: &[Slot])
+    requires strip { IsStripOf lens.now strip.old }
+    requires pieces { All (IsPieceOf lens.now) pieces.now }
+    requires ranks { AreRanked pieces.now }
+    requires slots { AreSlotsOf lens.now pieces.now slots.now }
+    ensures { StripRelates (IsDrawn lens.now back pieces.now) strip.old strip.new }
 {
-    draw_band(
-        &mut strip.marks,
-        &mut strip.pixels,
-        &strip.band,
-        lens,
-        back,
-        list,
-    );
+    let band = strip.band;
+    draw_tiles(&mut strip.tiles, &band, lens, back, pieces, slots);
 }
 
-/// Draws the picture of a list in a band.
-fn draw_band(
-    marks: &mut [Option<Fragment>],
-    pixels: &mut [[u8; 3]],
-    band: &Band,
+fn draw_tiles(
+    tiles: &mut [Tile],
+    band: &Block,
     lens: &Lens,
     back: [u8; 3],
-    list: &DrawList,
+    pieces: &[Piece],
+    slots: &[Slot],
 )
-    requires marks { length marks.old ≡ size_of band.now }
-    requires pixels { length pixels.old ≡ size_of band.now }
-    requires band { IsBandOf lens.now band.now }
-    ensures { ShowsBand band.now pixels.new (picture lens.now back (instances_in list.now)) }
+    requires tiles { AreTilesOf band.now tiles.old }
+    requires band { IsBlockOf lens.now band.now }
+    requires pieces { All (IsPieceOf lens.now) pieces.now }
+    requires ranks { AreRanked pieces.now }
+    requires slots { AreSlotsOf lens.now pieces.now slots.now }
+    ensures { TilesRelate (IsDrawn lens.now back pieces.now) tiles.old tiles.new }
 {
-    clear(marks);
-    draw_opaque(marks, band, lens, list);
-    colour(pixels, marks, back);
-    draw_glass(pixels, marks, band, lens, list);
+    draw_slots(tiles, band, lens, pieces, slots);
+    paint_tiles(tiles, band, lens, back, pieces);
 }
 
-fn clear(marks: &mut [Option<Fragment>])
-    ensures { marks.new ≡ replicate (length marks.old) None }
+/// Paints the tiles of a band.
+fn paint_tiles(tiles: &mut [Tile], band: &Block, lens: &Lens, back: [u8; 3], pieces: &[Piece])
+    requires tiles { AreTilesOf band.now tiles.old }
+    requires band { IsBlockOf lens.now band.now }
+    requires pieces { All (IsPieceOf lens.now) pieces.now }
+    ensures { TilesRelate (IsPainted lens.now back pieces.now) tiles.old tiles.new }
 {
-    marks.fill(None);
-}
-
-/// Gives each pixel the colour of what is drawn there, or the background's.
-fn colour(pixels: &mut [[u8; 3]], marks: &[Option<Fragment>], back: [u8; 3])
-    requires { length pixels.old ≡ length marks.now }
-    ensures { (i : ℕ) → i < length pixels.old
-        → slice_index_or pixels.new i [] ≡ colour_under back (option_map fragment_of (slice_index_or marks.now i None)) }
-{
-    for i in 0..pixels.len() {
-        let under = colour_under(&marks[i], back);
-        pixels[i] = under;
-    }
-}
-
-fn colour_under(behind: &Option<Fragment>, back: [u8; 3]) -> [u8; 3]
-    ensures { result ≡ colour_under back (option_map fragment_of behind.now) }
-{
-    match behind {
-        Some(fragment) => fragment.colour,
-        None => back,
+    for t in 0..tiles.len() {
+        paint(&mut tiles[t], lens, back, pieces);
     }
 }

@@ -10,7 +10,7 @@ use std::alloc::Global;
 use std::process::Abort;
 use std::test::Fail;
 use std::thread::Threads;
-use tri_cover::cover;
+use tri_cover::{Hit, cover};
 
 const BACK: [u8; 3] = [10, 20, 30];
 
@@ -82,7 +82,7 @@ fn list(alloc: Global) -> Result<DrawList, Fail>
     ensures { IfOk result (λ list. length list.joints.lists ≡ 1) }
 {
     let mut list = DrawList::new(alloc);
-    list.reserve(8, 8)?;
+    list.reserve(8, 128)?;
     Ok(list)
 }
 
@@ -279,7 +279,7 @@ fn two_panes_out_of_order(rt: HostRuntime) -> Result<(), Fail> {
     shows(&rt, rt.alloc(), &list, [1, 132, 70])
 }
 
-/// A triangle across three strips has the colours of its hits, in threads as in one.
+/// A triangle across three strips of two tiles has the colours of its hits.
 #[test]
 fn three_strips(rt: HostRuntime) -> Result<(), Fail> {
     let lens = Lens::new(20, 40, 20, 1, MAX_COORDINATE).ok_or("a lens out of range")?;
@@ -292,6 +292,114 @@ fn three_strips(rt: HostRuntime) -> Result<(), Fail> {
         for px in 0..20 {
             let want = cover(&tri, px, py, &lens).map_or(BACK, |hit| hit.colour);
             assert_eq!(rt; colour(&image, px, py), Some(want));
+        }
+    }
+    Ok(())
+}
+
+/// A number that looks random, from the one before.
+fn next(seed: &mut u32) -> u32 {
+    *seed = seed.wrapping_mul(1_664_525).wrapping_add(1_013_904_223);
+    *seed >> 8
+}
+
+/// A coordinate that looks random; some are as great as can be.
+fn coordinate(seed: &mut u32) -> i32 {
+    let at = (next(seed) % 20_000) as i32 - 8_000;
+    match next(seed) % 16 {
+        0 => MAX_COORDINATE,
+        1 => -MAX_COORDINATE,
+        _ => at,
+    }
+}
+
+fn random_point(seed: &mut u32) -> Result<Vec3, Fail> {
+    let x = coordinate(seed);
+    let y = coordinate(seed);
+    let z = coordinate(seed);
+    point(x, y, z)
+}
+
+fn random_colour(seed: &mut u32) -> [u8; 3] {
+    let red = (next(seed) % 256) as u8;
+    let green = (next(seed) % 256) as u8;
+    [red, green, 128]
+}
+
+fn random_tri(seed: &mut u32) -> Result<Tri, Fail> {
+    let u = random_point(seed)?;
+    let v = random_point(seed)?;
+    let w = random_point(seed)?;
+    let colour = random_colour(seed);
+    Ok(Tri {
+        v: [u, v, w],
+        c: [colour, random_colour(seed), RED],
+    })
+}
+
+fn random_tris(alloc: Global, count: usize) -> Result<Vec<Tri>, Fail> {
+    let mut seed = 7;
+    let mut tris = Vec::new(alloc);
+    for _ in 0..count {
+        tris.push(random_tri(&mut seed)?)?;
+    }
+    Ok(tris)
+}
+
+/// The colour at a pixel by looking at each triangle there.
+fn plain(tris: &[Tri], px: u16, py: u16, lens: &Lens) -> [u8; 3]
+    requires x { px < lens.now.w }
+    requires y { py < lens.now.h }
+{
+    let mut best: Option<Hit> = None;
+    for tri in tris {
+        best = nearer(best, cover(tri, px, py, lens));
+    }
+    best.map_or(BACK, |hit| hit.colour)
+}
+
+fn nearer(best: Option<Hit>, hit: Option<Hit>) -> Option<Hit> {
+    match (best, hit) {
+        (Some(first), Some(second)) => {
+            if second.depth < first.depth {
+                Some(second)
+            } else {
+                Some(first)
+            }
+        }
+        (None, _) => hit,
+        (_, None) => best,
+    }
+}
+
+/// A list with one item of many triangles.
+fn many(alloc: Global, tris: &[Tri]) -> Result<DrawList, Fail> {
+    let mut list = list(alloc)?;
+    let mut own = Vec::new(alloc);
+    own.extend_from_slice(tris)?;
+    if own.len() > 4096 {
+        return Err("too many triangles".into());
+    }
+    let span = list
+        .keep(1, &Geom::new(own)?)
+        .ok_or("no room for triangles")?;
+    push(&mut list, item(0, 0, span))?;
+    Ok(list)
+}
+
+/// A hundred triangles across tiles and strips, with coordinates as great as can be among them, have the colours that
+/// looking at each of them at each pixel gives.
+#[test]
+fn hundred_triangles(rt: HostRuntime) -> Result<(), Fail> {
+    let lens = Lens::new(37, 35, 30, 1, MAX_COORDINATE).ok_or("a lens out of range")?;
+    let tris = random_tris(rt.alloc(), 100)?;
+    let list = many(rt.alloc(), &tris)?;
+    let mut image = Image::new(rt.alloc(), 37, 35)?;
+    let mut raster = Raster::new(rt.alloc(), &lens)?;
+    raster.draw(&rt, &list, BACK, &mut image);
+    for py in 0..35 {
+        for px in 0..37 {
+            assert_eq!(rt; colour(&image, px, py), Some(plain(&tris, px, py, &lens)));
         }
     }
     Ok(())

@@ -1,23 +1,16 @@
-use Rattle.std.proofs.Common.{◌+◌, arith}
-use Rattle.depth_raster.specs.Bands.{mark_in, colour_in}
-use Rattle.depth_raster.specs.Drawing.{face_glazes}
-use Rattle.depth_raster.proofs.Skipped.{glazed_missed, rows_skipped, rows_rest}
+use Rattle.depth_raster.specs.Canvas.{face_glazed}
+use Rattle.depth_raster.proofs.Flushed.{face_open}
+use Rattle.depth_raster.proofs.Glazed.{kept, glazed_then, pane_more}
 use Rattle.depth_raster.proofs.glass.draw_face.Goals as goal
 
-pub loop-r-init : goal.loop-r-init
-loop-r-init c =
-    let a = c.args in
-    let b = a.band.now in
-    let behind = mark_in b a.marks.now in
-    rows_skipped b (colour_in b a.pixels.now) (face_glazes a.lens.now b behind a.face.now a.alpha) c.rows_from-r.result
-    (λ q r column above. glazed_missed a.lens.now q (b.first + r) a.face.now a.alpha (behind q r) (colour_in b a.pixels.now q r)
-    (c.of-reach.ensures.extent.above q (b.first + r) (omega (arith, c.rows_from-r.ensures))))
+pub returns-clause-sound : goal.returns-clause-sound
+returns-clause-sound g c =
+    face_open c.args.lens.now c.make_room.new.strips c.args.face c.make_room.new.batch.pieces.items c.push.new.self.pieces.items c.push.ensures c.make_room.ensures.sound
 
-pub returns : goal.returns
-returns c =
+pub returns-clause-glass : goal.returns-clause-glass
+returns-clause-glass g c =
     let a = c.args in
-    let b = a.band.now in
-    let behind = mark_in b a.marks.now in
-    rows_rest b (colour_in b a.pixels.now) (colour_in b c.loop-r.pixels) (face_glazes a.lens.now b behind a.face.now a.alpha) c.loop-r.r c.loop-r.invariant
-    (λ q r column below row. glazed_missed a.lens.now q (b.first + r) a.face.now a.alpha (behind q r) (colour_in b a.pixels.now q r)
-    (c.of-reach.ensures.extent.below q (b.first + r) (omega (arith, c.rows_to-r-end.ensures)) (omega (arith, c.requires.band.rows))))
+    let s = c.make_room.new.strips in
+    let ps = c.make_room.new.batch.pieces.items in
+    glazed_then a.lens.now a.strips.now s s a.batch.now.pieces.items ps c.push.new.self.pieces.items kept (face_glazed a.lens.now a.face) c.make_room.ensures.glass
+    (pane_more a.lens.now s a.face ps c.push.new.self.pieces.items c.push.ensures)

@@ -1,15 +1,17 @@
 use Rattle.std.proofs.Common.{◌≡◌, ℕ, ◌+◌, ◌<◌, ◌≤◌, length, None}
 use Rattle.draw_list.specs.Lists.{instances_in}
-use Rattle.depth_raster.specs.Bands.{mark_in, colour_in}
+use Rattle.depth_raster.specs.Canvas.{IsOpen, behind_at, glazed_with}
 use Rattle.depth_raster.specs.Drawing.{glass_glazes}
 use Rattle.depth_raster.specs.Panes.{panes_left}
 use Rattle.depth_raster.proofs.PanesLeft.{instances_of}
 use Rattle.depth_raster.proofs.glass.draw_glass.Given as goal
 
 abbrev pub invariant-loop-count : goal.invariant-loop-count
-invariant-loop-count l = record {
+invariant-loop-count g l = record {
+  sound : IsOpen l.lens l.strips l.batch.pieces.items;
   left : length (panes_left (instances_in l.list) l.last) + l.count ≤ length l.list.items.items;
-  drawn : (q r : ℕ) → q < l.band.width → r < l.band.rows
-      → glass_glazes l.lens l.band (mark_in l.band l.marks) (instances_of (panes_left (instances_in l.list) l.last)) q r (colour_in l.band l.pixels q r)
-      ≡ glass_glazes l.lens l.band (mark_in l.band l.marks) (instances_of (panes_left (instances_in l.list) None)) q r (colour_in l.band l.initial.pixels q r);
+  behind : (px py : ℕ) → px < l.lens.w → py < l.lens.h → behind_at l.strips px py ≡ behind_at l.initial.strips px py;
+  drawn : (px py : ℕ) → px < l.lens.w → py < l.lens.h
+      → glass_glazes l.lens (behind_at l.initial.strips px py) (instances_of (panes_left (instances_in l.list) l.last)) px py (glazed_with l.lens l.strips l.batch.pieces.items px py)
+      ≡ glass_glazes l.lens (behind_at l.initial.strips px py) (instances_of (panes_left (instances_in l.list) None)) px py (glazed_with l.lens l.initial.strips l.initial.batch.pieces.items px py);
 }

@@ -1,44 +1,45 @@
-use Rattle.std.proofs.Common.{ℕ, ◌≤◌, length, ap, sym, ◌∙◌, arith}
-use Rattle.tri_cover.specs.Glass.{alpha_of}
+use Rattle.std.proofs.Common.{◌+◌, ◌≤◌, length, sym, arith}
 use Rattle.draw_list.specs.Items.{instance_of_item}
-use Rattle.depth_raster.specs.Bands.{mark_in, colour_in}
-use Rattle.depth_raster.specs.Drawing.{face_glazes}
-use Rattle.depth_raster.specs.Faces.{IsFaceOf}
-use Rattle.depth_raster.proofs.Items.{glazes_more, glazes_all}
+use Rattle.depth_raster.specs.Canvas.{face_glazed, instance_glazed}
+use Rattle.depth_raster.proofs.Glazed.{nothing_glazed, glazed_then, glazed_alike}
+use Rattle.depth_raster.proofs.Items.{part_glazed, glazes_more, glazes_all}
 use Rattle.depth_raster.proofs.Listed.{past_end, few_tris}
 use Rattle.depth_raster.proofs.glass.draw_item.Goals as goal
 
+pub loop-number-init : goal.loop-number-init
+loop-number-init g c = record {
+  sound = c.requires.sound;
+  glass = nothing_glazed c.args.lens.now c.args.strips.now c.args.batch.now.pieces.items;
+}
+
 pub loop-number-preserved : goal.loop-number-preserved
-loop-number-preserved c = λ q r column row.
+loop-number-preserved g c =
     let a = c.args in
-    let b = a.band.now in
-    let behind = mark_in b a.marks.now in
     let x = instance_of_item a.list.now.joints.lists a.list.now.kept.tris a.item.now in
-    let is : IsFaceOf x c.loop-number.number c.in-Some.tri c.of-face.result = record {
-      tri = c.of-face.ensures.tri;
-      place = c.of-face.ensures.place;
-      shift = c.of-face.ensures.shift;
-      number = c.of-face.ensures.number;
-    } in
-    (c.draw_face.ensures q r column row ∙ ap (λ (n : ℕ). face_glazes a.lens.now b behind c.of-face.result n q r (colour_in b c.loop-number.pixels q r)) c.alpha-alpha.ensures)
-    ∙ ap (face_glazes a.lens.now b behind c.of-face.result (alpha_of x) q r) (c.loop-number.invariant q r column row)
-    ∙ glazes_more a.lens.now b behind x c.loop-number.number c.in-Some.tri c.of-face.result q r (colour_in b a.pixels.now q r) (sym c.in-Some.ensures) is
+    let n = c.loop-number.number in
+    let f = part_glazed a.lens.now x n in
+    let h = face_glazed a.lens.now c.of-face.result in
+    record {
+      sound = c.draw_face.ensures.sound;
+      glass = glazed_alike a.lens.now a.strips.now c.draw_face.new.strips a.batch.now.pieces.items c.draw_face.new.batch.pieces.items
+          (λ b px py u. h b px py (f b px py u)) (part_glazed a.lens.now x (n + 1))
+          (λ b px py u. glazes_more a.lens.now b x n c.in-Some.tri c.of-face.result px py u (sym c.in-Some.ensures) c.of-face.ensures)
+          (glazed_then a.lens.now a.strips.now c.loop-number.strips c.draw_face.new.strips a.batch.now.pieces.items c.loop-number.batch.pieces.items c.draw_face.new.batch.pieces.items f h c.loop-number.invariant.glass c.draw_face.ensures.glass);
+    }
 
-pub returns-in-None : goal.returns-in-None
-returns-in-None c = λ q r column row.
+pub returns-in-None-clause-glass : goal.returns-in-None-clause-glass
+returns-in-None-clause-glass g c =
     let a = c.args in
-    let b = a.band.now in
-    let behind = mark_in b a.marks.now in
     let x = instance_of_item a.list.now.joints.lists a.list.now.kept.tris a.item.now in
-    c.loop-number.invariant q r column row
-    ∙ glazes_all a.lens.now b behind x c.loop-number.number q r (colour_in b a.pixels.now q r) (past_end x.tris c.loop-number.number (sym c.in-None.ensures))
+    let n = c.loop-number.number in
+    glazed_alike a.lens.now a.strips.now c.loop-number.strips a.batch.now.pieces.items c.loop-number.batch.pieces.items (part_glazed a.lens.now x n) (instance_glazed a.lens.now x)
+    (λ b px py u. glazes_all a.lens.now b x n px py u (past_end x.tris n (sym c.in-None.ensures))) c.loop-number.invariant.glass
 
-pub returns : goal.returns
-returns c = λ q r column row.
+pub returns-clause-glass : goal.returns-clause-glass
+returns-clause-glass g c =
     let a = c.args in
-    let b = a.band.now in
-    let behind = mark_in b a.marks.now in
     let x = instance_of_item a.list.now.joints.lists a.list.now.kept.tris a.item.now in
-    let few : length x.tris ≤ c.loop-number.number = omega (arith, few_tris a.list.now.kept.tris a.item.now.geom) in
-    c.loop-number.invariant q r column row
-    ∙ glazes_all a.lens.now b behind x c.loop-number.number q r (colour_in b a.pixels.now q r) few
+    let n = c.loop-number.number in
+    let few : length x.tris ≤ n = omega (arith, few_tris a.list.now.kept.tris a.item.now.geom) in
+    glazed_alike a.lens.now a.strips.now c.loop-number.strips a.batch.now.pieces.items c.loop-number.batch.pieces.items (part_glazed a.lens.now x n) (instance_glazed a.lens.now x)
+    (λ b px py u. glazes_all a.lens.now b x n px py u few) c.loop-number.invariant.glass

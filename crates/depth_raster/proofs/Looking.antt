@@ -1,0 +1,153 @@
+-- Faces at pixels: what their tests tell of their hits.
+use Rattle.std.proofs.Common.{◌≡◌, ℕ, ◌+◌, ◌*◌, ◌/◌, ◌<◌, ◌≤◌, Bool, true, false, cond, Option, Some, None, refl, ap, sym, ◌∙◌, arith, ⊎_elim}
+use Rattle.std.specs.Prelude.{ℤ, pos, ◌+ℤ◌, ◌*ℤ◌, ◌≤ℤ◌, int_le, int_lt, nat_le, ◌&&◌}
+use Rattle.std.specs.Option.{option_map_or, IfSome, IfNone}
+use Rattle.std.proofs.lemmas.Bool.{and_parts, both_ways, cases_lt}
+use Rattle.std.proofs.lemmas.Bool.Decides.{nat_tests}
+use Rattle.std.proofs.lemmas.Int.{ints}
+use Rattle.std.proofs.lemmas.Nat.{mul-le}
+use Rattle.std.proofs.Math.Nat.{lt-div-mul-add, div-mul-le_self, add-mul}
+use Rattle.fx_math.proofs.Ring.{expand, linear}
+use Rattle.tri_cover.specs.Faces.{is_in_box, is_covered, is_seen_at, depth_at, colour_at, face_hit}
+use Rattle.tri_cover.specs.Linears.{value_at, weight_at, IsTotal}
+use Rattle.tri_cover.specs.declared.face.Face.{Face}
+use Rattle.tri_cover.specs.declared.hit.Hit.{Hit}
+use Rattle.depth_raster.specs.Looks.{Looks}
+use Rattle.tri_cover.specs.declared.linear.Linear.{Linear}
+
+-- ---- the parts of a hit
+pub record IsHitOf (f : Face) (px py : ℕ) (h : Hit) : Type 0 where
+  pub inside : is_in_box f.extent px py ≡ true
+  pub covered : is_covered f px py ≡ true
+  pub near : f.extent.near ≤ depth_at f px py
+  pub far : depth_at f px py ≤ f.extent.far
+  pub depth : h.depth ≡ depth_at f px py
+  pub colour : h.colour ≡ colour_at f px py
+
+at_most : (m n : ℕ) → nat_le m n ≡ true → m ≤ n
+at_most m n h = grind (arith, nat_tests)
+
+three : (a b c : Bool) → (a && b && c) ≡ true → (a ≡ true) × (b ≡ true) × (c ≡ true)
+three a b c h =
+    let rest : (a && b ≡ true) × (c ≡ true) = and_parts (a && b) c h in
+    let first : (a ≡ true) × (b ≡ true) = and_parts a b rest.0 in
+    (first.0, first.1, rest.1)
+
+pub hit_parts : (f : Face) (px py : ℕ) (h : Hit) → face_hit f px py ≡ Some h → IsHitOf f px py h
+unfolding face_hit
+hit_parts f px py h hits = by (is_in_box f.extent px py && is_covered f px py && is_seen_at f.extent (depth_at f px py)) refl hits
+  where
+    here : Hit
+    here = record { depth = depth_at f px py; colour = colour_at f px py }
+
+    by : (t : Bool) → (is_in_box f.extent px py && is_covered f px py && is_seen_at f.extent (depth_at f px py)) ≡ t → cond t (Some here) None ≡ Some h → IsHitOf f px py h
+    by true e is =
+        let parts = three (is_in_box f.extent px py) (is_covered f px py) (is_seen_at f.extent (depth_at f px py)) e in
+        let seen = and_parts (nat_le f.extent.near (depth_at f px py)) (nat_le (depth_at f px py) f.extent.far) parts.2 in
+        let same : h ≡ here = ap (λ (o : Option Hit). option_map_or (λ (i : Hit). i) o here) (sym is) in
+        record {
+          inside = parts.0;
+          covered = parts.1;
+          near = at_most f.extent.near (depth_at f px py) seen.0;
+          far = at_most (depth_at f px py) f.extent.far seen.1;
+          depth = ap (λ (i : Hit). i.depth) same;
+          colour = ap (λ (i : Hit). i.colour) same;
+        }
+    by false e is = cc
+
+pub hit_seen : (f : Face) (px py : ℕ) → is_in_box f.extent px py ≡ true → is_covered f px py ≡ true → f.extent.near ≤ depth_at f px py → depth_at f px py ≤ f.extent.far → face_hit f px py ≡ Some (record { depth = depth_at f px py; colour = colour_at f px py })
+unfolding face_hit
+hit_seen f px py inside covered near far =
+    let seen : is_seen_at f.extent (depth_at f px py) ≡ true = grind (arith, nat_tests) in
+    ap (λ (t : Bool). cond (t && is_covered f px py && is_seen_at f.extent (depth_at f px py)) (Some here) None) inside
+    ∙ ap (λ (t : Bool). cond (t && is_seen_at f.extent (depth_at f px py)) (Some here) None) covered
+    ∙ ap (λ (t : Bool). cond t (Some here) None) seen
+  where
+    here : Hit
+    here = record { depth = depth_at f px py; colour = colour_at f px py }
+
+-- a pixel that is not covered
+uncovered_by : (x y z s : ℤ) → (int_le (pos 0) x && int_le (pos 0) y && int_le (pos 0) z && int_lt (pos 0) s) ≡ true → (pos 0 ≤ℤ x) × (pos 0 ≤ℤ y) × (pos 0 ≤ℤ z) × (pos 1 ≤ℤ s)
+uncovered_by x y z s h = (grind (arith, ints), grind (arith, ints), grind (arith, ints), grind (arith, ints))
+
+-- the edge values at a pixel that is covered
+pub record IsCoveredAt (f : Face) (px py : ℕ) : Type 0 where
+  pub first : pos 0 ≤ℤ value_at f.edges.e0 px py
+  pub second : pos 0 ≤ℤ value_at f.edges.e1 px py
+  pub third : pos 0 ≤ℤ value_at f.edges.e2 px py
+  pub sum : pos 1 ≤ℤ value_at f.edges.sum px py
+
+pub covered_parts : (f : Face) (px py : ℕ) → is_covered f px py ≡ true → IsCoveredAt f px py
+covered_parts f px py h =
+    let parts = uncovered_by (value_at f.edges.e0 px py) (value_at f.edges.e1 px py) (value_at f.edges.e2 px py) (value_at f.edges.sum px py) h in
+    record { first = parts.0; second = parts.1; third = parts.2; sum = parts.3 }
+
+covered_by : (x y z s : ℤ) → pos 0 ≤ℤ x → pos 0 ≤ℤ y → pos 0 ≤ℤ z → pos 1 ≤ℤ s → (int_le (pos 0) x && int_le (pos 0) y && int_le (pos 0) z && int_lt (pos 0) s) ≡ true
+covered_by x y z s a b c d = grind (arith, ints)
+
+pub covered_is : (f : Face) (px py : ℕ) → IsCoveredAt f px py → is_covered f px py ≡ true
+covered_is f px py is = covered_by (value_at f.edges.e0 px py) (value_at f.edges.e1 px py) (value_at f.edges.e2 px py) (value_at f.edges.sum px py) is.first is.second is.third is.sum
+
+-- ---- the sum of the edge values
+polynomial : (a0 a1 a2 b0 b1 b2 c0 c1 c2 x y : ℤ) → (a0 +ℤ a1 +ℤ a2) *ℤ x +ℤ (b0 +ℤ b1 +ℤ b2) *ℤ y +ℤ (c0 +ℤ c1 +ℤ c2) ≡ (a0 *ℤ x +ℤ b0 *ℤ y +ℤ c0) +ℤ (a1 *ℤ x +ℤ b1 *ℤ y +ℤ c1) +ℤ (a2 *ℤ x +ℤ b2 *ℤ y +ℤ c2)
+polynomial a0 a1 a2 b0 b1 b2 c0 c1 c2 x y = simp expand (omega (arith, linear))
+
+pub total_at : (e0 e1 e2 s : Linear) (px py : ℕ) → IsTotal e0 e1 e2 s → value_at s px py ≡ value_at e0 px py +ℤ value_at e1 px py +ℤ value_at e2 px py
+total_at e0 e1 e2 s px py is =
+    ap (λ (a : ℤ). a *ℤ pos px +ℤ s.b *ℤ pos py +ℤ s.c) is.a_is
+    ∙ ap (λ (b : ℤ). (e0.a +ℤ e1.a +ℤ e2.a) *ℤ pos px +ℤ b *ℤ pos py +ℤ s.c) is.b_is
+    ∙ ap (λ (c : ℤ). (e0.a +ℤ e1.a +ℤ e2.a) *ℤ pos px +ℤ (e0.b +ℤ e1.b +ℤ e2.b) *ℤ pos py +ℤ c) is.c_is
+    ∙ polynomial e0.a e1.a e2.a e0.b e1.b e2.b e0.c e1.c e2.c (pos px) (pos py)
+
+-- ---- quotients
+pub limit_reached : (limit n s : ℕ) → 0 < s → limit * s ≤ n → limit ≤ n / s
+limit_reached limit n s some h = let q = lt-div-mul-add {a = n} {b = s} some in ⊎_elim (λ below. absurd (let m = mul-le (n / s + 1) s limit s (omega (arith, below)) (omega arith) in omega (arith, h, q, m, add-mul (n / s) 1 s))) (λ above. above) (cases_lt (n / s) limit)
+
+less_product : (m n s : ℕ) → m < n → m * s + s ≤ n * s
+less_product m n s l = omega (arith, mul-le (m + 1) s n s (omega arith) (omega arith), add-mul m 1 s)
+
+pub quotient_before : (limit n s : ℕ) → 0 < s → n < limit * s → n / s < limit
+quotient_before limit n s some h = ⊎_elim
+    (λ below. below)
+    (λ above. absurd (omega (arith, h, mul-le limit s (n / s) s above (omega arith), div-mul-le_self n s)))
+    (cases_lt (n / s) limit)
+
+pub quotient_is : (n s g : ℕ) → 0 < s → g * s ≤ n → n < g * s + s → g ≡ n / s
+quotient_is n s g some low high =
+    let most : n / s ≤ g = ⊎_elim (λ below. absurd (omega (arith, high, less_product g (n / s) s below, div-mul-le_self n s))) (λ above. above) (cases_lt g (n / s)) in
+    let least : g ≤ n / s = limit_reached g n s some low in
+    omega (arith, most, least)
+
+pub uncovered : (f : Face) (px py : ℕ) → is_covered f px py ≡ false → face_hit f px py ≡ None
+uncovered f px py h = by (face_hit f px py) refl
+  where
+    by : (o : Option Hit) → face_hit f px py ≡ o → o ≡ None
+    by None e = refl
+    by (Some i) e = let covered = (hit_parts f px py i e).covered in absurd (both_ways (is_covered f px py) h covered)
+
+-- ---- a look
+abbrev hit_at : Face → (px py depth : ℕ) → Hit
+hit_at f px py depth = record { depth = depth; colour = colour_at f px py }
+
+pub looked : (f : Face) (px py limit s : ℕ) (o : Option ℕ) → is_in_box f.extent px py ≡ true → is_covered f px py ≡ true → s ≡ weight_at f.edges.sum px py
+    → IfSome o (λ d. (d ≡ f.dividend / s) × (f.extent.near ≤ d) × (d ≤ f.extent.far) × (d < limit))
+    → IfNone o (f.extent.near ≤ f.dividend / s → f.dividend / s ≤ f.extent.far → limit ≤ f.dividend / s) → Looks f px py limit o
+looked f px py limit s None inside covered is some none = λ h hits.
+    let parts = hit_parts f px py h hits in
+    let same : depth_at f px py ≡ f.dividend / s = ap (λ (n : ℕ). f.dividend / n) (sym is) in
+    omega (arith, parts.depth, same, none (omega (arith, parts.near, same)) (omega (arith, parts.far, same)))
+looked f px py limit s (Some d) inside covered is some none =
+    let same : d ≡ depth_at f px py = some.0 ∙ ap (λ (n : ℕ). f.dividend / n) is in (
+      hit_seen f px py inside covered (omega (arith, some.1, same)) (omega (arith, some.2, same))
+          ∙ ap (λ (n : ℕ). Some (hit_at f px py n)) (sym same),
+      some.3,
+    )
+
+-- ---- weights
+pub weights_whole : (f : Face) (px py : ℕ) → is_covered f px py ≡ true → weight_at f.edges.e0 px py + weight_at f.edges.e1 px py + weight_at f.edges.e2 px py ≡ weight_at f.edges.sum px py
+weights_whole f px py h =
+    let c = covered_parts f px py h in
+    omega (arith, ints, c.first, c.second, c.third, c.sum, total_at f.edges.e0 f.edges.e1 f.edges.e2 f.edges.sum px py f.edges.total)
+
+pub weights_some : (f : Face) (px py : ℕ) → is_covered f px py ≡ true → 0 < weight_at f.edges.sum px py
+weights_some f px py h = omega (arith, ints, (covered_parts f px py h).sum)

@@ -1,0 +1,14 @@
+use Rattle.std.proofs.Common.{ℕ, ◌+◌, ap, ◌∙◌}
+use Rattle.depth_raster.specs.declared.faces.Face.{Face}
+use Rattle.depth_raster.proofs.batch.Batch.push.Goals as goal
+
+abbrev ranked : Face → ℕ → Face
+ranked f n = record f { rank = n }
+
+pub returns : goal.returns
+returns c = record {
+  piece = c.new-piece.result;
+  pieces = c.append.ensures.items;
+  face = c.new-piece.ensures.face ∙ ap (ranked c.args.face) (ap (λ (n : ℕ). n + 1) (c.len.ensures ∙ c.args.self.now.pieces.ok.0));
+  ready = c.new-piece.ensures.ready;
+}

@@ -1,0 +1,82 @@
+-- A picture in strips, pixel by pixel, and what is still to be drawn in it.
+use Rattle.std.specs.Prelude.{◌≡◌, ℕ, ◌/◌, ◌%◌, ◌<◌, List, [], fold, Option, None, option_and_then, slice_get}
+use Rattle.std.specs.Option.{option_map_or}
+use Rattle.std.specs.List.{All}
+use Rattle.fx_math.specs.declared.lenses.Lens.{Lens}
+use Rattle.tri_cover.specs.Picture.{Fragment, nearer}
+use Rattle.depth_raster.specs.Blocks.{colour_in}
+use Rattle.pf_model.specs.Walks.{Instance}
+use Rattle.depth_raster.specs.Drawing.{instance_glazes, glass_glazes}
+use Rattle.depth_raster.specs.Faces.{over, glazed_by_face}
+use Rattle.depth_raster.specs.Following.{Follows}
+use Rattle.depth_raster.specs.Marks.{no_mark, behind_as}
+use Rattle.depth_raster.specs.Pieces.{IsPieceOf, fragments_by, pieces_glaze}
+use Rattle.depth_raster.specs.Strips.{AreStrips}
+use Rattle.depth_raster.specs.Tiles.{mark_in, seen_in}
+use Rattle.depth_raster.specs.declared.faces.Face.{Face}
+use Rattle.depth_raster.specs.declared.marks.Mark.{Mark}
+use Rattle.depth_raster.specs.declared.pieces.Piece.{Piece}
+use Rattle.depth_raster.specs.declared.strip.Strip.{Strip}
+use Rattle.depth_raster.specs.declared.tile.Tile.{Tile}
+
+-- the tile of a pixel of the picture
+abbrev pub tile_at : List Strip → (px py : ℕ) → Option Tile
+tile_at strips px py = option_and_then (λ s. slice_get s.tiles.items (px / 16)) (slice_get strips (py / 16))
+
+-- what is seen there of what is drawn
+unfoldable pub seen_at : List Strip → (px py : ℕ) → Option Fragment
+seen_at strips px py = option_map_or (λ t. seen_in t (px % 16) (py % 16)) (tile_at strips px py) None
+
+-- its mark
+unfoldable pub mark_at : List Strip → (px py : ℕ) → Mark
+mark_at strips px py = option_map_or (λ t. mark_in t.block t.marks.items (px % 16) (py % 16)) (tile_at strips px py) no_mark
+
+-- its colour
+unfoldable pub colour_at : List Strip → (px py : ℕ) → List ℕ
+colour_at strips px py = option_map_or (λ t. colour_in t.block t.colours.items (px % 16) (py % 16)) (tile_at strips px py) []
+
+-- what glass there has behind it
+abbrev pub behind_at : List Strip → (px py : ℕ) → Option Fragment
+behind_at strips px py = behind_as (mark_at strips px py)
+
+-- The strips are those of the lens's picture, no mark has a rank, and the pieces that are still to be drawn are ready.
+pub record IsOpen (lens : Lens) (strips : List Strip) (ps : List Piece) : Type 0 where
+  pub parts : AreStrips lens strips
+  pub unranked : (px py : ℕ) → px < lens.w → py < lens.h → (mark_at strips px py).rank ≡ 0
+  pub ready : All (IsPieceOf lens) ps
+
+-- what is seen at a pixel once opaque pieces are drawn
+abbrev pub drawn_with : Lens → List Strip → List Piece → (px py : ℕ) → Option Fragment
+drawn_with lens strips ps px py = fold nearer (seen_at strips px py) (fragments_by lens px py ps)
+
+-- the colour at a pixel once pieces of glass are drawn
+abbrev pub glazed_with : Lens → List Strip → List Piece → (px py : ℕ) → List ℕ
+glazed_with lens strips ps px py = pieces_glaze lens ps (behind_at strips px py) px py (colour_at strips px py)
+
+-- at each pixel f is made of what is seen there once the pieces are drawn
+abbrev pub Draws : Lens → (strips : List Strip) → (ps : List Piece) → (strips' : List Strip) → (ps' : List Piece)
+    → (f : ℕ → ℕ → Option Fragment → Option Fragment) → Type 0
+Draws lens strips ps strips' ps' f = Follows lens.w lens.h (drawn_with lens strips ps) (drawn_with lens strips' ps') f
+
+-- at each pixel f is made of the colour once the pieces are drawn, and what glass has behind it stays
+pub record Glazes (lens : Lens) (strips : List Strip) (ps : List Piece) (strips' : List Strip) (ps' : List Piece)
+    (f : Option Fragment → ℕ → ℕ → List ℕ → List ℕ) : Type 0 where
+  pub behind : (px py : ℕ) → px < lens.w → py < lens.h → behind_at strips' px py ≡ behind_at strips px py
+  pub colours : (px py : ℕ) → px < lens.w → py < lens.h
+      → glazed_with lens strips' ps' px py ≡ f (behind_at strips px py) px py (glazed_with lens strips ps px py)
+
+-- what a face makes of what is seen
+abbrev pub face_drawn : Lens → Face → (px py : ℕ) → Option Fragment → Option Fragment
+face_drawn lens f px py drawn = over lens px py f drawn
+
+-- what a face of glass makes of a colour
+abbrev pub face_glazed : Lens → Face → (behind : Option Fragment) → (px py : ℕ) → List ℕ → List ℕ
+face_glazed lens f behind px py under = glazed_by_face lens px py f behind under
+
+-- what an instance of glass makes of it
+abbrev pub instance_glazed : Lens → Instance → (behind : Option Fragment) → (px py : ℕ) → List ℕ → List ℕ
+instance_glazed lens x behind px py under = instance_glazes lens behind x px py under
+
+-- what instances of glass make of it
+abbrev pub glass_glazed : Lens → List Instance → (behind : Option Fragment) → (px py : ℕ) → List ℕ → List ℕ
+glass_glazed lens xs behind px py under = glass_glazes lens behind xs px py under

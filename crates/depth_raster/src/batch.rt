@@ -1,0 +1,87 @@
+//! Pieces that are drawn together, and the order in which they are drawn.
+ghost use Rattle.std.specs.Prelude.{◌≡◌, ◌≤◌, ◌<◌, [], ◌∷◌, ◌++◌, length, nat_le, IfOk};
+ghost use Rattle.std.specs.Vec.{vec_len, vec_capacity};
+ghost use Rattle.depth_raster.specs.Pieces.{AreRanked};
+
+use crate::faces::Face;
+use crate::pieces::Piece;
+use crate::slots::{Slot, fill, sort};
+use fx_math::Lens;
+use pf_io::NoMemory;
+use std::alloc::Global;
+
+/// The most pieces that are drawn together.
+const ROOM: usize = 16_384;
+
+/// Pieces, with the slots that order them, and room for as many as are drawn together.
+#[derive(Drop)]
+pub(crate) struct Batch {
+    pub(crate) pieces: Vec<Piece>,
+    pub(crate) slots: Vec<Slot>,
+    ghost few: { length pieces.items ≤ 16384 },
+    ghost ranked: { AreRanked pieces.items },
+    ghost pieces_room: { 16384 ≤ vec_capacity pieces },
+    ghost slots_room: { 16384 ≤ vec_capacity slots },
+}
+
+impl Batch {
+    ghost use Rattle.fx_math.specs.declared.lenses.Lens.{Lens};
+    ghost use Rattle.depth_raster.specs.Slots.{AreSlotsOf};
+    ghost use Rattle.depth_raster.specs.Batches.{IsWithFace};
+
+    /// No pieces.
+    pub(crate) fn new(alloc: Global) -> Result<Batch, NoMemory>
+        ensures { IfOk result (λ b. b.pieces.items ≡ []) }
+    {
+        let mut pieces = Vec::new(alloc);
+        pieces.reserve(ROOM)?;
+        let mut slots = Vec::new(alloc);
+        slots.reserve(ROOM)?;
+        Ok(Batch { pieces, slots })
+    }
+
+    /// Whether no piece has room.
+    pub(crate) fn is_full(&self) -> bool
+        ensures { result ≡ nat_le 16384 (length self.now.pieces.items) }
+    {
+        ROOM <= self.pieces.len()
+    }
+
+    /// Leaves no pieces.
+    pub(crate) fn clear(&mut self)
+        ensures { self.new.pieces.items ≡ [] }
+    {
+        self.pieces.clear();
+    }
+
+    /// Takes a face as the last piece.
+    pub(crate) fn push(&mut self, face: Face, lens: &Lens)
+        requires { length self.old.pieces.items < 16384 }
+        ensures { IsWithFace lens.now face self.old.pieces.items self.new.pieces.items }
+    {
+        let rank = self.pieces.len() as u32 + 1;
+        let piece = Piece::new(Face { rank, ..face }, lens);
+        append(&mut self.pieces, piece);
+    }
+
+    /// Puts the slots of the pieces in the order of their least depths.
+    pub(crate) fn order(&mut self)
+        ensures pieces { self.new.pieces.items ≡ self.old.pieces.items }
+        ensures slots { (lens : Lens) → AreSlotsOf lens self.new.pieces.items self.new.slots.items }
+    {
+        fill(&mut self.slots, &self.pieces);
+        sort(&mut self.slots, &self.pieces);
+    }
+}
+
+/// Appends a piece, for which there is room.
+fn append(pieces: &mut Vec<Piece>, piece: Piece)
+    requires { vec_len pieces.old < vec_capacity pieces.old }
+    ensures items { pieces.new.items ≡ pieces.old.items ++ piece ∷ [] }
+    ensures capacity { vec_capacity pieces.old ≤ vec_capacity pieces.new }
+{
+    match pieces.push(piece) {
+        Ok(()) => {}
+        Err(_) => unreachable!(),
+    }
+}

@@ -1,0 +1,204 @@
+//! Opaque items, drawn batch by batch.
+ghost use Rattle.std.specs.Prelude.{◌≡◌, ℕ, ◌<◌, [], ◌∷◌, None, length};
+ghost use Rattle.std.specs.Option.{option_to_list};
+ghost use Rattle.std.specs.List.{slice_get};
+ghost use Rattle.draw_list.specs.Items.{instance_of_item};
+ghost use Rattle.draw_list.specs.Lists.{instances_in};
+ghost use Rattle.depth_raster.specs.Canvas.{IsOpen, Draws, drawn_with, seen_at, colour_at, face_drawn};
+ghost use Rattle.depth_raster.specs.Drawing.{instance_over, opaque_over};
+
+use crate::batch::Batch;
+use crate::faces::Face;
+use crate::pieces::Piece;
+use crate::strip::Strip;
+use crate::strips::draw_strips;
+use draw_list::{DrawList, Item};
+use fx_math::Lens;
+use std::thread::Threads;
+
+/// Draws the opaque items of a list.
+pub(crate) fn draw_opaque<R: Threads + Sync>(
+    rt: &R,
+    strips: &mut [Strip],
+    batch: &mut Batch,
+    lens: &Lens,
+    back: [u8; 3],
+    list: &DrawList,
+)
+    requires sound { IsOpen lens.now strips.old batch.old.pieces.items }
+    ensures sound { IsOpen lens.now strips.new batch.new.pieces.items }
+    ensures drawn { Draws lens.now strips.old batch.old.pieces.items strips.new batch.new.pieces.items
+        (opaque_over lens.now (instances_in list.now)) }
+{
+    for number in 0..list.len() {
+        draw_numbered(rt, strips, batch, lens, back, list, number);
+    }
+}
+
+/// Draws the item of a number, where it is opaque.
+fn draw_numbered<R: Threads + Sync>(
+    rt: &R,
+    strips: &mut [Strip],
+    batch: &mut Batch,
+    lens: &Lens,
+    back: [u8; 3],
+    list: &DrawList,
+    number: usize,
+)
+    requires sound { IsOpen lens.now strips.old batch.old.pieces.items }
+    ensures sound { IsOpen lens.now strips.new batch.new.pieces.items }
+    ensures drawn { Draws lens.now strips.old batch.old.pieces.items strips.new batch.new.pieces.items
+        (opaque_over lens.now (option_to_list (slice_get (instances_in list.now) number))) }
+{
+    match list.item(number) {
+        Some(item) => draw_if_opaque(rt, strips, batch, lens, back, list, item),
+        None => {}
+    }
+}
+
+/// Draws an item, where it is opaque.
+fn draw_if_opaque<R: Threads + Sync>(
+    rt: &R,
+    strips: &mut [Strip],
+    batch: &mut Batch,
+    lens: &Lens,
+    back: [u8; 3],
+    list: &DrawList,
+    item: &Item,
+)
+    requires sound { IsOpen lens.now strips.old batch.old.pieces.items }
+    requires joint { item.now.joint < length list.now.joints.lists }
+    ensures sound { IsOpen lens.now strips.new batch.new.pieces.items }
+    ensures drawn { Draws lens.now strips.old batch.old.pieces.items strips.new batch.new.pieces.items
+        (opaque_over lens.now (instance_of_item list.now.joints.lists list.now.kept.tris item.now ∷ [])) }
+{
+    match item.tint {
+        None => draw_item(rt, strips, batch, lens, back, list, item),
+        Some(_tint) => {}
+    }
+}
+
+/// Draws the triangles of an item.
+fn draw_item<R: Threads + Sync>(
+    rt: &R,
+    strips: &mut [Strip],
+    batch: &mut Batch,
+    lens: &Lens,
+    back: [u8; 3],
+    list: &DrawList,
+    item: &Item,
+)
+    requires sound { IsOpen lens.now strips.old batch.old.pieces.items }
+    requires joint { item.now.joint < length list.now.joints.lists }
+    ensures sound { IsOpen lens.now strips.new batch.new.pieces.items }
+    ensures drawn { Draws lens.now strips.old batch.old.pieces.items strips.new batch.new.pieces.items
+        (instance_over lens.now (instance_of_item list.now.joints.lists list.now.kept.tris item.now)) }
+{
+    for number in 0..item.geom.len {
+        let tri = match list.tri(item.geom, number) {
+            Some(tri) => tri,
+            None => return,
+        };
+        let face = Face::of(list, item, number, &tri);
+        draw_face(rt, strips, batch, lens, back, face);
+    }
+}
+
+/// Draws a face: it becomes one of those that are drawn together; where these have no more room, they are drawn before.
+fn draw_face<R: Threads + Sync>(
+    rt: &R,
+    strips: &mut [Strip],
+    batch: &mut Batch,
+    lens: &Lens,
+    back: [u8; 3],
+    face: Face,
+)
+    requires sound { IsOpen lens.now strips.old batch.old.pieces.items }
+    ensures sound { IsOpen lens.now strips.new batch.new.pieces.items }
+    ensures drawn { Draws lens.now strips.old batch.old.pieces.items strips.new batch.new.pieces.items
+        (face_drawn lens.now face) }
+{
+    make_room(rt, strips, batch, lens, back);
+    batch.push(face, lens);
+}
+
+/// Draws a full batch.
+fn make_room<R: Threads + Sync>(
+    rt: &R,
+    strips: &mut [Strip],
+    batch: &mut Batch,
+    lens: &Lens,
+    back: [u8; 3],
+)
+    requires sound { IsOpen lens.now strips.old batch.old.pieces.items }
+    ensures sound { IsOpen lens.now strips.new batch.new.pieces.items }
+    ensures room { length batch.new.pieces.items < 16384 }
+    ensures drawn { Draws lens.now strips.old batch.old.pieces.items strips.new batch.new.pieces.items
+        (λ px py drawn. drawn) }
+{
+    if batch.is_full() {
+        flush(rt, strips, batch, lens, back);
+    }
+}
+
+/// Draws the pieces of a batch, which has none then.
+pub(crate) fn flush<R: Threads + Sync>(
+    rt: &R,
+    strips: &mut [Strip],
+    batch: &mut Batch,
+    lens: &Lens,
+    back: [u8; 3],
+)
+    requires sound { IsOpen lens.now strips.old batch.old.pieces.items }
+    ensures sound { IsOpen lens.now strips.new batch.new.pieces.items }
+    ensures empty { batch.new.pieces.items ≡ [] }
+    ensures drawn { (px py : ℕ) → px < lens.now.w → py < lens.now.h
+        → seen_at strips.new px py ≡ drawn_with lens.now strips.old batch.old.pieces.items px py }
+    ensures blank { (px py : ℕ) → px < lens.now.w → py < lens.now.h
+        → seen_at strips.new px py ≡ None → colour_at strips.new px py ≡ back }
+{
+    batch.order();
+    draw_strips(
+        rt,
+        strips,
+        thread_count(&batch.pieces),
+        lens,
+        back,
+        &batch.pieces,
+        &batch.slots,
+    );
+    batch.clear();
+}
+
+/// The most threads that draw one picture.
+const MOST_THREADS: usize = 4;
+
+/// The work from which on a picture is drawn by several threads.
+const MUCH_WORK: u64 = 262_144;
+
+/// How many threads pieces are worth.
+pub(crate) fn thread_count(pieces: &[Piece]) -> usize
+    ensures { 0 < result }
+{
+    if work(pieces) < MUCH_WORK {
+        1
+    } else {
+        MOST_THREADS
+    }
+}
+
+/// About how much work pieces are: in pixels, and some for each piece.
+fn work(pieces: &[Piece]) -> u64 {
+    let mut work: u64 = 0;
+    for piece in pieces {
+        work = work.saturating_add(256).saturating_add(area(piece));
+    }
+    work
+}
+
+/// The number of pixels in the box of a piece.
+fn area(piece: &Piece) -> u64 {
+    let extent = piece.extent;
+    u64::from(extent.right.saturating_sub(extent.left))
+        * u64::from(extent.bottom.saturating_sub(extent.top))
+}

@@ -1,0 +1,85 @@
+//! The colours of strips, put into an image.
+ghost use Rattle.std.specs.Prelude.{◌≡◌, ℕ, ◌+◌, ◌*◌, ◌<◌, ◌≤◌, length, slice_index_or};
+ghost use Rattle.ppm_out.specs.Pixmap.{SetsRows, pixel};
+ghost use Rattle.depth_raster.specs.Blocks.{size_of, colour_in};
+ghost use Rattle.depth_raster.specs.Following.{Relates};
+ghost use Rattle.depth_raster.specs.Shown.{tile_colour, tile_coloured, IsAssembled};
+ghost use Rattle.depth_raster.specs.Strips.{AreTilesOf, AreStrips};
+ghost use Rattle.depth_raster.specs.declared.strip.Strip.{Strip};
+
+use crate::across::COLUMNS;
+use crate::blocks::Block;
+use crate::strip::Strip;
+use crate::tile::Tile;
+use fx_math::Lens;
+use ppm_out::Image;
+
+/// Puts the colours of the tiles of each strip together.
+pub(crate) fn assemble_strips(strips: &mut [Strip], lens: &Lens)
+    requires strips { AreStrips lens.now strips.old }
+    ensures { (i : ℕ) (d : Strip) → i < length strips.old
+        → IsAssembled (slice_index_or strips.old i d) (slice_index_or strips.new i d) }
+{
+    for i in 0..strips.len() {
+        assemble(&mut strips[i]);
+    }
+}
+
+/// Puts the colours of the tiles of a strip together, row after row.
+fn assemble(strip: &mut Strip)
+    requires { AreTilesOf strip.old.band strip.old.tiles.items }
+    ensures { IsAssembled strip.old strip.new }
+{
+    let band = strip.band;
+    copy_rows(&mut strip.pixels, &strip.tiles, &band);
+}
+
+fn copy_rows(pixels: &mut [[u8; 3]], tiles: &[Tile], band: &Block)
+    requires pixels { length pixels.old ≡ size_of band.now }
+    requires tiles { AreTilesOf band.now tiles.now }
+    ensures { Relates band.now (colour_in band.now pixels.old) (colour_in band.now pixels.new) (tile_coloured tiles.now) }
+{
+    for r in 0..band.rows {
+        for q in 0..band.width {
+            let place = band.place(q, r);
+            let colour = colour_at(tiles, band, q, r);
+            pixels[place] = colour;
+        }
+    }
+}
+
+/// The colour of the tiles of a band in a column and a row.
+fn colour_at(tiles: &[Tile], band: &Block, q: u16, r: u16) -> [u8; 3]
+    requires tiles { AreTilesOf band.now tiles.now }
+    requires column { q < band.now.width }
+    requires row { r < band.now.rows }
+    ensures { result ≡ tile_colour tiles.now q r }
+{
+    let tile = &tiles[(q / COLUMNS) as usize];
+    tile.colours[tile.block.place(q % COLUMNS, r)]
+}
+
+/// Puts the colours of all strips into an image.
+pub(crate) fn show(image: &mut Image, strips: &[Strip], lens: &Lens)
+    requires width { image.old.width ≡ lens.now.w }
+    requires height { image.old.height ≡ lens.now.h }
+    requires strips { AreStrips lens.now strips.now }
+    ensures width { image.new.width ≡ image.old.width }
+    ensures height { image.new.height ≡ image.old.height }
+    ensures pixels { (i q r : ℕ) (d : Strip) → i < length strips.now → q < lens.now.w
+        → r < (slice_index_or strips.now i d).band.rows → pixel image.new q (16 * i + r)
+        ≡ colour_in (slice_index_or strips.now i d).band (slice_index_or strips.now i d).pixels.items q r }
+{
+    for i in 0..strips.len() {
+        show_strip(image, &strips[i]);
+    }
+}
+
+/// Puts the colours of a strip into an image.
+fn show_strip(image: &mut Image, strip: &Strip)
+    requires width { strip.now.band.width ≡ image.old.width }
+    requires height { strip.now.band.first + strip.now.band.rows ≤ image.old.height }
+    ensures { SetsRows image.old image.new strip.now.band.first strip.now.pixels.items }
+{
+    image.set_rows(strip.band.first, &strip.pixels);
+}

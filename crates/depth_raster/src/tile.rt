@@ -1,0 +1,35 @@
+//! A tile of a picture: a block of pixels with its marks and its colours.
+ghost use Rattle.std.specs.Prelude.{◌≡◌, ◌≤◌, All, length, IfOk};
+ghost use Rattle.depth_raster.specs.Blocks.{size_of};
+
+use crate::blocks::Block;
+use crate::marks::{Mark, NOTHING};
+use pf_io::NoMemory;
+use std::alloc::Global;
+
+/// A block of a picture, with a mark and a colour at each of its pixels; no mark has a depth above `top`.
+#[derive(Drop)]
+pub(crate) struct Tile {
+    pub(crate) block: Block,
+    pub(crate) top: u32,
+    pub(crate) marks: Vec<Mark>,
+    pub(crate) colours: Vec<[u8; 3]>,
+    ghost marks_whole: { length marks.items ≡ size_of block },
+    ghost colours_whole: { length colours.items ≡ size_of block },
+    ghost topped: { All (λ m. m.depth ≤ top) marks.items },
+}
+
+impl Tile {
+    /// A tile of nothing, black.
+    pub(crate) fn new(alloc: Global, block: Block) -> Result<Tile, NoMemory>
+        ensures { IfOk result (λ t. t.block ≡ block) }
+    {
+        let count = block.rows as usize * block.width as usize;
+        Ok(Tile {
+            block,
+            top: NOTHING,
+            marks: vec![in alloc; Mark::nothing(); count]?,
+            colours: vec![in alloc; [0; 3]; count]?,
+        })
+    }
+}
