@@ -37,7 +37,8 @@ pub record StripRelates (P : Tile → Tile → Type 0) (before after : Strip) : 
 
 -- P holds of each tile of all strips before and after
 abbrev pub StripsRelate : (Tile → Tile → Type 0) → (before after : List Strip) → Type 0
-StripsRelate P before after = (i : ℕ) (d : Strip) → i < length before → StripRelates P (slice_index_or before i d) (slice_index_or after i d)
+StripsRelate P before after =
+    (i : ℕ) (d : Strip) → i < length before → StripRelates P (slice_index_or before i d) (slice_index_or after i d)
 
 -- the strips of a lens's picture, from the top
 pub record AreStrips (lens : Lens) (strips : List Strip) : Type 0 where

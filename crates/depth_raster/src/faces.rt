@@ -57,7 +57,12 @@ impl Face {
 
     /// The mark of a hit at a depth.
     pub(crate) fn mark(&self, depth: u32) -> Mark
-        ensures { result ≡ record { depth = depth - self.now.shift; place = self.now.place; number = self.now.number; rank = self.now.rank } }
+        ensures { result ≡ record {
+          depth = depth - self.now.shift;
+          place = self.now.place;
+          number = self.now.number;
+          rank = self.now.rank;
+        } }
     {
         Mark {
             depth: depth.saturating_sub(self.shift),

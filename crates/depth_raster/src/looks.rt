@@ -69,8 +69,10 @@ fn are_covering(first: i64, second: i64, third: i64, sum: i64) -> bool
 #[tactic(auto, using(crate::proofs::Looking::limit_reached, crate::proofs::Looking::quotient_before))]
 fn depth_before(face: &Face, limit: u64, sum: u64) -> Option<u32>
     requires { 0 < sum }
-    ensures some { IfSome result (λ d. (d ≡ face.now.dividend / sum) × (face.now.extent.near ≤ d) × (d ≤ face.now.extent.far) × (d < limit)) }
-    ensures none { IfNone result (face.now.extent.near ≤ face.now.dividend / sum → face.now.dividend / sum ≤ face.now.extent.far → limit ≤ face.now.dividend / sum) }
+    ensures some { IfSome result (λ d. (d ≡ face.now.dividend / sum) × (face.now.extent.near ≤ d)
+        × (d ≤ face.now.extent.far) × (d < limit)) }
+    ensures none { IfNone result (face.now.extent.near ≤ face.now.dividend / sum
+        → face.now.dividend / sum ≤ face.now.extent.far → limit ≤ face.now.dividend / sum) }
 {
     if product(limit, sum) <= face.dividend {
         return None;

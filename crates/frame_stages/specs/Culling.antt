@@ -41,7 +41,8 @@ pub record CanCullAll (copy : CopyState) (time : ℕ) (views : List Viewpoint) (
   pub few : length views ≤ 4
 
 -- Of lists, those of the first channels are culled, and the numbers are theirs, where the cull can be exact.
-pub record AreCulledTo (copy : CopyState) (time : ℕ) (views : List Viewpoint) (lens : Lens) (n : ℕ) (before after : List Drawables) (stats : Stats) : Type 0 where
+pub record AreCulledTo (copy : CopyState) (time : ℕ) (views : List Viewpoint) (lens : Lens) (n : ℕ)
+    (before after : List Drawables) (stats : Stats) : Type 0 where
   pub many : length after ≡ length before
   pub behind : (i : ℕ) → n ≤ i → slice_get after i ≡ slice_get before i
   pub lists : CanCullAll copy time views before → (i : ℕ) (d : Drawables) (v : Viewpoint) → i < n → slice_get after i ≡ Some d →
@@ -49,6 +50,7 @@ pub record AreCulledTo (copy : CopyState) (time : ℕ) (views : List Viewpoint) 
   pub numbers : CanCullAll copy time views before → stats ≡ sums (map (λ v. stats_of (node_at copy.nodes) time v lens) (take n views))
 
 -- All lists are culled, and the numbers are the sums.
-pub record AreAllCulled (copy : CopyState) (time : ℕ) (views : List Viewpoint) (lens : Lens) (lists : List Drawables) (stats : Stats) : Type 0 where
+pub record AreAllCulled (copy : CopyState) (time : ℕ) (views : List Viewpoint) (lens : Lens)
+    (lists : List Drawables) (stats : Stats) : Type 0 where
   pub lists_are : map instances_in lists ≡ map (λ v. map nameless (draw_list (node_at copy.nodes) time v lens)) views
   pub numbers : stats ≡ sums (map (λ v. stats_of (node_at copy.nodes) time v lens) views)
