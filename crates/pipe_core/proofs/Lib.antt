@@ -1,0 +1,8 @@
+mod Rounds
+mod Weights
+mod Counts
+mod Ranges
+mod Sides
+mod Progress
+mod Running
+mod Shows

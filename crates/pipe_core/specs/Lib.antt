@@ -1,0 +1,4 @@
+pub mod Cores
+pub mod Waits
+pub mod Runs
+pub mod Laws

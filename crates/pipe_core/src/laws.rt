@@ -1,0 +1,39 @@
+//! Laws of the core, each the contract of a call that does nothing.
+ghost use Rattle.pipe_core.specs.Laws.{ProgressLaw, BoundLaw, RunLaw, CuttingLaw, ShownLaw, FreedInPipeLaw};
+
+use cull_walk::laws::culling_keeps_the_picture;
+
+/// The core makes progress: where no event has set the stop mark and each of the four changes nothing, all stages have
+/// ended, or the play is stuck.
+pub fn the_core_makes_progress()
+    ensures { ProgressLaw }
+{}
+
+/// A core that fits its play moves at most nine times for each step of the play, and five times besides.
+pub fn moves_are_bounded()
+    ensures { BoundLaw }
+{}
+
+/// Events that answer no error move a core of a play that is not stuck at least once in each part that holds all four,
+/// until all stages have ended; sixteen such parts for each step, and sixteen besides, end them.
+pub fn enough_rounds_end_the_play()
+    ensures { RunLaw }
+{}
+
+/// No way of cutting events into parts that hold all four gives more parts than `rounds` counts.
+pub fn rounds_are_most()
+    ensures { CuttingLaw }
+{}
+
+/// The history of a core that fits its play is legal and fits the play, and the stream is a front of its pictures; where
+/// all stages have ended, the history fits the play wholly, and the stream is all its pictures.
+pub fn the_stream_shows_the_history()
+    ensures { ShownLaw }
+{
+    culling_keeps_the_picture();
+}
+
+/// A serial that a Sync freed stands in no frame but those that it retired, whose pictures were wholly written.
+pub fn freed_serials_are_delivered()
+    ensures { FreedInPipeLaw }
+{}
