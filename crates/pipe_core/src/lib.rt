@@ -1,4 +1,4 @@
-//! The pipe on one thread: what its events answer, and the laws of its progress, of its end and of what it shows.
+//! What holds of the pipe on one thread: its events, and the laws of its progress, of its end and of what it shows.
 #![tactic(auto)]
 
 mod events;
