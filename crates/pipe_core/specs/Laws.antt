@@ -46,7 +46,8 @@ RunLaw =
 -- events that can be cut into parts that hold all four have at least so many rounds
 abbrev pub CuttingLaw : Type 0
 CuttingLaw =
-    (parts : List (List Event)) → AllByRecursion (λ part. holds_all part ≡ true) parts → length parts ≤ rounds (flat_map (λ part. part) parts)
+    (parts : List (List Event)) → AllByRecursion (λ part. holds_all part ≡ true) parts →
+    length parts ≤ rounds (flat_map (λ part. part) parts)
 
 -- What a core that fits shows: its history is legal, fits the play, and has all edits in range, and its stream is whole
 -- pictures of the history and a front of the next one.
