@@ -8,6 +8,7 @@ pub mod Flushed
 pub mod Folding
 pub mod Following
 pub mod Glazed
+pub mod Halves
 pub mod Items
 pub mod Listed
 pub mod Looking

@@ -11,9 +11,9 @@ ghost use Rattle.depth_raster.specs.Canvas.{IsOpen, Glazes, face_glazed, instanc
 use crate::batch::Batch;
 use crate::faces::Face;
 use crate::glass_strips::glaze_strips;
-use crate::opaque::thread_count;
 use crate::panes::next_pane;
 use crate::strip::Strip;
+use crate::work::work_of;
 use draw_list::{DrawList, Item};
 use fx_math::Lens;
 use std::thread::Threads;
@@ -129,6 +129,6 @@ pub(crate) fn flush<R: Threads + Sync>(rt: &R, strips: &mut [Strip], batch: &mut
     if batch.pieces.len() == 0 {
         return;
     }
-    glaze_strips(rt, strips, thread_count(&batch.pieces), lens, &batch.pieces);
+    glaze_strips(rt, work_of(&batch.pieces), lens, &batch.pieces, strips);
     batch.clear();
 }

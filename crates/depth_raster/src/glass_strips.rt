@@ -1,5 +1,6 @@
 //! Glass over the strips of a picture.
-ghost use Rattle.std.specs.Prelude.{◌≡◌, ◌<◌, All};
+ghost use Rattle.std.specs.Prelude.{◌≡◌, ◌<◌, All, length};
+ghost use Rattle.std.specs.Thread.{IsSync};
 ghost use Rattle.depth_raster.specs.Blocks.{IsBlockOf};
 ghost use Rattle.depth_raster.specs.Pieces.{IsPieceOf};
 ghost use Rattle.depth_raster.specs.Strips.{AreTilesOf, TilesRelate, IsStripOf, StripRelates, StripsRelate};
@@ -11,29 +12,78 @@ use crate::glass_tiles::glaze_tile;
 use crate::pieces::Piece;
 use crate::strip::Strip;
 use crate::tile::Tile;
+use crate::work::is_much;
 use fx_math::Lens;
-use std::thread;
-use std::thread::Threads;
+use std::thread::{Threads, join_mut};
 
-/// Draws pieces of glass in strips as they stand, in at most so many threads.
+/// Draws pieces of glass in strips as they stand. The strips are halved down to single ones, and the halves are drawn side by
+/// side where so much work is worth a thread, and else one after the other.
+#[cycle(halves)]
 pub(crate) fn glaze_strips<R: Threads + Sync>(
     rt: &R,
-    strips: &mut [Strip],
-    threads: usize,
+    work: u64,
     lens: &Lens,
     pieces: &[Piece],
+    strips: &mut [Strip],
 )
-    requires threads { 0 < threads }
     requires strips { All (IsStripOf lens.now) strips.old }
     requires pieces { All (IsPieceOf lens.now) pieces.now }
     ensures { StripsRelate (ColoursFollow (pieces_glazes lens.now pieces.now)) strips.old strips.new }
 {
-    thread::for_each_mut(
-        rt,
-        strips,
-        threads,
-        &|_, strip| glaze_strip(strip, lens, pieces),
-    );
+    if strips.len() < 2 {
+        glaze_last(strips, lens, pieces);
+        return;
+    }
+    let (upper, lower) = strips.split_at_mut(strips.len() / 2);
+    glaze_halves(rt, work, lens, pieces, upper, lower);
+}
+
+/// Draws pieces of glass in the two halves of strips, each of which has about half the work.
+#[cycle(halves)]
+fn glaze_halves<R: Threads + Sync>(
+    rt: &R,
+    work: u64,
+    lens: &Lens,
+    pieces: &[Piece],
+    upper: &mut [Strip],
+    lower: &mut [Strip],
+)
+    requires some_upper { 0 < length upper.old }
+    requires some_lower { 0 < length lower.old }
+    requires upper { All (IsStripOf lens.now) upper.old }
+    requires lower { All (IsStripOf lens.now) lower.old }
+    requires pieces { All (IsPieceOf lens.now) pieces.now }
+    ensures upper { StripsRelate (ColoursFollow (pieces_glazes lens.now pieces.now)) upper.old upper.new }
+    ensures lower { StripsRelate (ColoursFollow (pieces_glazes lens.now pieces.now)) lower.old lower.new }
+{
+    let half = work / 2;
+    if !is_much(work) {
+        glaze_strips(rt, half, lens, pieces, upper);
+        glaze_strips(rt, half, lens, pieces, lower);
+        return;
+    }
+    let mut above = ||
+        requires { IsSync R.row × All (IsStripOf lens.now) upper.now × All (IsPieceOf lens.now) pieces.now }
+        ensures { StripsRelate (ColoursFollow (pieces_glazes lens.entry.now pieces.entry.now)) upper.entry.now upper.exit.now }
+    { glaze_strips(rt, half, lens, pieces, upper) };
+    let mut below = ||
+        requires { IsSync R.row × All (IsStripOf lens.now) lower.now × All (IsPieceOf lens.now) pieces.now }
+        ensures { StripsRelate (ColoursFollow (pieces_glazes lens.entry.now pieces.entry.now)) lower.entry.now lower.exit.now }
+    { glaze_strips(rt, half, lens, pieces, lower) };
+    join_mut(rt, &mut above, &mut below);
+}
+
+/// Draws pieces of glass in a strip that is not halved any more, or in none.
+fn glaze_last(strips: &mut [Strip], lens: &Lens, pieces: &[Piece])
+    requires few { length strips.old < 2 }
+    requires strips { All (IsStripOf lens.now) strips.old }
+    requires pieces { All (IsPieceOf lens.now) pieces.now }
+    ensures { StripsRelate (ColoursFollow (pieces_glazes lens.now pieces.now)) strips.old strips.new }
+{
+    if strips.is_empty() {
+        return;
+    }
+    glaze_strip(&mut strips[0], lens, pieces);
 }
 
 /// Draws pieces of glass in a strip.

@@ -27,6 +27,7 @@ mod strip;
 mod strips;
 mod tile;
 mod tiles;
+mod work;
 
 pub use raster::Raster;
 

@@ -9,9 +9,9 @@ ghost use Rattle.depth_raster.specs.Drawing.{instance_over, opaque_over};
 
 use crate::batch::Batch;
 use crate::faces::Face;
-use crate::pieces::Piece;
 use crate::strip::Strip;
 use crate::strips::draw_strips;
+use crate::work::work_of;
 use draw_list::{DrawList, Item};
 use fx_math::Lens;
 use std::thread::Threads;
@@ -160,45 +160,12 @@ pub(crate) fn flush<R: Threads + Sync>(
     batch.order();
     draw_strips(
         rt,
-        strips,
-        thread_count(&batch.pieces),
+        work_of(&batch.pieces),
         lens,
         back,
         &batch.pieces,
         &batch.slots,
+        strips,
     );
     batch.clear();
-}
-
-/// The most threads that draw one picture.
-const MOST_THREADS: usize = 4;
-
-/// The work from which on a picture is drawn by several threads.
-const MUCH_WORK: u64 = 262_144;
-
-/// How many threads pieces are worth.
-pub(crate) fn thread_count(pieces: &[Piece]) -> usize
-    ensures { 0 < result }
-{
-    if work(pieces) < MUCH_WORK {
-        1
-    } else {
-        MOST_THREADS
-    }
-}
-
-/// About how much work pieces are: in pixels, and some for each piece.
-fn work(pieces: &[Piece]) -> u64 {
-    let mut work: u64 = 0;
-    for piece in pieces {
-        work = work.saturating_add(256).saturating_add(area(piece));
-    }
-    work
-}
-
-/// The number of pixels in the box of a piece.
-fn area(piece: &Piece) -> u64 {
-    let extent = piece.extent;
-    u64::from(extent.right.saturating_sub(extent.left))
-        * u64::from(extent.bottom.saturating_sub(extent.top))
 }

@@ -1,5 +1,6 @@
 //! The strips of a picture, drawn.
-ghost use Rattle.std.specs.Prelude.{◌≡◌, ◌<◌, All};
+ghost use Rattle.std.specs.Prelude.{◌≡◌, ◌<◌, All, length};
+ghost use Rattle.std.specs.Thread.{IsSync};
 ghost use Rattle.depth_raster.specs.Blocks.{IsBlockOf};
 ghost use Rattle.depth_raster.specs.Pieces.{IsPieceOf, AreRanked};
 ghost use Rattle.depth_raster.specs.Slots.{AreSlotsOf};
@@ -13,9 +14,9 @@ use crate::pieces::Piece;
 use crate::slots::Slot;
 use crate::strip::Strip;
 use crate::tile::Tile;
+use crate::work::is_much;
 use fx_math::Lens;
-use std::thread;
-use std::thread::Threads;
+use std::thread::{Threads, join_mut};
 
 /// The rows of a strip; the last one of a picture may have fewer.
 pub(crate) const ROWS: u16 = 16;
@@ -37,29 +38,86 @@ fn clear_tiles(strip: &mut Strip)
     }
 }
 
-/// Draws opaque pieces in strips, in at most so many threads.
+/// Draws opaque pieces in strips, which are halved down to single ones. The halves are drawn side by side where so much work
+/// is worth a thread, and else one after the other.
+#[cycle(halves)]
 pub(crate) fn draw_strips<R: Threads + Sync>(
     rt: &R,
-    strips: &mut [Strip],
-    threads: usize,
+    work: u64,
     lens: &Lens,
     back: [u8; 3],
     pieces: &[Piece],
     slots: &[Slot],
+    strips: &mut [Strip],
 )
-    requires threads { 0 < threads }
     requires strips { All (IsStripOf lens.now) strips.old }
     requires pieces { All (IsPieceOf lens.now) pieces.now }
     requires ranks { AreRanked pieces.now }
     requires slots { AreSlotsOf lens.now pieces.now slots.now }
     ensures { StripsRelate (IsDrawn lens.now back pieces.now) strips.old strips.new }
 {
-    thread::for_each_mut(
-        rt,
-        strips,
-        threads,
-        &|_, strip| draw_strip(strip, lens, back, pieces, slots),
-    );
+    if strips.len() < 2 {
+        draw_last(strips, lens, back, pieces, slots);
+        return;
+    }
+    let (upper, lower) = strips.split_at_mut(strips.len() / 2);
+    draw_halves(rt, work, lens, back, pieces, slots, upper, lower);
+}
+
+/// Draws opaque pieces in the two halves of strips, each of which has about half the work.
+#[cycle(halves)]
+fn draw_halves<R: Threads + Sync>(
+    rt: &R,
+    work: u64,
+    lens: &Lens,
+    back: [u8; 3],
+    pieces: &[Piece],
+    slots: &[Slot],
+    upper: &mut [Strip],
+    lower: &mut [Strip],
+)
+    requires some_upper { 0 < length upper.old }
+    requires some_lower { 0 < length lower.old }
+    requires upper { All (IsStripOf lens.now) upper.old }
+    requires lower { All (IsStripOf lens.now) lower.old }
+    requires pieces { All (IsPieceOf lens.now) pieces.now }
+    requires ranks { AreRanked pieces.now }
+    requires slots { AreSlotsOf lens.now pieces.now slots.now }
+    ensures upper { StripsRelate (IsDrawn lens.now back pieces.now) upper.old upper.new }
+    ensures lower { StripsRelate (IsDrawn lens.now back pieces.now) lower.old lower.new }
+{
+    let half = work / 2;
+    if !is_much(work) {
+        draw_strips(rt, half, lens, back, pieces, slots, upper);
+        draw_strips(rt, half, lens, back, pieces, slots, lower);
+        return;
+    }
+    let mut above = ||
+        requires { IsSync R.row × All (IsStripOf lens.now) upper.now × All (IsPieceOf lens.now) pieces.now
+            × AreRanked pieces.now × AreSlotsOf lens.now pieces.now slots.now }
+        ensures { StripsRelate (IsDrawn lens.entry.now back pieces.entry.now) upper.entry.now upper.exit.now }
+    { draw_strips(rt, half, lens, back, pieces, slots, upper) };
+    let mut below = ||
+        requires { IsSync R.row × All (IsStripOf lens.now) lower.now × All (IsPieceOf lens.now) pieces.now
+            × AreRanked pieces.now × AreSlotsOf lens.now pieces.now slots.now }
+        ensures { StripsRelate (IsDrawn lens.entry.now back pieces.entry.now) lower.entry.now lower.exit.now }
+    { draw_strips(rt, half, lens, back, pieces, slots, lower) };
+    join_mut(rt, &mut above, &mut below);
+}
+
+/// Draws opaque pieces in a strip that is not halved any more, or in none.
+fn draw_last(strips: &mut [Strip], lens: &Lens, back: [u8; 3], pieces: &[Piece], slots: &[Slot])
+    requires few { length strips.old < 2 }
+    requires strips { All (IsStripOf lens.now) strips.old }
+    requires pieces { All (IsPieceOf lens.now) pieces.now }
+    requires ranks { AreRanked pieces.now }
+    requires slots { AreSlotsOf lens.now pieces.now slots.now }
+    ensures { StripsRelate (IsDrawn lens.now back pieces.now) strips.old strips.new }
+{
+    if strips.is_empty() {
+        return;
+    }
+    draw_strip(&mut strips[0], lens, back, pieces, slots);
 }
 
 /// Draws opaque pieces in a strip.

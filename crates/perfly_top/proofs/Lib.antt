@@ -1,4 +1,7 @@
-pub mod Numbers
-pub mod Entries
-pub mod Told
-pub mod Streams
+mod Telling
+mod ByteSums
+mod Readings
+mod Tellings
+mod Whys
+mod Dues
+mod Runs

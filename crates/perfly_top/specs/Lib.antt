@@ -1,8 +1,8 @@
-pub mod Words
-pub mod Lines
-pub mod Reading
-pub mod Entries
-pub mod Outcomes
-pub mod Stream
-pub mod Program
 pub mod Stops
+pub mod Messages
+pub mod Sums
+pub mod Calls
+pub mod Readings
+pub mod Program
+pub mod Runs
+pub mod Endings

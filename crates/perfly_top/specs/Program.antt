@@ -1,31 +1,58 @@
--- What a call of the program leaves of its source and of its frame sink.
-use Rattle.std.specs.Prelude.{◌≡◌, ℕ, ◌≤◌, ◌⊎◌, List, length, take, Option, Some}
-use Rattle.std.specs.Io.KnownBytes.{append_known, prepend_known, IsAtEnd}
-use Rattle.pf_io.specs.Causes.{Rose}
-use Rattle.perfly_top.specs.Reading.{PlayText}
-use Rattle.perfly_top.specs.Entries.{Script, play_text}
-use Rattle.perfly_top.specs.Stream.{pictures}
+-- The headline: what a call leaves that played its play to the end.
+use Rattle.std.specs.Prelude.{◌≡◌, ℕ, ◌+◌, ◌≤◌, true, List, Option, Some, IsSome, slice_get}
+use Rattle.std.specs.List.{concat}
+use Rattle.std.specs.Option.{option_map_or}
+use Rattle.std.specs.Io.KnownBytes.{append_known}
+use Rattle.play_format.specs.Plays.{Script}
+use Rattle.play_check.specs.Stuck.{IsStuck}
+use Rattle.pf_history.specs.Objects.{FrameState}
+use Rattle.pf_history.specs.Logs.{Log, IsLegal}
+use Rattle.pf_history.specs.Fits.{FitsPlay, FitsWholly}
+use Rattle.pf_history.specs.Cuts.{found_by_frames}
+use Rattle.pf_history.specs.CutLaws.{has_serial, is_among, sync_entry}
+use Rattle.stage_parts.specs.Pictures.{pictures}
+use Rattle.pipe_core.specs.Played.{AddsFront}
+use Rattle.play_report.specs.Reports.{report, summary}
+use Rattle.program_words.specs.declared.words.Words.{Words}
+use Rattle.perfly_top.specs.Sums.{sum_of_bytes}
 
--- the source was read to its end, or 16,777,217 bytes of it
-abbrev pub IsRead : Option (List ℕ) → Option (List ℕ) → Type 0
-IsRead old new = (taken : List ℕ) × (old ≡ prepend_known taken new) × ((length taken ≡ 16777217) ⊎ IsAtEnd new)
+-- the pictures of a play's history, one after the other
+abbrev pub stream_of : Script → Log → List ℕ
+stream_of play log = concat (pictures play.channels play.lens play.back log)
 
--- the bytes read as this play
-abbrev pub IsPlay : Option PlayText → Script → Type 0
-IsPlay read script = read ≡ Some (play_text script)
+-- what the report sink gets: the report, or with a number to make the summary
+abbrev pub told : Words → Script → Log → List ℕ
+told words play log =
+    option_map_or (λ n. summary play.lens play.channels n log (sum_of_bytes (stream_of play log))) words.make
+    (report play.lens play.channels log)
 
--- what was read is a play, and its pictures were added to the stream, and nothing else
-abbrev pub Shows : Option PlayText → Option (List ℕ) → Option (List ℕ) → Type 0
-Shows read old new = (script : Script) × IsPlay read script × (new ≡ append_known old (pictures script))
+-- A summary has the sum of the bytes that the frame sink took, so it is known where that sink tells its bytes.
+abbrev pub IsTellable : Words → Option (List ℕ) → Type 0
+IsTellable words frames = IsSome words.make → IsSome frames
 
--- a front of the bytes was added, or all of them
-abbrev pub AppendsUpTo : Option (List ℕ) → Option (List ℕ) → List ℕ → Type 0
-AppendsUpTo old new bytes = (k : ℕ) × (k ≤ length bytes) × (new ≡ append_known old (take k bytes))
+-- A node is freed only when no undelivered frame names it: where a Sync of r replies a serial, only the first r frames
+-- have a node of it.
+abbrev pub FreesLate : ℕ → Log → Type 0
+FreesLate channels log =
+    (j seat r x : ℕ) (serials : List ℕ) → slice_get log j ≡ Some (seat, sync_entry r serials) → is_among x serials ≡ true →
+    (k : ℕ) (s : FrameState) → slice_get (found_by_frames channels log) k ≡ Some s → has_serial x s.graph.nodes ≡ true → k + 1 ≤ r
 
--- what was read is a play, and a front of its pictures was added to the stream, or all of them
-abbrev pub ShowsFront : Option PlayText → Option (List ℕ) → Option (List ℕ) → Type 0
-ShowsFront read old new = (script : Script) × IsPlay read script × AppendsUpTo old new (pictures script)
+-- What holds however the call ends. The history is a legal one-thread history, with calls of the application and merges of
+-- the play, each once, in each caller's order. The stream is whole pictures of it and a front of the next one, where all
+-- frames that a Sync retired were wholly written.
+pub record IsPart (words : Words) (play : Script) (log : Log) (frames frames' : Option (List ℕ)) : Type 0 where
+  pub legal : IsLegal play.channels log
+  pub fits : FitsPlay play.channels words.ahead play.app play.dbase log
+  pub front : AddsFront play log frames frames'
+  pub freed : FreesLate play.channels log
 
--- no fault was counted, nor stands the count at its last value
-abbrev pub Quiet : ℕ → ℕ → Type 0
-Quiet before now = Rose before now → ⊥
+-- What holds of a play that came to its end. The history is one legal one-thread history that holds the application's
+-- calls and the merges, each once, in each caller's order. The stream is what one thread draws, frame by frame, without
+-- culling. A node is freed only when no undelivered frame names it.
+pub record IsPlayed (words : Words) (play : Script) (log : Log) (frames frames' : Option (List ℕ)) : Type 0 where
+  pub can_end : ¬ IsStuck play.app play.dbase
+  pub legal : IsLegal play.channels log
+  pub fits : FitsWholly play.channels words.ahead play.app play.dbase log
+  pub stream : frames' ≡ append_known frames (stream_of play log)
+  pub retired : AddsFront play log frames frames'
+  pub freed : FreesLate play.channels log

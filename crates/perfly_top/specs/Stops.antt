@@ -1,15 +1,21 @@
--- Which stop an error makes.
+-- Why a call ends, by the error of a part.
 use Rattle.pf_io.specs.declared.source.ReadError.{ReadError}
-use Rattle.pf_io.specs.declared.source.ReadError.TheVariants as read
-use Rattle.perfly_top.specs.declared.reader.ReadingError.{ReadingError}
-use Rattle.perfly_top.specs.declared.reader.ReadingError.TheVariants as reading
+use Rattle.pf_io.specs.declared.source.ReadError.TheVariants as read_error
+use Rattle.play_format.specs.declared.refusal.ParseError.{ParseError}
+use Rattle.play_format.specs.declared.refusal.ParseError.TheVariants as parse_error
+use Rattle.program_words.specs.declared.words.WordsError.{WordsError}
+use Rattle.program_words.specs.declared.words.WordsError.TheVariants as words_error
 use Rattle.perfly_top.specs.declared.stop.Stop.{Stop}
 use Rattle.perfly_top.specs.declared.stop.Stop.TheVariants as stop
 
-abbrev pub stop_of_read : ReadError → Stop
-stop_of_read read.Failed = stop.ReadFault
-stop_of_read read.NoMemory = stop.NoMemory
+abbrev pub stop_of_words : WordsError → Stop
+stop_of_words words_error.Wrong = stop.Words
+stop_of_words words_error.NoMemory = stop.NoMemory
 
-abbrev pub stop_of_reading : ReadingError → Stop
-stop_of_reading reading.Refused = stop.Refused
-stop_of_reading reading.NoMemory = stop.NoMemory
+abbrev pub stop_of_read : ReadError → Stop
+stop_of_read read_error.Failed = stop.ReadFault
+stop_of_read read_error.NoMemory = stop.NoMemory
+
+abbrev pub stop_of_parse : ParseError → Stop
+stop_of_parse (parse_error.Refused r) = stop.Refused r
+stop_of_parse parse_error.NoMemory = stop.NoMemory

@@ -1,17 +1,19 @@
 //! The whole of perfly behind one call.
 #![tactic(auto)]
 
-mod lines;
-mod player;
-mod reader;
-mod scene;
-mod steps;
+mod ending;
+mod loading;
+mod messages;
+mod playing;
+mod preparing;
 mod stop;
+mod summing;
 mod top;
-mod words;
 
-pub use steps::Step;
-pub use top::{DONE, Ended, FRAME_FAULT, NO_MEMORY, READ_FAULT, REFUSED, WORDS, perfly};
+pub use ending::{
+    DONE, Ended, FRAME_FAULT, NO_MEMORY, READ_FAULT, REFUSED, REPORT_FAULT, STUCK, WORDS,
+};
+pub use top::perfly;
 
 #[cfg(test)]
 mod tests;

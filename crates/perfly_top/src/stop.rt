@@ -1,17 +1,19 @@
-//! Why a call ends before all is drawn.
+//! Why a call ends before all is told.
 ghost use Rattle.std.specs.Prelude.{◌≡◌};
 
-use crate::reader::ReadingError;
 use pf_io::{NoMemory, ReadError};
-use pf_model::EditError;
+use play_format::{ParseError, Refusal};
+use program_words::WordsError;
 
-/// Why a call ends before all is drawn.
+/// Why a call ends before all is told.
 #[derive(Clone, Copy, Debug, PartialEq, Eq)]
 pub(crate) enum Stop {
-    /// There are words.
+    /// The words are not right.
     Words,
     /// What was read is no play.
-    Refused,
+    Refused(Refusal),
+    /// The play could never end: the lines of the `wait` and of the `await` that cannot be passed.
+    Stuck(u32, u32),
     /// The source reported a fault.
     ReadFault,
     /// The frame sink reported a fault.
@@ -20,28 +22,15 @@ pub(crate) enum Stop {
     NoMemory,
 }
 
-impl From<ReadError> for Stop {
-    ghost use Rattle.perfly_top.specs.Stops.{stop_of_read};
+impl From<WordsError> for Stop {
+    ghost use Rattle.perfly_top.specs.Stops.{stop_of_words};
 
-    ghost from_gives = { λ error stop. stop ≡ stop_of_read error };
+    ghost from_gives = { λ error s. s ≡ stop_of_words error };
 
-    fn from(error: ReadError) -> Stop {
+    fn from(error: WordsError) -> Stop {
         match error {
-            ReadError::Failed => Stop::ReadFault,
-            ReadError::NoMemory => Stop::NoMemory,
-        }
-    }
-}
-
-impl From<ReadingError> for Stop {
-    ghost use Rattle.perfly_top.specs.Stops.{stop_of_reading};
-
-    ghost from_gives = { λ error stop. stop ≡ stop_of_reading error };
-
-    fn from(error: ReadingError) -> Stop {
-        match error {
-            ReadingError::Refused => Stop::Refused,
-            ReadingError::NoMemory => Stop::NoMemory,
+            WordsError::Wrong => Stop::Words,
+            WordsError::NoMemory => Stop::NoMemory,
         }
     }
 }
@@ -53,5 +42,31 @@ impl From<NoMemory> for Stop {
 
     fn from(_error: NoMemory) -> Stop {
         Stop::NoMemory
+    }
+}
+
+impl From<ReadError> for Stop {
+    ghost use Rattle.perfly_top.specs.Stops.{stop_of_read};
+
+    ghost from_gives = { λ error s. s ≡ stop_of_read error };
+
+    fn from(error: ReadError) -> Stop {
+        match error {
+            ReadError::Failed => Stop::ReadFault,
+            ReadError::NoMemory => Stop::NoMemory,
+        }
+    }
+}
+
+impl From<ParseError> for Stop {
+    ghost use Rattle.perfly_top.specs.Stops.{stop_of_parse};
+
+    ghost from_gives = { λ error s. s ≡ stop_of_parse error };
+
+    fn from(error: ParseError) -> Stop {
+        match error {
+            ParseError::Refused(refusal) => Stop::Refused(refusal),
+            ParseError::NoMemory => Stop::NoMemory,
+        }
     }
 }

@@ -1,128 +1,188 @@
-use super::*;
+use crate::{DONE, Ended, FRAME_FAULT, READ_FAULT, REFUSED, REPORT_FAULT, STUCK, WORDS, perfly};
 use pf_io::{FreeGate, MemSink, MemSource};
 use std::alloc::Global;
 use std::test::Fail;
+use std::thread::Threads;
 
-const HEADER: &str = "perfly 1\nsize 2 2\nlens 1 1 1073741823\nback 10 20 30\napp\n";
+const EMPTY: &str = "perfly 1\nsize 2 2\nlens 1 1 1073741823\nback 10 20 30\napp\nframe\n";
 
-fn places(alloc: Global, places: &[u64]) -> Result<Vec<u64>, Fail> {
-    Ok(Vec::from_slice(alloc, places)?)
+const PICTURE: &[u8] = b"P6\n2 2\n255\n\x0a\x14\x1e\x0a\x14\x1e\x0a\x14\x1e\x0a\x14\x1e";
+
+const REPORT: &str = "app sync 0 : freed 0\napp frame 1 : ok\napp sync 1 : freed 0\n\
+frame 1 shown 0 states 0 visited 1\n";
+
+const STUCK_PLAY: &str = "perfly 1\nsize 2 2\nlens 1 1 1073741823\nback 10 20 30\napp\n\
+wait 1\nframe\ndbase\nawait 1\nbuffer\nmerge\n";
+
+/// Where the source, the frame sink and the report sink fail.
+#[derive(Clone, Copy)]
+struct Faults {
+    source: &'static [u64],
+    frames: &'static [u64],
+    report: &'static [u64],
 }
 
-/// The status and the stream of a play, where the source and the frame sink fail at these places.
-fn run(
+const NONE: Faults = Faults {
+    source: &[],
+    frames: &[],
+    report: &[],
+};
+
+/// What a call leaves.
+#[derive(Drop)]
+struct Left {
+    ended: Ended,
+    stream: Vec<u8>,
+    report: Vec<u8>,
+}
+
+/// Plays a text, with the words that stand between single spaces.
+fn run<R: Threads + Sync>(
     alloc: Global,
-    text: &[u8],
-    source_fails: &[u64],
-    sink_fails: &[u64],
-) -> Result<(u8, Vec<u8>), Fail> {
-    let bytes = Vec::from_slice(alloc, text)?;
-    let mut input = MemSource::new(bytes, places(alloc, source_fails)?);
-    let mut frames = MemSink::new(alloc, 200, places(alloc, sink_fails)?)?;
-    let mut report = MemSink::new(alloc, 0, places(alloc, &[])?)?;
-    let ended = perfly(alloc, &[], &mut input, &mut frames, &mut report, &FreeGate);
-    Ok((ended.status, Vec::from_slice(alloc, frames.bytes())?))
-}
-
-fn status(alloc: Global, text: &str) -> Result<u8, Fail> {
-    Ok(run(alloc, text.as_bytes(), &[], &[])?.0)
-}
-
-#[test]
-fn a_refused_edit_changes_nothing_and_the_play_goes_on(rt: HostRuntime) -> Result<(), Fail> {
-    let alloc = rt.alloc();
-    let mut text = String::from_str(alloc, HEADER)?;
-    text.push_str("geode 1 0 1\n")?;
-    text.push_str("t -40960 4096 -40960 255 0 0 40960 4096 -40960 255 0 0 0 4096 81920 255 0 0\n")?;
-    text.push_str("frame\nadd 0 2\nadd 0 0\ngeode 1 7 0\nadd 0 1\nadd 0 1\nframe\n")?;
-    let (status, stream) = run(alloc, text.as_bytes(), &[], &[])?;
-    assert_eq!(rt; status, DONE);
-    let want =
-        b"P6\n2 2\n255\n\x0a\x14\x1e\x0a\x14\x1e\x0a\x14\x1e\x0a\x14\x1eP6\n2 2\n255\n\xff\0\0\xff\0\0\xff\0\0\xff\0\0";
-    assert_eq!(rt; stream.as_slice(), want.as_slice());
-    Ok(())
-}
-
-#[test]
-fn faults_and_the_flush(rt: HostRuntime) -> Result<(), Fail> {
-    let alloc = rt.alloc();
-    let mut text = String::from_str(alloc, HEADER)?;
-    text.push_str("frame\nframe\nframe\n")?;
-    let whole = run(alloc, text.as_bytes(), &[], &[])?;
-    assert_eq!(rt; (whole.0, whole.1.len()), (DONE, 69));
-    // A fault in picture two, and one that only the flush meets.
-    let cut = run(alloc, text.as_bytes(), &[], &[30])?;
-    assert_eq!(rt; cut.0, FRAME_FAULT);
-    assert_eq!(rt;
-        cut.1.as_slice(),
-        &whole.1.as_slice()[..30.min(whole.1.len())]
-    );
-    let flushed = run(alloc, text.as_bytes(), &[], &[69])?;
-    assert_eq!(rt; (flushed.0, flushed.1.len()), (FRAME_FAULT, 69));
-    let no_frame = run(alloc, HEADER.as_bytes(), &[], &[0])?;
-    assert_eq!(rt; (no_frame.0, no_frame.1.len()), (FRAME_FAULT, 0));
-    let unread = run(alloc, text.as_bytes(), &[9], &[])?;
-    assert_eq!(rt; (unread.0, unread.1.len()), (READ_FAULT, 0));
-    Ok(())
-}
-
-#[test]
-fn texts_that_are_no_play(rt: HostRuntime) -> Result<(), Fail> {
-    let alloc = rt.alloc();
-    assert_eq!(rt; status(alloc, "")?, REFUSED);
-    assert_eq!(rt; status(alloc, HEADER)?, DONE);
-    for line in [
-        "frame",
-        "geode 007 0 0\n",
-        "add 0  1\n",
-        "add 0 -0\n",
-        "add 0 +1\n",
-        "add 1 1\n",
-        "geode 1 0 1\n",
-        "\n",
-        "geode 0 0 0\n",
-        "t\n",
-        "frame \n",
-        "geode 1 0 4097\n",
-    ] {
-        let mut text = String::from_str(alloc, HEADER)?;
-        text.push_str(line)?;
-        assert_eq!(rt; status(alloc, text.as_str())?, REFUSED, "at {line:?}");
+    rt: &R,
+    words: &str,
+    play: &str,
+    faults: Faults,
+) -> Result<Left, Fail> {
+    let mut list = Vec::new(alloc);
+    for word in words.split(' ') {
+        if !word.is_empty() {
+            list.push(String::from_str(alloc, word)?)?;
+        }
     }
-    assert_eq!(rt;
-        status(alloc, "perfly 1\nsize 2 2\nlens 1 2 1\nback 0 0 0\napp\n")?,
-        REFUSED
-    );
-    Ok(())
-}
-
-#[test]
-fn an_input_over_the_limit(rt: HostRuntime) -> Result<(), Fail> {
-    let alloc = rt.alloc();
-    let text = vec![in alloc; b'\n'; 16_777_217]?;
-    assert_eq!(rt; run(alloc, text.as_slice(), &[], &[])?.0, REFUSED);
-    Ok(())
-}
-
-#[test]
-fn words_are_refused(rt: HostRuntime) -> Result<(), Fail> {
-    let alloc = rt.alloc();
-    let word = String::from_str(alloc, "--help")?;
-    let mut input = MemSource::new(places_of_bytes(alloc)?, places(alloc, &[])?);
-    let mut frames = MemSink::new(alloc, 0, places(alloc, &[])?)?;
-    let mut report = MemSink::new(alloc, 0, places(alloc, &[])?)?;
+    let bytes = Vec::from_slice(alloc, play.as_bytes())?;
+    let mut input = MemSource::new(bytes, Vec::from_slice(alloc, faults.source)?);
+    let mut frames = MemSink::new(alloc, 100_000, Vec::from_slice(alloc, faults.frames)?)?;
+    let mut report = MemSink::new(alloc, 10_000, Vec::from_slice(alloc, faults.report)?)?;
     let ended = perfly(
         alloc,
-        &[word],
+        rt,
+        list.as_slice(),
         &mut input,
         &mut frames,
         &mut report,
         &FreeGate,
     );
-    assert_eq!(rt; ended.status, WORDS);
+    Ok(Left {
+        ended,
+        stream: Vec::from_slice(alloc, frames.bytes())?,
+        report: Vec::from_slice(alloc, report.bytes())?,
+    })
+}
+
+#[test]
+fn an_empty_scene_and_one_frame(rt: HostRuntime) -> Result<(), Fail> {
+    let left = run(rt.alloc(), &rt, "", EMPTY, NONE)?;
+    assert_eq!(rt; left.ended.status, DONE);
+    assert_eq!(rt; left.stream.as_slice(), PICTURE);
+    assert_eq!(rt; left.report.as_slice(), REPORT.as_bytes());
     Ok(())
 }
 
-fn places_of_bytes(alloc: Global) -> Result<Vec<u8>, Fail> {
-    Ok(Vec::from_slice(alloc, HEADER.as_bytes())?)
+#[test]
+fn what_cannot_be_played(rt: HostRuntime) -> Result<(), Fail> {
+    // The words come first: a source that would fail is not read.
+    let faults = Faults {
+        source: &[0],
+        ..NONE
+    };
+    let left = run(rt.alloc(), &rt, "--ahead 5", EMPTY, faults)?;
+    assert_eq!(rt; left.ended.status, WORDS);
+    assert_eq!(rt; left.report.as_slice(), b"perfly: words\n".as_slice());
+    let left = run(rt.alloc(), &rt, "", "perfly 1\nsize 2 02\n", NONE)?;
+    assert_eq!(rt; left.ended.status, REFUSED);
+    assert_eq!(rt;
+        left.report.as_slice(),
+        b"perfly: line 2: Number\n".as_slice()
+    );
+    let left = run(rt.alloc(), &rt, "", STUCK_PLAY, NONE)?;
+    assert_eq!(rt;
+        (left.ended.status, left.ended.stuck),
+        (STUCK, Some((6, 9)))
+    );
+    assert_eq!(rt;
+        left.report.as_slice(),
+        b"perfly: stuck app 6 dbase 9\n".as_slice()
+    );
+    // A fault cuts the message and leaves the status.
+    let faults = Faults {
+        report: &[4],
+        ..NONE
+    };
+    let left = run(rt.alloc(), &rt, "", STUCK_PLAY, faults)?;
+    assert_eq!(rt; left.ended.status, STUCK);
+    assert_eq!(rt; left.report.as_slice(), b"perf".as_slice());
+    assert!(rt; left.stream.is_empty());
+    Ok(())
+}
+
+#[test]
+fn a_fault_of_the_source(rt: HostRuntime) -> Result<(), Fail> {
+    let faults = Faults {
+        source: &[9],
+        ..NONE
+    };
+    let left = run(rt.alloc(), &rt, "", EMPTY, faults)?;
+    assert_eq!(rt; left.ended.status, READ_FAULT);
+    assert_eq!(rt; left.report.as_slice(), b"perfly: read fault\n".as_slice());
+    assert!(rt; left.stream.is_empty());
+    Ok(())
+}
+
+#[test]
+fn a_fault_of_the_frame_sink(rt: HostRuntime) -> Result<(), Fail> {
+    let within = Faults {
+        frames: &[5],
+        ..NONE
+    };
+    let left = run(rt.alloc(), &rt, "", EMPTY, within)?;
+    assert_eq!(rt; left.ended.status, FRAME_FAULT);
+    assert_eq!(rt; left.stream.as_slice(), b"P6\n2 ".as_slice());
+    assert_eq!(rt; left.report.as_slice(), b"perfly: frame fault\n".as_slice());
+    // At the flush behind the last picture.
+    let behind = Faults {
+        frames: &[23],
+        ..NONE
+    };
+    let left = run(rt.alloc(), &rt, "", EMPTY, behind)?;
+    assert_eq!(rt; left.ended.status, FRAME_FAULT);
+    assert_eq!(rt; left.stream.as_slice(), PICTURE);
+    Ok(())
+}
+
+#[test]
+fn a_fault_of_the_report_sink(rt: HostRuntime) -> Result<(), Fail> {
+    let within = Faults {
+        report: &[5],
+        ..NONE
+    };
+    let left = run(rt.alloc(), &rt, "", EMPTY, within)?;
+    assert_eq!(rt; left.ended.status, REPORT_FAULT);
+    assert_eq!(rt; left.stream.as_slice(), PICTURE);
+    assert_eq!(rt; left.report.as_slice(), b"app s".as_slice());
+    // At the flush behind the report.
+    let behind = Faults {
+        report: &[94],
+        ..NONE
+    };
+    let left = run(rt.alloc(), &rt, "", EMPTY, behind)?;
+    assert_eq!(rt; left.ended.status, REPORT_FAULT);
+    assert_eq!(rt; left.report.as_slice(), REPORT.as_bytes());
+    Ok(())
+}
+
+#[test]
+fn a_play_that_is_made(rt: HostRuntime) -> Result<(), Fail> {
+    let faults = Faults {
+        source: &[0],
+        ..NONE
+    };
+    let left = run(rt.alloc(), &rt, "--make 1 --ahead=2", "", faults)?;
+    assert_eq!(rt; left.ended.status, DONE);
+    assert!(rt;
+        left.report
+            .as_slice()
+            .starts_with(b"made 1 frames 2 merges 1 shown ")
+    );
+    Ok(())
 }

@@ -1,167 +1,132 @@
 //! The whole of perfly as one call.
-ghost use Rattle.std.specs.Prelude.{◌≡◌, ◌≢◌, ◌↔◌, ◌⊎◌, ℕ, [], List, None, Some, IsSome, IfSome, IsOk, IsErr, OnOk, OnErr, IfOk, IfErr};
+ghost use Rattle.std.specs.Prelude.{◌≡◌, ◌≢◌, ◌↔◌, ◌⊎◌, ◌≤◌, ℕ, None, Some, IsSome, IfSome, map};
+ghost use Rattle.std.specs.String.{string_bytes};
+ghost use Rattle.std.specs.Io.KnownBytes.{append_known};
 ghost use Rattle.pf_io.specs.Causes.{Calm, Rose};
 ghost use Rattle.pf_io.specs.Streams.{TakesFront};
-ghost use Rattle.perfly_top.specs.Reading.{reading};
-ghost use Rattle.perfly_top.specs.Program.{IsRead, Shows, ShowsFront, Quiet};
+ghost use Rattle.play_check.specs.Stuck.{IsStuck};
+ghost use Rattle.program_words.specs.declared.words.Words.{Words};
+ghost use Rattle.program_words.specs.Meaning.{meaning_of_words};
+ghost use Rattle.perfly_top.specs.Calls.{IsRefused, IsBarred, IsUntouched, AddsSome};
+ghost use Rattle.perfly_top.specs.Program.{told, IsTellable, IsPart, IsPlayed};
+ghost use Rattle.perfly_top.specs.Endings.{IsStopped, IsBegun, IsDone, IsDoneUntold, IsDue};
 
-use crate::player::play;
-use crate::reader::parse;
+use crate::ending::{
+    DONE, Ended, FRAME_FAULT, NO_MEMORY, READ_FAULT, REFUSED, REPORT_FAULT, STUCK, WORDS, stopped,
+    tell,
+};
+use crate::playing::run_of;
+use crate::preparing::{Task, prepared};
 use crate::stop::Stop;
-use pf_io::{Gate, Sink, Source, read_all};
+use pf_history::History;
+use pf_io::{Gate, Sink, Source};
+use pipe_core::PlayEnd;
 use std::alloc::Global;
+use std::thread::Threads;
 
-/// Status: the play was played to its end.
-pub const DONE: u8 = 0;
-/// Status: the words are not right.
-pub const WORDS: u8 = 1;
-/// Status: what was read is no play.
-pub const REFUSED: u8 = 2;
-/// Status: the source reported a fault.
-pub const READ_FAULT: u8 = 4;
-/// Status: the frame sink reported a fault.
-pub const FRAME_FAULT: u8 = 5;
-/// Status: memory ran out.
-pub const NO_MEMORY: u8 = 7;
-
-/// How a call of [`perfly`] ended.
-#[derive(Clone, Copy, Debug, PartialEq, Eq)]
-pub struct Ended {
-    /// [`DONE`], [`WORDS`], [`REFUSED`], [`READ_FAULT`], [`FRAME_FAULT`] or [`NO_MEMORY`].
-    pub status: u8,
+/// Plays what there is to play, and tells of it.
+fn played<R: Threads + Sync, O: Sink, P: Sink, G: Gate>(
+    alloc: Global,
+    rt: &R,
+    task: Task,
+    frames: &mut O,
+    report: &mut P,
+    gate: &G,
+) -> Ended
+    requires can_end { ¬ IsStuck task.play.app task.play.dbase }
+    requires some { 1 ≤ task.words.ahead }
+    requires few { task.words.ahead ≤ 4 }
+    ensures one_of { (result.status ≡ DONE) ⊎ (result.status ≡ FRAME_FAULT) ⊎ (result.status ≡ REPORT_FAULT)
+        ⊎ (result.status ≡ NO_MEMORY) }
+    ensures part { IsPart task.words task.play result.history.entries (O.written frames.old) (O.written frames.new) }
+    ensures played { (result.status ≡ DONE) ⊎ (result.status ≡ REPORT_FAULT)
+        → IsPlayed task.words task.play result.history.entries (O.written frames.old) (O.written frames.new) }
+    ensures whole { result.status ≡ DONE → IsTellable task.words (O.written frames.old)
+        → P.written report.new ≡ append_known (P.written report.old) (told task.words task.play result.history.entries) }
+    ensures some_told { result.status ≡ REPORT_FAULT → IsTellable task.words (O.written frames.old)
+        → AddsSome (P.written report.old) (P.written report.new) (told task.words task.play result.history.entries) }
+    ensures frame_fault { result.status ≡ FRAME_FAULT → Rose (O.faults frames.old) (O.faults frames.new) }
+    ensures frame_last { result.status ≡ FRAME_FAULT → O.at_fault frames.new ≡ O.written frames.new }
+    ensures frame_calm { result.status ≢ FRAME_FAULT → Calm (O.faults frames.old) (O.faults frames.new) }
+    ensures report_fault { result.status ≡ REPORT_FAULT → Rose (P.faults report.old) (P.faults report.new) }
+    ensures report_calm { result.status ≡ DONE → Calm (P.faults report.old) (P.faults report.new) }
+    ensures stopped { result.status ≢ DONE → result.status ≢ REPORT_FAULT
+        → IsStopped result.status result.refusal result.stuck
+        (P.written report.old) (P.written report.new) (P.faults report.old) (P.faults report.new) }
+    ensures no_refusal { result.refusal ≡ None }
+    ensures not_stuck { result.stuck ≡ None }
+{
+    let words = task.words;
+    let run = run_of(alloc, rt, task.play, words, frames, gate);
+    match run.played.end {
+        PlayEnd::Done => tell(alloc, words, run, report),
+        PlayEnd::FrameFault => stopped(report, Stop::FrameFault, run.played.history),
+        PlayEnd::NoMemory => stopped(report, Stop::NoMemory, run.played.history),
+    }
 }
 
-/// Reads a play from `input` to its end and writes the picture of each of its frames to `frames`, as P6 images (Netpbm),
-/// one after the other; after a fault nothing more. `words` are those after the program's name; none is known yet.
-/// Nothing is written to `report`, and no stage passes `gate`.
-pub fn perfly<I: Source, O: Sink, R: Sink, G: Gate>(
+/// Plays the play of a source, as the words say: reads it, writes the pictures of its frames to `frames` as P6 images, and
+/// the report of its calls to `report`. With a number to make, the source is not read: a generated play is played, and
+/// `report` gets one line. Where the call ends otherwise, `report` gets a message. `gate` is passed at each step of a stage.
+pub fn perfly<R: Threads + Sync, I: Source, O: Sink, P: Sink, G: Gate>(
     alloc: Global,
+    rt: &R,
     words: &[String],
     input: &mut I,
     frames: &mut O,
-    report: &mut R,
+    report: &mut P,
     gate: &G,
 ) -> Ended
-    ensures one_of { (result.status ≡ DONE) ⊎ (result.status ≡ WORDS) ⊎ (result.status ≡ REFUSED)
-        ⊎ (result.status ≡ READ_FAULT) ⊎ (result.status ≡ FRAME_FAULT) ⊎ (result.status ≡ NO_MEMORY) }
+    ensures one_of { result.status ≤ NO_MEMORY }
 
-    // Which words, bytes and faults there were.
-    ensures words { (result.status ≡ WORDS) ↔ (words.now ≢ []) }
-    ensures refused { result.status ≡ REFUSED → IfSome (I.left input.old) (λ bytes. reading bytes ≡ None) }
+    // Done, the headline: the play that was given was played to its end, and told.
+    ensures done { result.status ≡ DONE → IsDone (map string_bytes words.now) (I.left input.old) (I.left input.new)
+        result.history.entries (O.written frames.old) (O.written frames.new) (P.written report.old) (P.written report.new) }
+    ensures report_calm { result.status ≡ DONE → Calm (P.faults report.old) (P.faults report.new) }
+
+    // What was given cannot be played. The words are read first, and nothing of the source where they are wrong.
+    ensures wrong_words { result.status ≡ WORDS
+        → (meaning_of_words (map string_bytes words.now) ≡ None) × (I.left input.new ≡ I.left input.old) }
+    ensures refused { result.status ≡ REFUSED → IfSome result.refusal (λ r.
+        IsRefused (map string_bytes words.now) (I.left input.old) (I.left input.new) r) }
+    ensures stuck { result.status ≡ STUCK → IfSome result.stuck (λ lines.
+        IsBarred (map string_bytes words.now) (I.left input.old) (I.left input.new) lines.0 lines.1) }
+    ensures refusal { IsSome result.refusal ↔ result.status ≡ REFUSED }
+    ensures stuck_lines { IsSome result.stuck ↔ result.status ≡ STUCK }
+
+    // A fault of a stream. One of the report sink comes after a full run. One of the frame sink is its last call.
     ensures read_fault { result.status ≡ READ_FAULT → Rose (I.faults input.old) (I.faults input.new) }
     ensures read_calm { result.status ≢ READ_FAULT → Calm (I.faults input.old) (I.faults input.new) }
     ensures frame_fault { result.status ≡ FRAME_FAULT → Rose (O.faults frames.old) (O.faults frames.new) }
-    ensures frame_calm { result.status ≢ FRAME_FAULT → Calm (O.faults frames.old) (O.faults frames.new) }
-
-    // What is left of the source.
-    ensures unread { result.status ≡ WORDS → I.left input.new ≡ I.left input.old }
-    ensures read { (result.status ≡ DONE) ⊎ (result.status ≡ REFUSED) ⊎ (result.status ≡ FRAME_FAULT)
-        → IsRead (I.left input.old) (I.left input.new) }
-    ensures part_read { (result.status ≡ READ_FAULT) ⊎ (result.status ≡ NO_MEMORY)
-        → TakesFront (I.left input.old) (I.left input.new) }
-
-    // What is added to the stream.
-    ensures done { result.status ≡ DONE
-        → IfSome (I.left input.old) (λ bytes. Shows (reading bytes) (O.written frames.old) (O.written frames.new)) }
-    ensures no_frames { (result.status ≡ WORDS) ⊎ (result.status ≡ REFUSED) ⊎ (result.status ≡ READ_FAULT)
-        → O.written frames.new ≡ O.written frames.old }
-    ensures front { result.status ≡ FRAME_FAULT
-        → IfSome (I.left input.old) (λ bytes. ShowsFront (reading bytes) (O.written frames.old) (O.written frames.new)) }
     ensures frame_last { result.status ≡ FRAME_FAULT → O.at_fault frames.new ≡ O.written frames.new }
-    ensures part { result.status ≡ NO_MEMORY → (O.written frames.new ≡ O.written frames.old)
-        ⊎ IfSome (I.left input.old) (λ bytes. ShowsFront (reading bytes) (O.written frames.old) (O.written frames.new)) }
-    ensures no_report { (R.written report.new ≡ R.written report.old)
-        × Calm (R.faults report.old) (R.faults report.new) }
+    ensures frame_calm { result.status ≢ FRAME_FAULT → Calm (O.faults frames.old) (O.faults frames.new) }
+    ensures report_fault { result.status ≡ REPORT_FAULT → Rose (P.faults report.old) (P.faults report.new) }
+    ensures untold { result.status ≡ REPORT_FAULT
+        → IsDoneUntold (map string_bytes words.now) (I.left input.old) (I.left input.new)
+        result.history.entries (O.written frames.old) (O.written frames.new) (P.written report.old) (P.written report.new) }
 
-    // A play is shown and anything else is refused, unless a stream reports a fault or memory runs out.
-    ensures shown { (bytes : List ℕ) → words.now ≡ [] → I.left input.old ≡ Some bytes
-        → IsSome (reading bytes)
-        → Quiet (I.faults input.old) (I.faults input.new) → Quiet (O.faults frames.old) (O.faults frames.new)
-        → (result.status ≡ DONE) ⊎ (result.status ≡ NO_MEMORY) }
-    ensures not_shown { (bytes : List ℕ) → words.now ≡ [] → I.left input.old ≡ Some bytes
-        → reading bytes ≡ None
-        → Quiet (I.faults input.old) (I.faults input.new)
-        → (result.status ≡ REFUSED) ⊎ (result.status ≡ NO_MEMORY) }
-{
-    let status = match run(alloc, words, input, frames) {
-        Ok(()) => DONE,
-        Err(Stop::Words) => WORDS,
-        Err(Stop::Refused) => REFUSED,
-        Err(Stop::ReadFault) => READ_FAULT,
-        Err(Stop::FrameFault) => FRAME_FAULT,
-        Err(Stop::NoMemory) => NO_MEMORY,
-    };
-    Ended { status }
-}
+    // What is left where the play did not come to its end.
+    ensures early { 1 ≤ result.status → result.status ≤ READ_FAULT
+        → IsUntouched result.history.entries (O.written frames.old) (O.written frames.new) }
+    ensures begun { result.status ≡ FRAME_FAULT
+        → IsBegun (map string_bytes words.now) (I.left input.old) (I.left input.new)
+        result.history.entries (O.written frames.old) (O.written frames.new) }
+    ensures part { result.status ≡ NO_MEMORY
+        → IsUntouched result.history.entries (O.written frames.old) (O.written frames.new)
+        ⊎ IsBegun (map string_bytes words.now) (I.left input.old) (I.left input.new)
+        result.history.entries (O.written frames.old) (O.written frames.new) }
+    ensures part_read { TakesFront (I.left input.old) (I.left input.new) }
+    ensures unread { (w : Words) (n : ℕ) → meaning_of_words (map string_bytes words.now) ≡ Some w → w.make ≡ Some n
+        → (result.status ≢ READ_FAULT) × (I.left input.new ≡ I.left input.old) }
+    ensures stopped { result.status ≢ DONE → result.status ≢ REPORT_FAULT
+        → IsStopped result.status result.refusal result.stuck
+        (P.written report.old) (P.written report.new) (P.faults report.old) (P.faults report.new) }
 
-fn run<I: Source, O: Sink>(
-    alloc: Global,
-    words: &[String],
-    input: &mut I,
-    frames: &mut O,
-) -> Result<(), Stop>
-    ensures words { (result ≡ Err Stop.Words) ↔ (words.now ≢ []) }
-    ensures refused { result ≡ Err Stop.Refused
-        → IfSome (I.left input.old) (λ bytes. reading bytes ≡ None) }
-    ensures read_fault { result ≡ Err Stop.ReadFault → Rose (I.faults input.old) (I.faults input.new) }
-    ensures read_calm { result ≢ Err Stop.ReadFault → Calm (I.faults input.old) (I.faults input.new) }
-    ensures frame_fault { result ≡ Err Stop.FrameFault → Rose (O.faults frames.old) (O.faults frames.new) }
-    ensures frame_last { result ≡ Err Stop.FrameFault → O.at_fault frames.new ≡ O.written frames.new }
-    ensures frame_calm { result ≢ Err Stop.FrameFault → Calm (O.faults frames.old) (O.faults frames.new) }
-    ensures unread { result ≡ Err Stop.Words → I.left input.new ≡ I.left input.old }
-    ensures read { IsOk result ⊎ (result ≡ Err Stop.Refused) ⊎ (result ≡ Err Stop.FrameFault)
-        → IsRead (I.left input.old) (I.left input.new) }
-    ensures part_read { (result ≡ Err Stop.ReadFault) ⊎ (result ≡ Err Stop.NoMemory)
-        → TakesFront (I.left input.old) (I.left input.new) }
-    ensures done { OnOk result (IfSome (I.left input.old)
-        (λ bytes. Shows (reading bytes) (O.written frames.old) (O.written frames.new))) }
-    ensures no_frames { (result ≡ Err Stop.Words) ⊎ (result ≡ Err Stop.Refused)
-        ⊎ (result ≡ Err Stop.ReadFault)
-        → O.written frames.new ≡ O.written frames.old }
-    ensures front { result ≡ Err Stop.FrameFault
-        → IfSome (I.left input.old) (λ bytes. ShowsFront (reading bytes) (O.written frames.old) (O.written frames.new)) }
-    ensures part { result ≡ Err Stop.NoMemory → (O.written frames.new ≡ O.written frames.old)
-        ⊎ IfSome (I.left input.old) (λ bytes. ShowsFront (reading bytes) (O.written frames.old) (O.written frames.new)) }
-    ensures shown { (bytes : List ℕ) → I.left input.old ≡ Some bytes → IsSome (reading bytes)
-        → result ≢ Err Stop.Refused }
-    ensures not_shown { (bytes : List ℕ) → I.left input.old ≡ Some bytes → reading bytes ≡ None
-        → IsErr result × (result ≢ Err Stop.FrameFault) }
+    // Each call ends as is due, but for faults and want of memory.
+    ensures due { IsDue (map string_bytes words.now) (I.left input.old) result.status }
 {
-    if !words.is_empty() {
-        return Err(Stop::Words);
+    match prepared(alloc, words, input) {
+        Err(stop) => stopped(report, stop, History::new(alloc)),
+        Ok(task) => played(alloc, rt, task, frames, report, gate),
     }
-    let bytes = read_input(alloc, input)?;
-    show(alloc, bytes.as_slice(), frames)
-}
-
-/// What the source gives, to its end or to the limit.
-fn read_input<I: Source>(alloc: Global, input: &mut I) -> Result<Vec<u8>, Stop>
-    ensures read { IfOk result (λ v. IsRead (I.left input.old) (I.left input.new)) }
-    ensures told { IfOk result (λ v. (bytes : List ℕ) → I.left input.old ≡ Some bytes
-        → reading bytes ≡ reading v.items) }
-    ensures part { OnErr result (TakesFront (I.left input.old) (I.left input.new)) }
-    ensures fault { result ≡ Err Stop.ReadFault → Rose (I.faults input.old) (I.faults input.new) }
-    ensures calm { result ≢ Err Stop.ReadFault → Calm (I.faults input.old) (I.faults input.new) }
-    ensures causes { IfErr result (λ s. (s ≡ Stop.ReadFault) ⊎ (s ≡ Stop.NoMemory)) }
-{
-    Ok(read_all(alloc, input)?)
-}
-
-/// Shows the play that `bytes` say.
-fn show<O: Sink>(alloc: Global, bytes: &[u8], frames: &mut O) -> Result<(), Stop>
-    ensures refused { result ≡ Err Stop.Refused → reading bytes.now ≡ None }
-    ensures unread { result ≡ Err Stop.Refused → O.written frames.new ≡ O.written frames.old }
-    ensures done { OnOk result (Shows (reading bytes.now) (O.written frames.old) (O.written frames.new)) }
-    ensures front { result ≡ Err Stop.FrameFault
-        → ShowsFront (reading bytes.now) (O.written frames.old) (O.written frames.new) }
-    ensures part { result ≡ Err Stop.NoMemory → (O.written frames.new ≡ O.written frames.old)
-        ⊎ ShowsFront (reading bytes.now) (O.written frames.old) (O.written frames.new) }
-    ensures fault { result ≡ Err Stop.FrameFault → Rose (O.faults frames.old) (O.faults frames.new) }
-    ensures last { result ≡ Err Stop.FrameFault → O.at_fault frames.new ≡ O.written frames.new }
-    ensures calm { result ≢ Err Stop.FrameFault → Calm (O.faults frames.old) (O.faults frames.new) }
-    ensures causes { IfErr result (λ s. (s ≡ Stop.Refused) ⊎ (s ≡ Stop.FrameFault) ⊎ (s ≡ Stop.NoMemory)) }
-    ensures not_shown { reading bytes.now ≡ None → IsErr result × (result ≢ Err Stop.FrameFault) }
-{
-    let script = parse(alloc, bytes)?;
-    play(alloc, script, frames)
 }

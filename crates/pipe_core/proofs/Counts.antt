@@ -1,5 +1,5 @@
 -- How many frames and merges a history has whose turns are the first of what a play asks.
-use Rattle.std.proofs.Common.{◌≡◌, ℕ, ◌+◌, max, Bool, true, false, cond, List, [], ◌∷◌, ◌++◌, map, take, drop, length, refl, sym, ap, ◌∙◌, subst, arith}
+use Rattle.std.proofs.Common.{◌≡◌, ℕ, ◌+◌, max, Bool, true, false, cond, List, [], ◌∷◌, ◌++◌, map, take, drop, length, slice_get, Some, refl, sym, ap, ◌∙◌, subst, add-one, arith}
 use Rattle.std.proofs.lemmas.List.{take-append-drop, map-append, drop-map}
 use Rattle.pf_model.specs.declared.lines.AppLine.{AppLine}
 use Rattle.pf_model.specs.declared.lines.AppStep.{AppStep}
@@ -15,8 +15,9 @@ use Rattle.pf_history.specs.declared.commands.Merge.{Merge}
 use Rattle.pf_history.specs.Objects.{FrameState, next_state}
 use Rattle.pf_history.specs.Logs.{Log, state_after, is_caller, is_by}
 use Rattle.pf_history.specs.Asks.{Wanted, WantEdit, WantView, WantSync, WantFrame, WantClose, Ask, BaseAsk, Turn, asked_from, asked_base_from, turns_from, Meets, Follows, FollowsBase}
-use Rattle.play_check.specs.Lines.{Mark, app_marks, base_marks, total}
+use Rattle.play_check.specs.Lines.{Mark, app_marks, base_marks, base_given, given_by, total}
 use Rattle.play_check.specs.Orders.{frames_of}
+use Rattle.stage_parts.proofs.DbaseSteps.{take_get}
 
 -- how many Frames are asked for
 abbrev pub frames_asked : List Ask → ℕ
@@ -140,6 +141,23 @@ pub base_total : (n : ℕ) (lines : List BaseLine) → total (base_marks lines) 
 base_total n lines =
     ap (λ (ls : List BaseLine). total (base_marks ls)) (sym (take-append-drop n lines))
     ∙ ap total (map-append _ (take n lines) (drop n lines)) ∙ total_append (base_marks (take n lines)) (base_marks (drop n lines))
+
+-- one line more
+pub total_more : (n : ℕ) (lines : List BaseLine) (l : BaseLine) → slice_get lines n ≡ Some l →
+    total (base_marks (take (n + 1) lines)) ≡ total (base_marks (take n lines)) + given_by (base_given l.step)
+total_more n lines l at =
+    let grown = ap (λ (m : ℕ). total (base_marks (take m lines))) (add-one n)
+    ∙ ap (λ (ls : List BaseLine). total (base_marks ls)) (take_get lines n l at)
+    ∙ ap total (map-append _ (take n lines) (l ∷ [])) ∙ total_append (base_marks (take n lines)) (base_marks (l ∷ [])) in
+    omega (arith, grown)
+
+-- only a Merge gives one
+pub no_merge : (s : BaseStep) → (s ≡ base.Merge → ⊥) → given_by (base_given s) ≡ 0
+no_merge base.Buffer other = refl
+no_merge (base.Edit e) other = refl
+no_merge (base.Ask e) other = refl
+no_merge base.Merge other = absurd (other refl)
+no_merge (base.Await n) other = refl
 
 -- what the lines left ask for
 pub frames_left : (need : ℕ) (synced : Bool) (n : ℕ) (lines : List AppLine) →

@@ -6,3 +6,12 @@ mod Sides
 mod Progress
 mod Running
 mod Shows
+mod Lifting
+mod Passing
+mod BaseLifts
+mod AppLifts
+mod Openings
+mod Polls
+mod Turns
+mod Hosting
+mod Nothing

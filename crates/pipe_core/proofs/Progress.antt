@@ -21,7 +21,7 @@ use Rattle.play_check.specs.Stuck.{IsStuck}
 use Rattle.play_check.proofs.Ends.{waiting}
 use Rattle.pf_scene.specs.Acts.{MayMerge}
 use Rattle.stage_parts.specs.States.{still_asked, still_asked_dbase, in_buffer}
-use Rattle.stage_parts.proofs.DbaseSteps.{lines_law}
+use Rattle.stage_parts.proofs.DbaseSteps.{drop_get, lines_law}
 use Rattle.pipe_core.specs.declared.events.Event.{Event}
 use Rattle.pipe_core.specs.declared.events.Event.TheVariants as event
 use Rattle.pipe_core.specs.Cores.{CoreState, CanRun, CoreFits, HasEnded, HaveAllEnded, setup_of}
@@ -31,11 +31,6 @@ use Rattle.pipe_core.proofs.Weights.{asks_weight}
 use Rattle.pipe_core.proofs.Counts.{AreMade, are_made, frames_asked, frames_given, merges_given, frames_left, merges_left, app_total, base_total}
 use Rattle.pipe_core.proofs.Ranges.{passes_at, merges_right, left_right, AreMergesRight}
 use Rattle.pipe_core.proofs.Sides.{never_both, ended_or_waits, counted, unheld, closed_is_ended, cull_ends, draw_ends, PassersWait, passers_wait, heavy, bears_one, all_written, may_sync, sync_goes}
-
-drop_get : {X : Type 0} (xs : List X) (i : ℕ) (x : X) → slice_get xs i ≡ Some x → drop i xs ≡ x ∷ drop (suc i) xs
-drop_get [] i x at = absurd (cc)
-drop_get (y ∷ xs) zero x at = ap (λ z. z ∷ xs) (same_Some y x at)
-drop_get (y ∷ xs) (suc i) x at = drop_get xs i x at
 
 drop_none : {X : Type 0} (xs : List X) (i : ℕ) → slice_get xs i ≡ None → drop i xs ≡ []
 drop_none [] zero past = refl

@@ -17,7 +17,7 @@ pub bound : BoundLaw
 bound play ahead s fits = moves_law (setup_of play ahead) play.dbase one_seat s.pipe fits.pipe fits.app_lines fits.dbase_lines
 
 -- once all stages have ended, events change nothing
-stay_ended : (play : Script) (ahead : ℕ) (events : List Event) (s t : CoreState) → HaveAllEnded play s.pipe → Ran play ahead events s t → HaveAllEnded play t.pipe
+pub stay_ended : (play : Script) (ahead : ℕ) (events : List Event) (s t : CoreState) → HaveAllEnded play s.pipe → Ran play ahead events s t → HaveAllEnded play t.pipe
 stay_ended play ahead [] s t all ran = subst (λ (u : CoreState). HaveAllEnded play u.pipe) (sym ran) all
 stay_ended play ahead (e ∷ events) s t all ran = stay_ended play ahead events ran.0 t (by ran.1.step) ran.2
   where

@@ -14,7 +14,7 @@ use Rattle.pf_history.proofs.Freeing.{freed_law}
 use Rattle.play_format.specs.Plays.{Script}
 use Rattle.stage_parts.specs.Laws.{CullingKeepsPictures, HasEditsInRange, HasPictures}
 use Rattle.stage_parts.specs.States.{still_asked}
-use Rattle.stage_parts.proofs.DbaseSteps.{lines_law}
+use Rattle.stage_parts.proofs.DbaseSteps.{lines_law, take_get}
 use Rattle.stage_parts.proofs.Gathering.{gathering_law}
 use Rattle.stage_parts.proofs.Streams.{stream_law}
 use Rattle.pipe_core.specs.declared.events.Event.TheVariants as event
@@ -62,11 +62,6 @@ shown_law culling play ahead s can fits =
     }
 
 -- Freed serials
-
-take_get : {X : Type 0} (xs : List X) (i : ℕ) (x : X) → slice_get xs i ≡ Some x → take (suc i) xs ≡ take i xs ++ x ∷ []
-take_get [] i x at = absurd (cc)
-take_get (y ∷ xs) zero x at = ap (λ z. z ∷ []) (same_Some y x at)
-take_get (y ∷ xs) (suc i) x at = ap (λ zs. y ∷ zs) (take_get xs i x at)
 
 -- no Sync of a legal history retires more frames than are retired at its end
 retired_by : (channels : ℕ) (log : Log) (j seat r : ℕ) (serials : List ℕ) → IsLegal channels log →

@@ -21,6 +21,7 @@ use Rattle.pf_history.specs.Logs.{Log, is_caller, is_by}
 use Rattle.pf_history.specs.Asks.{Wanted, WantEdit, WantView, WantSync, WantFrame, WantClose, Ask, BaseAsk, Turn, asked_app, asked_dbase, asked_from, asked_base_from, turns_from, Meets, Follows, FollowsBase}
 use Rattle.pf_history.specs.Fits.{turns_of}
 use Rattle.pf_scene.specs.Scenes.{weight_of, weight_in}
+use Rattle.stage_parts.proofs.Moves.{asked_length}
 
 abbrev turns_weight : List Turn → ℕ
 turns_weight [] = 0
@@ -73,15 +74,6 @@ app_weight ahead merges (a ∷ asks) (t ∷ ts) left h =
     let one = light ahead merges a.wanted t.found t.made h.0 in
     let rest = app_weight ahead merges asks ts left h.2 in
     omega (arith, one, rest)
-
-asked_length : (need : ℕ) (synced : Bool) (steps : List AppStep) → length (asked_from need synced steps) ≤ 2 * length steps + 1
-asked_length need synced [] = omega arith
-asked_length need synced (app.Edit e ∷ steps) = let rest = asked_length need synced steps in omega (arith, rest)
-asked_length need synced (app.View channel v ∷ steps) = let rest = asked_length need synced steps in omega (arith, rest)
-asked_length need synced (app.Sync ∷ steps) = let rest = asked_length need true steps in omega (arith, rest)
-asked_length need true (app.Frame ∷ steps) = let rest = asked_length need false steps in omega (arith, rest)
-asked_length need false (app.Frame ∷ steps) = let rest = asked_length need false steps in omega (arith, rest)
-asked_length need synced (app.Wait n ∷ steps) = let rest = asked_length (max need n) synced steps in omega (arith, rest)
 
 -- The merges
 

@@ -2,3 +2,6 @@ pub mod Cores
 pub mod Waits
 pub mod Runs
 pub mod Laws
+pub mod Pipes
+pub mod Hosts
+pub mod Played

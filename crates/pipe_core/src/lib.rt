@@ -1,7 +1,16 @@
-//! What holds of the pipe on one thread: its events, and the laws of its progress, of its end and of what it shows.
+//! The pipe on one thread: what its events answer, the laws of its progress, of its end and of what it shows, and whole
+//! plays.
 #![tactic(auto)]
 
 mod events;
+mod host;
 pub mod laws;
+mod legal;
+mod parts;
+mod pipe;
+mod played;
 
 pub use events::Event;
+pub use host::play_all;
+pub use pipe::Pipe;
+pub use played::{PlayEnd, Played};

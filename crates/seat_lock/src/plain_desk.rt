@@ -24,6 +24,13 @@ impl<T> PlainDesk<T> {
         PlainDesk { value }
     }
 
+    /// A look at the value, as the turns left it.
+    pub fn value(&self) -> &T
+        ensures { result.now ≡ self.now }
+    {
+        &self.value
+    }
+
     /// The value, as the turns left it.
     pub fn into_value(self) -> T
         ensures { result ≡ self }

@@ -67,12 +67,12 @@ dbase_law lines channels seat d log keeps =
 
 -- Lines
 
-drop_get : {X : Type 0} (xs : List X) (i : ℕ) (x : X) → slice_get xs i ≡ Some x → drop i xs ≡ x ∷ drop (suc i) xs
+pub drop_get : {X : Type 0} (xs : List X) (i : ℕ) (x : X) → slice_get xs i ≡ Some x → drop i xs ≡ x ∷ drop (suc i) xs
 drop_get [] i x at = absurd (cc)
 drop_get (y ∷ xs) zero x at = ap (λ z. z ∷ xs) (same_Some y x at)
 drop_get (y ∷ xs) (suc i) x at = drop_get xs i x at
 
-take_get : {X : Type 0} (xs : List X) (i : ℕ) (x : X) → slice_get xs i ≡ Some x → take (suc i) xs ≡ take i xs ++ x ∷ []
+pub take_get : {X : Type 0} (xs : List X) (i : ℕ) (x : X) → slice_get xs i ≡ Some x → take (suc i) xs ≡ take i xs ++ x ∷ []
 take_get [] i x at = absurd (cc)
 take_get (y ∷ xs) zero x at = ap (λ z. z ∷ []) (same_Some y x at)
 take_get (y ∷ xs) (suc i) x at = ap (λ zs. y ∷ zs) (take_get xs i x at)

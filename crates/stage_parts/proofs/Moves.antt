@@ -17,7 +17,8 @@ use Rattle.stage_parts.specs.States.{still_asked, still_asked_dbase}
 use Rattle.stage_parts.specs.Moves.{MovesLaw}
 use Rattle.stage_parts.proofs.Counting.{are_many, held_some}
 
-asked_length : (need : ℕ) (synced : Bool) (steps : List AppStep) → length (asked_from need synced steps) ≤ 2 * length steps + 1
+-- the edits, views, Syncs and Frames that a script asks for are at most two a line, and the last Sync
+pub asked_length : (need : ℕ) (synced : Bool) (steps : List AppStep) → length (asked_from need synced steps) ≤ 2 * length steps + 1
 asked_length need synced [] = omega arith
 asked_length need synced (app.Edit e ∷ steps) = let rest = asked_length need synced steps in omega (arith, rest)
 asked_length need synced (app.View channel v ∷ steps) = let rest = asked_length need synced steps in omega (arith, rest)

@@ -6,8 +6,8 @@ ghost use Rattle.stage_parts.specs.DbaseSteps.{DbaseLaw, LinesLaw, OpeningLaw};
 ghost use Rattle.stage_parts.specs.Gathering.{GatheringLaw, CountingLaw};
 ghost use Rattle.stage_parts.specs.Moves.{MovesLaw};
 
-/// Where a pipe fits what its stages are given, and culling keeps the picture, the stream is whole pictures of the
-/// history and a front of the next one; the retired frames are among those that were wholly written; and once the
+/// Where a pipe of at most four channels fits what its stages are given, and culling keeps the picture, the stream is
+/// whole pictures of the history and a front of the next one; the retired frames are among those that were wholly written; and once the
 /// application has closed, the stream is all pictures.
 pub fn stream_is_a_front_of_the_pictures()
     ensures { StreamLaw }

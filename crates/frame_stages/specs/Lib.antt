@@ -1,0 +1,15 @@
+pub mod Texts
+pub mod Looks
+pub mod Answers
+pub mod Painting
+pub mod Works
+pub mod Culling
+pub mod CullWorks
+pub mod DbaseWorks
+pub mod DbaseLines
+pub mod DbaseAnswers
+pub mod Scripts
+pub mod AppTurns
+pub mod Flights
+pub mod AppWorks
+pub mod AppAnswers

@@ -1,0 +1,217 @@
+//! The cull.
+ghost use Rattle.std.specs.Prelude.{◌≡◌, ◌+◌, true, false, List, [], ◌∷◌, ◌++◌, length, None, Some, Ok, IfOk};
+ghost use Rattle.seat_lock.specs.Log.{Found};
+ghost use Rattle.pf_model.specs.Copies.{copy_of};
+ghost use Rattle.multibuffer.specs.StageCopies.{HasRightBoxes};
+ghost use Rattle.stage_parts.specs.Packets.{is_end};
+ghost use Rattle.frame_stages.specs.Looks.{SawMark};
+ghost use Rattle.frame_stages.specs.Answers.{is_over, IsFull, IsDry, Waits, Moves, PassesOn};
+ghost use Rattle.frame_stages.specs.CullWorks.{CullKeeps};
+ghost use Rattle.frame_stages.specs.declared.answers.Did.TheVariants as did;
+ghost use Rattle.stage_parts.specs.declared.packets.Packet.TheVariants as packet;
+
+use crate::answers::{Did, StageError};
+use crate::culling::cull_load;
+use crate::looks::is_stopped;
+use frame_link::{SendEnd, TakeEnd};
+use fx_math::Lens;
+use multibuffer::StageCopy;
+use pf_io::{Gate, NoMemory, Stage};
+use pf_scene::Scene;
+use seat_lock::Desk;
+use stage_parts::{Load, Packet};
+use std::alloc::Global;
+use std::marker::Model;
+
+/// The cull: it takes the loads that the application sends, keeps its copy of the scene by their update lists, fills
+/// their draw lists with what is in sight, and sends them on. Only `new` takes memory.
+///
+/// Contracts see the lens, the copy with its boxes, whether the End was passed on, and the packet that it holds to send.
+#[derive(Drop)]
+pub struct CullStage {
+    alloc: Global,
+    lens: Lens,
+    copy: StageCopy,
+    ended: bool,
+    held: Option<Packet>,
+}
+
+impl Model for CullStage {
+    ghost use Rattle.frame_stages.specs.CullWorks.{CullWork};
+
+    ghost Value = { CullWork };
+
+    ghost view = { λ c. record { lens = c.lens; copy = c.copy; ended = c.ended; held = c.held } };
+}
+
+/// Whether a packet is the End.
+fn is_end(packet: &Packet) -> bool
+    ensures { result ≡ is_end packet.now }
+{
+    match packet {
+        Packet::Frame(_) => false,
+        Packet::End => true,
+    }
+}
+
+impl CullStage {
+    /// The cull of a lens, which has not begun: its copy is the scene alone.
+    pub fn new(alloc: Global, lens: Lens) -> Result<CullStage, NoMemory>
+        ensures lens { IfOk result (λ c. c.lens ≡ lens) }
+        ensures nodes { IfOk result (λ c. c.copy.nodes ≡ copy_of []) }
+        ensures boxes { IfOk result (λ c. HasRightBoxes c.copy) }
+        ensures ended { IfOk result (λ c. c.ended ≡ false) }
+        ensures held { IfOk result (λ c. c.held ≡ None) }
+        ensures keeps { IfOk result (λ c. CullKeeps c [] []) }
+    {
+        Ok(CullStage {
+            alloc,
+            lens,
+            copy: StageCopy::new(alloc)?,
+            ended: false,
+            held: None,
+        })
+    }
+
+    /// Sends a packet, or holds it where the link has no room, and answers whether it was sent.
+    fn send<S: SendEnd<Packet>>(&mut self, packet: Packet, to: &mut S) -> bool
+        requires going { self.old.ended ≡ false }
+        requires bare { self.old.held ≡ None }
+        ensures lens { self.new.lens ≡ self.old.lens }
+        ensures keeps { (taken : List Packet)
+            → CullKeeps (record self.old { held = Some packet }) taken (S.sent to.old)
+            → CullKeeps self.new taken (S.sent to.new) }
+        ensures sent { result ≡ true → length (S.sent to.new) ≡ length (S.sent to.old) + 1 }
+        ensures still { result ≡ false → self.new ≡ record self.old { held = Some packet } }
+        ensures unsent { result ≡ false → S.sent to.new ≡ S.sent to.old }
+        ensures full { result ≡ false → IsFull (S.room to.old) (S.told_taken to.old) (S.sent to.old) }
+        ensures link { S.send_at to.new ≡ S.send_at to.old }
+        ensures room { S.room to.new ≡ S.room to.old }
+        ensures other_end { S.told_taken to.new ≡ S.told_taken to.old }
+    {
+        let ends = is_end(&packet);
+        match to.push(packet) {
+            Ok(()) => {
+                self.ended = ends;
+                true
+            }
+            Err(packet) => {
+                self.held = Some(packet);
+                false
+            }
+        }
+    }
+
+    /// Culls a load that came, and holds it.
+    fn cull(&mut self, mut load: Load)
+        requires bare { self.old.held ≡ None }
+        ensures lens { self.new.lens ≡ self.old.lens }
+        ensures keeps { (taken sent : List Packet) → CullKeeps self.old taken sent
+            → CullKeeps self.new (taken ++ packet.Frame load ∷ []) sent }
+    {
+        cull_load(self.alloc, &mut self.copy, &self.lens, &mut load);
+        self.held = Some(Packet::Frame(load));
+    }
+
+    /// Takes a packet and holds what it makes of it, and answers whether one came.
+    fn take<T: TakeEnd<Packet>, G: Gate>(&mut self, from: &mut T, gate: &G) -> bool
+        requires bare { self.old.held ≡ None }
+        ensures lens { self.new.lens ≡ self.old.lens }
+        ensures keeps { (sent : List Packet) → CullKeeps self.old (T.taken from.old) sent
+            → CullKeeps self.new (T.taken from.new) sent }
+        ensures came { result ≡ true → length (T.taken from.new) ≡ length (T.taken from.old) + 1 }
+        ensures still { result ≡ false → self.new ≡ self.old }
+        ensures none { result ≡ false → T.taken from.new ≡ T.taken from.old }
+        ensures dry { result ≡ false → IsDry (T.told_sent from.old) (T.taken from.old) }
+        ensures link { T.take_at from.new ≡ T.take_at from.old }
+        ensures room { T.take_room from.new ≡ T.take_room from.old }
+        ensures other_end { T.told_sent from.new ≡ T.told_sent from.old }
+    {
+        match from.pop() {
+            None => false,
+            Some(Packet::End) => {
+                self.held = Some(Packet::End);
+                true
+            }
+            Some(Packet::Frame(load)) => {
+                gate.pass(Stage::Cull, load.cut().frame);
+                self.cull(load);
+                true
+            }
+        }
+    }
+
+    /// Sends the packet held, or takes one, and answers whether a packet moved.
+    fn go<S: SendEnd<Packet>, T: TakeEnd<Packet>, G: Gate>(
+        &mut self,
+        from: &mut T,
+        to: &mut S,
+        gate: &G,
+    ) -> bool
+        requires going { self.old.ended ≡ false }
+        ensures lens { self.new.lens ≡ self.old.lens }
+        ensures keeps { CullKeeps self.old (T.taken from.old) (S.sent to.old)
+            → CullKeeps self.new (T.taken from.new) (S.sent to.new) }
+        ensures moves { Moves result
+            (record { state = self.old; taken = T.taken from.old; sent = S.sent to.old })
+            (record { state = self.new; taken = T.taken from.new; sent = S.sent to.new })
+            (Waits self.old.held (IsDry (T.told_sent from.old) (T.taken from.old))
+            (IsFull (S.room to.old) (S.told_taken to.old) (S.sent to.old))) }
+        ensures take_link { T.take_at from.new ≡ T.take_at from.old }
+        ensures take_room { T.take_room from.new ≡ T.take_room from.old }
+        ensures told_sent { T.told_sent from.new ≡ T.told_sent from.old }
+        ensures send_link { S.send_at to.new ≡ S.send_at to.old }
+        ensures send_room { S.room to.new ≡ S.room to.old }
+        ensures told_taken { S.told_taken to.new ≡ S.told_taken to.old }
+    {
+        match self.held.take() {
+            Some(packet) => self.send(packet, to),
+            None => self.take(from, gate),
+        }
+    }
+
+    /// One step: sends the packet that it holds, or takes one and holds what it makes of it. It takes no memory.
+    pub fn poll<D: Desk<Scene>, S: SendEnd<Packet>, T: TakeEnd<Packet>, G: Gate>(
+        &mut self,
+        desk: &mut D,
+        from: &mut T,
+        to: &mut S,
+        gate: &G,
+    ) -> Result<Did, StageError>
+        // It keeps its part, whatever it received and sent.
+        ensures lens { self.new.lens ≡ self.old.lens }
+        ensures keeps { CullKeeps self.old (T.taken from.old) (S.sent to.old)
+            → CullKeeps self.new (T.taken from.new) (S.sent to.new) }
+
+        // What its answer says. It is over exactly where the End was passed on or this look found the stop mark.
+        ensures answer { PassesOn result
+            (record { state = self.old; taken = T.taken from.old; sent = S.sent to.old })
+            (record { state = self.new; taken = T.taken from.new; sent = S.sent to.new })
+            (Waits self.old.held (IsDry (T.told_sent from.old) (T.taken from.old))
+            (IsFull (S.room to.old) (S.told_taken to.old) (S.sent to.old))) }
+        ensures ended { self.old.ended ≡ true → result ≡ Ok did.Over }
+        ensures looked { self.old.ended ≡ false
+            → SawMark (D.number desk.old) (D.seen desk.old) (D.told desk.old) (is_over result) (D.seen desk.new) }
+
+        // It adds no entry, and leaves all else of the desk and the links.
+        ensures found { Found (D.number desk.old) (D.seen desk.old) (D.seen desk.new) }
+        ensures told { D.told desk.new ≡ D.told desk.old }
+        ensures number { D.number desk.new ≡ D.number desk.old }
+        ensures stands { D.stands desk.new ≡ D.stands desk.old }
+        ensures take_link { T.take_at from.new ≡ T.take_at from.old }
+        ensures take_room { T.take_room from.new ≡ T.take_room from.old }
+        ensures told_sent { T.told_sent from.new ≡ T.told_sent from.old }
+        ensures send_link { S.send_at to.new ≡ S.send_at to.old }
+        ensures send_room { S.room to.new ≡ S.room to.old }
+        ensures told_taken { S.told_taken to.new ≡ S.told_taken to.old }
+    {
+        if self.ended {
+            return Ok(Did::Over);
+        }
+        if is_stopped(desk) {
+            return Ok(Did::Over);
+        }
+        let moved = self.go(from, to, gate);
+        Ok(Did::of(moved))
+    }
+}

@@ -1,0 +1,368 @@
+//! The frames in flight: the loads in hand, and the packets that come back, whose pictures are written.
+ghost use Rattle.std.specs.Prelude.{◌≡◌, ◌+◌, ◌<◌, ◌≤◌, ◌↔◌, ℕ, true, false, List, [], ◌∷◌, ◌++◌, length, IsTrue, None, is_some, IfOk, IfSome, IfNone, IfErr, OnOk, OnErr};
+ghost use Rattle.std.specs.Vec.{vec_len, vec_capacity};
+ghost use Rattle.stage_parts.specs.Loads.{Each, AreImages};
+ghost use Rattle.stage_parts.specs.Parts.{cut_short};
+ghost use Rattle.stage_parts.specs.declared.packets.Packet.TheVariants as packet;
+ghost use Rattle.frame_stages.specs.Answers.{IsDry};
+ghost use Rattle.frame_stages.specs.AppTurns.{Comes};
+ghost use Rattle.pf_history.specs.declared.commands.Command.TheVariants as command;
+ghost use Rattle.pf_scene.specs.Acts.{MaySync};
+ghost use Rattle.frame_stages.specs.Flights.{HaveFirst, begun, IsTaken, IsKeptOf, CameBack, CameShort, Brings};
+
+use crate::app_turns::{Came, make_sync};
+use draw_list::{DrawList, Stats};
+use frame_link::TakeEnd;
+use fx_math::Lens;
+use pf_io::{NoMemory, Sink, write_all};
+use pf_model::View;
+use pf_scene::Scene;
+use seat_lock::Desk;
+use stage_parts::{Load, Packet};
+use std::alloc::Global;
+use std::marker::Model;
+use update_lists::Updates;
+
+/// No more frames than this are begun: a play has at most so many lines.
+const MOST_FRAMES: u32 = 262_144;
+
+/// What came of bringing a packet back.
+#[derive(Clone, Copy, Debug, PartialEq, Eq)]
+pub(crate) enum Brought {
+    /// No frame is away, or no packet came.
+    Nothing,
+    /// The picture was wholly written.
+    Whole,
+    /// A fault cut the picture short.
+    Short,
+}
+
+/// How many frames were begun and how many pictures were wholly written, the loads in hand, the update lists that go home
+/// with the next Sync, and the numbers of the frames that came back.
+#[derive(Drop)]
+pub(crate) struct Flight {
+    frames: u32,
+    written: u32,
+    fault: Option<usize>,
+    spare: Vec<Load>,
+    home: Vec<Updates>,
+    stats: Vec<Stats>,
+    ahead: u8,
+}
+
+impl Model for Flight {
+    ghost use Rattle.std.specs.Vec.{vec_len, vec_capacity};
+    ghost use Rattle.frame_stages.specs.Flights.{FlightState, IsInFlight};
+
+    ghost Value = { FlightState };
+
+    ghost view = { λ f. record {
+      frames = f.frames;
+      written = f.written;
+      fault = f.fault;
+      spare = f.spare.items;
+      stats = f.stats.items;
+      room = vec_capacity f.stats;
+      ahead = f.ahead;
+    } };
+
+    ghost invariant = { λ f. IsInFlight f.frames f.written f.ahead f.fault f.spare.items (vec_capacity f.spare)
+        (vec_len f.stats) (vec_capacity f.stats) };
+}
+
+/// Whether a draw list has an item, and so a joint.
+fn has_item(list: &DrawList) -> bool
+    ensures { result ≡ true → 0 < length list.now.joints.lists }
+{
+    match list.item(0) {
+        Some(_) => true,
+        None => false,
+    }
+}
+
+/// Clears a draw list without items, so that it has a joint.
+fn settle_list(list: &mut DrawList)
+    ensures { 0 < length list.new.joints.lists }
+{
+    if !has_item(list) {
+        list.clear(&View::home());
+    }
+}
+
+/// Clears the draw lists without items, so that each has a joint.
+fn settle_all(lists: &mut [DrawList])
+    ensures first { HaveFirst lists.new }
+    ensures many { length lists.new ≡ length lists.old }
+{
+    for i in 0..lists.len() {
+        settle_list(&mut lists[i]);
+    }
+}
+
+/// Clears the draw lists of a load that have no items, so that each has a joint.
+fn settle(alloc: Global, load: &mut Load)
+    ensures first { HaveFirst load.new.lists }
+    ensures many { length load.new.lists ≡ length load.old.lists }
+    ensures same { load.new ≡ record load.old { lists = load.new.lists } }
+{
+    let mut lists = Vec::new(alloc);
+    load.swap_lists(&mut lists);
+    settle_all(lists.as_mut_slice());
+    load.swap_lists(&mut lists);
+}
+
+/// A load without a frame.
+pub(crate) fn new_load(alloc: Global, lens: &Lens, channels: u8) -> Result<Load, NoMemory>
+    ensures first { IfOk result (λ l. HaveFirst l.lists) }
+    ensures lists { IfOk result (λ l. length l.lists ≡ channels) }
+    ensures images { IfOk result (λ l. AreImages lens.now channels l.images) }
+{
+    let mut load = Load::new(alloc, lens, channels)?;
+    settle(alloc, &mut load);
+    Ok(load)
+}
+
+/// So many loads.
+fn new_loads(alloc: Global, lens: &Lens, ahead: u8, channels: u8) -> Result<Vec<Load>, NoMemory>
+    ensures many { IfOk result (λ v. length v.items ≡ ahead) }
+    ensures room { IfOk result (λ v. ahead ≤ vec_capacity v) }
+    ensures first { IfOk result (λ v. Each (λ l. HaveFirst l.lists) v.items) }
+{
+    let mut loads = Vec::with_capacity(alloc, ahead as usize)?;
+    for i in 0..ahead {
+        let load = new_load(alloc, lens, channels)?;
+        loads.push_reserved(load);
+    }
+    Ok(loads)
+}
+
+/// Keeps an update list that came back, where there is room for it.
+fn bring_home(home: &mut Vec<Updates>, updates: Updates) {
+    if home.len() < home.capacity() {
+        home.push_reserved(updates);
+    }
+}
+
+impl Flight {
+    /// No frame in flight yet, and as many loads in hand as frames may be.
+    pub(crate) fn new(
+        alloc: Global,
+        lens: &Lens,
+        ahead: u8,
+        channels: u8,
+    ) -> Result<Flight, NoMemory>
+        ensures state { IfOk result (λ f. f ≡ record {
+          frames = 0;
+          written = 0;
+          fault = None;
+          spare = f.spare;
+          stats = [];
+          room = f.room;
+          ahead = ahead;
+        }) }
+        ensures loads { IfOk result (λ f. length f.spare ≡ ahead) }
+    {
+        let spare = new_loads(alloc, lens, ahead, channels)?;
+        let home = Vec::with_capacity(alloc, ahead as usize)?;
+        Ok(Flight {
+            frames: 0,
+            written: 0,
+            fault: None,
+            spare,
+            home,
+            stats: Vec::new(alloc),
+            ahead,
+        })
+    }
+
+    /// Where its memory is from.
+    pub(crate) fn allocator(&self) -> Global {
+        *self.home.allocator()
+    }
+
+    /// How many frames may be in flight.
+    pub(crate) fn ahead(&self) -> u8
+        ensures { result ≡ self.now.ahead }
+    {
+        self.ahead
+    }
+
+    /// The number of frames that were begun.
+    pub(crate) fn frames(&self) -> u32
+        ensures { result ≡ self.now.frames }
+    {
+        self.frames
+    }
+
+    /// Whether a frame is away whose picture is not written.
+    pub(crate) fn is_away(&self) -> bool
+        ensures yes { result ≡ true → self.now.written < self.now.frames }
+        ensures no { result ≡ false → self.now.frames ≤ self.now.written }
+    {
+        self.written < self.frames
+    }
+
+    /// Whether one more frame may be in flight.
+    pub(crate) fn has_room(&self) -> bool
+        ensures yes { result ≡ true → self.now.frames < self.now.written + self.now.ahead }
+        ensures no { result ≡ false → self.now.written + self.now.ahead ≤ self.now.frames }
+    {
+        self.frames - self.written < u32::from(self.ahead)
+    }
+
+    /// Whether a fault cut a picture short.
+    pub(crate) fn is_cut(&self) -> bool
+        ensures { result ≡ is_some self.now.fault }
+    {
+        self.fault.is_some()
+    }
+
+    /// The numbers of the frames that came back, in order.
+    pub(crate) fn stats(&self) -> &[Stats]
+        ensures { result.now ≡ self.now.stats }
+    {
+        self.stats.as_slice()
+    }
+
+    /// The numbers of the frames that came back, in order.
+    pub(crate) fn into_stats(self) -> Vec<Stats>
+        ensures { result.items ≡ self.stats }
+    {
+        self.stats
+    }
+
+    /// Keeps a load that came back, its numbers, and the update list that goes home. It takes no memory.
+    fn keep(&mut self, mut load: Load)
+        requires loads { length self.old.spare + 1 + self.old.frames
+            ≤ self.old.ahead + (self.old.written + cut_short self.old.fault) }
+        requires stats { length self.old.stats + 1 ≤ self.old.written + cut_short self.old.fault }
+        ensures kept { IsKeptOf (packet.Frame load) self.old self.new }
+        ensures same { self.new ≡ record self.old { spare = self.new.spare; stats = self.new.stats } }
+    {
+        self.stats.push_reserved(load.stats());
+        bring_home(&mut self.home, load.take_updates());
+        settle(*self.home.allocator(), &mut load);
+        self.spare.push_reserved(load);
+    }
+
+    /// Writes the picture of a load that came back, wholly or up to a fault, and answers whether it was written wholly.
+    fn write_load<O: Sink>(&mut self, load: Load, sink: &mut O) -> bool
+        requires away { self.old.written < self.old.frames }
+        requires whole { self.old.fault ≡ None }
+        ensures back { result ≡ true → CameBack (packet.Frame load) self.old self.new
+            (record { bytes = O.written sink.old; faults = O.faults sink.old; at_fault = O.at_fault sink.old })
+            (record { bytes = O.written sink.new; faults = O.faults sink.new; at_fault = O.at_fault sink.new }) }
+        ensures short { result ≡ false → CameShort (packet.Frame load) self.old self.new
+            (record { bytes = O.written sink.old; faults = O.faults sink.old; at_fault = O.at_fault sink.old })
+            (record { bytes = O.written sink.new; faults = O.faults sink.new; at_fault = O.at_fault sink.new }) }
+    {
+        match write_all(sink, load.bytes()) {
+            Ok(()) => {
+                self.written += 1;
+                self.keep(load);
+                true
+            }
+            Err(error) => {
+                self.fault = Some(error.written);
+                self.keep(load);
+                false
+            }
+        }
+    }
+
+    /// Writes the picture of a packet that came back. The End has none.
+    fn write<O: Sink>(&mut self, packet: Packet, sink: &mut O) -> bool
+        requires away { self.old.written < self.old.frames }
+        requires whole { self.old.fault ≡ None }
+        ensures back { result ≡ true → CameBack packet self.old self.new
+            (record { bytes = O.written sink.old; faults = O.faults sink.old; at_fault = O.at_fault sink.old })
+            (record { bytes = O.written sink.new; faults = O.faults sink.new; at_fault = O.at_fault sink.new }) }
+        ensures short { result ≡ false → CameShort packet self.old self.new
+            (record { bytes = O.written sink.old; faults = O.faults sink.old; at_fault = O.at_fault sink.old })
+            (record { bytes = O.written sink.new; faults = O.faults sink.new; at_fault = O.at_fault sink.new }) }
+    {
+        match packet {
+            Packet::End => {
+                self.written += 1;
+                true
+            }
+            Packet::Frame(load) => self.write_load(load, sink),
+        }
+    }
+
+    /// Takes a packet back, where a frame is away and one came, and writes its picture. It takes no memory.
+    pub(crate) fn bring_back<T: TakeEnd<Packet>, O: Sink>(
+        &mut self,
+        from: &mut T,
+        sink: &mut O,
+    ) -> Brought
+        requires whole { self.old.fault ≡ None }
+        ensures brings { Brings result self.old self.new (T.taken from.old) (T.taken from.new) (T.told_sent from.old)
+            (record { bytes = O.written sink.old; faults = O.faults sink.old; at_fault = O.at_fault sink.old })
+            (record { bytes = O.written sink.new; faults = O.faults sink.new; at_fault = O.at_fault sink.new }) }
+        ensures link { T.take_at from.new ≡ T.take_at from.old }
+        ensures room { T.take_room from.new ≡ T.take_room from.old }
+        ensures other_end { T.told_sent from.new ≡ T.told_sent from.old }
+    {
+        if !self.is_away() {
+            return Brought::Nothing;
+        }
+        match from.pop() {
+            None => Brought::Nothing,
+            Some(packet) => {
+                if self.write(packet, sink) {
+                    Brought::Whole
+                } else {
+                    Brought::Short
+                }
+            }
+        }
+    }
+
+    /// Takes a load out of hand for the next frame, and makes room for the frame's numbers.
+    pub(crate) fn take_load(&mut self) -> Option<Load>
+        ensures some { IfSome result (λ l. self.old.spare ≡ self.new.spare ++ l ∷ []) }
+        ensures first { IfSome result (λ l. HaveFirst l.lists) }
+        ensures taken { IfSome result (λ l. IsTaken self.new) }
+        ensures none { IfNone result (self.new.spare ≡ self.old.spare) }
+        ensures same { self.new ≡ record self.old { spare = self.new.spare; room = self.new.room } }
+    {
+        if self.frames >= MOST_FRAMES {
+            return None;
+        }
+        let away = self.frames as usize - self.stats.len();
+        if self.stats.reserve(away + 1).is_err() {
+            return None;
+        }
+        self.spare.pop()
+    }
+
+    /// Puts a load back into the hand from which it was taken.
+    pub(crate) fn put_back(&mut self, load: Load)
+        requires taken { IsTaken self.old }
+        requires first { HaveFirst load.lists }
+        ensures { self.new ≡ record self.old { spare = self.old.spare ++ load ∷ [] } }
+    {
+        self.spare.push_reserved(load);
+    }
+
+    /// Begins a frame with a load that was taken out of hand.
+    pub(crate) fn begin(&mut self)
+        requires { IsTaken self.old }
+        ensures { self.new ≡ begun self.old }
+    {
+        self.frames += 1;
+    }
+
+    /// Retires the frames whose pictures are written, and sends the update lists home that came back.
+    pub(crate) fn sync<D: Desk<Scene>>(&mut self, desk: &mut D) -> Came
+        ensures same { self.new ≡ self.old }
+        ensures came { Comes (D.number desk.old) (command.Sync self.old.written) (λ s. MaySync s self.old.written)
+            (D.seen desk.old) (D.told desk.old) result (D.seen desk.new) (D.told desk.new) }
+        ensures number { D.number desk.new ≡ D.number desk.old }
+        ensures stands { D.stands desk.new ≡ D.stands desk.old }
+    {
+        let alloc = *self.home.allocator();
+        make_sync(alloc, desk, self.written, &mut self.home)
+    }
+}

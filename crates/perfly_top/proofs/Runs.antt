@@ -1,0 +1,37 @@
+-- What a run of a play leaves, in the words of the headline.
+use Rattle.std.proofs.Common.{◌≡◌, ℕ, List, Option, subst, sym}
+use Rattle.draw_list.specs.declared.stats.Stats.{Stats}
+use Rattle.play_format.specs.Plays.{Script}
+use Rattle.play_check.specs.Stuck.{IsStuck}
+use Rattle.pf_history.specs.Logs.{Log, Recorded, IsLegal}
+use Rattle.pf_history.proofs.Freeing.{freed_law}
+use Rattle.pipe_core.specs.declared.played.PlayEnd.{PlayEnd}
+use Rattle.pipe_core.specs.declared.played.PlayEnd.TheVariants as end
+use Rattle.program_words.specs.declared.words.Words.{Words}
+use Rattle.perfly_top.specs.Program.{FreesLate, IsPart, IsPlayed}
+use Rattle.perfly_top.specs.Runs.{IsRun}
+
+-- what a legal history frees stands in no later frame
+freed_late : (channels : ℕ) (log : Log) → IsLegal channels log → FreesLate channels log
+freed_late channels log legal = λ j seat r x serials at among. (freed_law channels log j r x).replied seat serials legal at among
+
+-- what holds of a run holds of the history that is handed on
+pub part_of : (words : Words) (play : Script) (ended : PlayEnd) (h' h : Recorded) (stats : List Stats) (frames frames' : Option (List ℕ)) →
+    h' ≡ h → IsRun play words.ahead ended h.entries stats frames frames' → IsPart words play h'.entries frames frames'
+part_of words play ended h' h stats frames frames' same run =
+    subst (λ (r : Recorded). IsPart words play r.entries frames frames') (sym same)
+    (record { legal = run.legal; fits = run.fits; front = run.front; freed = freed_late play.channels h.entries run.legal })
+
+pub played_of : (words : Words) (play : Script) (ended : PlayEnd) (h' h : Recorded) (stats : List Stats) (frames frames' : Option (List ℕ)) →
+    h' ≡ h → IsRun play words.ahead ended h.entries stats frames frames' → ended ≡ end.Done → ¬ IsStuck play.app play.dbase →
+    IsPlayed words play h'.entries frames frames'
+played_of words play ended h' h stats frames frames' same run done can =
+    subst (λ (r : Recorded). IsPlayed words play r.entries frames frames') (sym same)
+    (record {
+      can_end = can;
+      legal = run.legal;
+      fits = run.wholly done;
+      stream = run.whole done;
+      retired = run.front;
+      freed = freed_late play.channels h.entries run.legal;
+    })

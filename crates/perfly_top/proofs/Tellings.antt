@@ -1,0 +1,29 @@
+-- What is told of a run, by what was appended.
+use Rattle.std.proofs.Common.{◌≡◌, ℕ, List, ◌++◌, Some, None, Result, OnOk, refl}
+use Rattle.fx_math.specs.declared.lenses.Lens.{Lens}
+use Rattle.pf_history.specs.Logs.{Log}
+use Rattle.stage_parts.specs.Pictures.{frame_numbers}
+use Rattle.play_format.specs.Plays.{Script}
+use Rattle.play_report.specs.Frames.{stats_of_frames}
+use Rattle.play_report.specs.Reports.{report, summary}
+use Rattle.program_words.specs.declared.words.Words.{Words}
+use Rattle.perfly_top.specs.Sums.{sum_of_bytes}
+use Rattle.perfly_top.specs.Program.{stream_of, told}
+
+-- the numbers of the frames are those of the report
+pub same_numbers : (lens : Lens) (channels : ℕ) (log : Log) → frame_numbers channels lens log ≡ stats_of_frames lens channels log
+unfolding stats_of_frames
+same_numbers lens channels log = refl
+
+pub told_report : (words : Words) (play : Script) (log : Log) → words.make ≡ None →
+    report play.lens play.channels log ≡ told words play log
+told_report words play log none = rw none refl
+
+pub told_summary : (words : Words) (play : Script) (log : Log) (n sum : ℕ) → words.make ≡ Some n → sum ≡ sum_of_bytes (stream_of play log) →
+    summary play.lens play.channels n log sum ≡ told words play log
+told_summary words play log n sum some is = rw (some, is) refl
+
+-- what was appended is told in other words
+pub appended : {E : Type 0} (r : Result Unit E) (old new text told : List ℕ) → text ≡ told →
+    OnOk r (new ≡ old ++ text) → OnOk r (new ≡ old ++ told)
+appended r old new text told e h = rw (← e) h

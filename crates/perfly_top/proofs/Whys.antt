@@ -1,0 +1,45 @@
+-- Why a call ends, and what it has read by then.
+use Rattle.std.proofs.Common.{◌≡◌, ℕ, List, [], Option, Some, None, IfSome, IsSome, refl, sym, subst}
+use Rattle.std.specs.Prelude.{◌↔◌}
+use Rattle.std.proofs.lemmas.Option.{same_Some}
+use Rattle.pf_io.specs.Streams.{TakesFront}
+use Rattle.play_format.specs.Plays.{Script}
+use Rattle.play_check.specs.Stuck.{IsStuck, AreStuckLines}
+use Rattle.program_words.specs.declared.words.Words.{Words}
+use Rattle.perfly_top.specs.declared.stop.Stop.{Stop}
+use Rattle.perfly_top.specs.declared.stop.Stop.TheVariants as stop
+use Rattle.perfly_top.specs.Calls.{IsGiven, IsBarred, IsReadFor}
+use Rattle.perfly_top.specs.Endings.{IsWhy}
+
+-- a play with lines that cannot be passed is stuck there
+pub barred_by : (texts : List (List ℕ)) (left left' : Option (List ℕ)) (words : Words) (play : Script) (r : Option (ℕ × ℕ)) (app dbase : ℕ) →
+    IsGiven texts left left' words play → r ≡ Some (app, dbase) → (IsSome r ↔ IsStuck play.app play.dbase) →
+    IfSome r (λ lines. AreStuckLines play.app play.dbase lines.0 lines.1) → IsBarred texts left left' app dbase
+barred_by texts left left' words play None app dbase given e stuck are = absurd (cc)
+barred_by texts left left' words play (Some lines) app dbase given e stuck are =
+    record {
+      words = words;
+      play = play;
+      given = given;
+      stuck = stuck.0 refl;
+      lines = subst (λ (l : ℕ × ℕ). AreStuckLines play.app play.dbase l.0 l.1) (same_Some lines (app, dbase) e) are;
+    }
+
+-- nothing was taken
+none_taken : (left : Option (List ℕ)) → TakesFront left left
+none_taken None = ([], refl)
+none_taken (Some bytes) = ([], refl)
+
+-- what is read where there is a play is a front
+pub read_front : (make : Option ℕ) (left left' : Option (List ℕ)) → IsReadFor make left left' → TakesFront left left'
+read_front None left left' read = read.0
+read_front (Some n) left left' same = subst (TakesFront left) (sym same) (none_taken left)
+
+-- a call that stops early has read a front
+pub why_front : (texts : List (List ℕ)) (left left' : Option (List ℕ)) (s : Stop) → IsWhy texts left left' s → TakesFront left left'
+why_front texts left left' stop.Words why = subst (TakesFront left) (sym why.1) (none_taken left)
+why_front texts left left' (stop.Refused r) why = (why.read.0, why.read.1)
+why_front texts left left' (stop.Stuck app dbase) why = read_front why.words.make left left' why.given.read
+why_front texts left left' stop.ReadFault why = why.3
+why_front texts left left' stop.FrameFault why = absurd why
+why_front texts left left' stop.NoMemory why = why

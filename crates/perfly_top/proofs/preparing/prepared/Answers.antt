@@ -1,0 +1,12 @@
+use Rattle.std.proofs.Common.{◌≡◌, Some, rules}
+use Rattle.perfly_top.proofs.Whys.{barred_by}
+use Rattle.perfly_top.proofs.preparing.prepared.Goals as goal
+
+pub returns-in-Some-clause-why : goal.returns-in-Some-clause-why
+returns-in-Some-clause-why g c =
+    let words = c.in_ok-words.words in
+    let play = c.in_ok-play.play in
+    let found : c.stuck.result ≡ Some (c.in-Some.app, c.in-Some.dbase) = search rules in
+    barred_by _ (g.I.Source.left c.args.input.now) (g.I.Source.left c.given_play.new.input) words play c.stuck.result c.in-Some.app c.in-Some.dbase
+    (record { meaning = c.in_ok-words.ensures.meaning; spelled = c.in_ok-play.ensures.spelled; read = c.in_ok-play.ensures.read })
+    found c.stuck.ensures.stuck c.stuck.ensures.lines

@@ -1,0 +1,57 @@
+use Rattle.std.proofs.Common.{ℕ, map, sym, subst, inl, inr}
+use Rattle.std.specs.String.{string_bytes}
+use Rattle.perfly_top.specs.Endings.{IsDue}
+use Rattle.perfly_top.proofs.Whys.{why_front, read_front}
+use Rattle.perfly_top.proofs.Dues.{stopped_due, played_is_due}
+use Rattle.perfly_top.proofs.top.perfly.Goals as goal
+
+pub returns-in-Err-clause-part_read : goal.returns-in-Err-clause-part_read
+returns-in-Err-clause-part_read g c =
+    why_front (map string_bytes c.args.words.now) (g.I.Source.left c.args.input.now) (g.I.Source.left c.prepared.new.input) c.in-Err.stop c.in-Err.ensures.why
+
+pub returns-in-Err-clause-due : goal.returns-in-Err-clause-due
+returns-in-Err-clause-due g c =
+    let texts = map string_bytes c.args.words.now in
+    let left = g.I.Source.left c.args.input.now in
+    subst (λ (n : ℕ). IsDue texts left n) (sym c.stopped.ensures.status)
+    (stopped_due texts left (g.I.Source.left c.prepared.new.input) c.in-Err.stop c.in-Err.ensures.why)
+
+pub returns-in-Ok-clause-done : goal.returns-in-Ok-clause-done
+returns-in-Ok-clause-done g c = λ e.
+    record {
+      words = c.in-Ok.task.words;
+      play = c.in-Ok.task.play;
+      given = c.in-Ok.ensures.given;
+      played = c.played.ensures.played (inl e);
+      told = c.played.ensures.whole e;
+    }
+
+pub returns-in-Ok-clause-untold : goal.returns-in-Ok-clause-untold
+returns-in-Ok-clause-untold g c = λ e.
+    record {
+      words = c.in-Ok.task.words;
+      play = c.in-Ok.task.play;
+      given = c.in-Ok.ensures.given;
+      played = c.played.ensures.played (inr e);
+      told = c.played.ensures.some_told e;
+    }
+
+pub returns-in-Ok-clause-part : goal.returns-in-Ok-clause-part
+returns-in-Ok-clause-part g c = λ e.
+    inr (record {
+      words = c.in-Ok.task.words;
+      play = c.in-Ok.task.play;
+      given = c.in-Ok.ensures.given;
+      can_end = c.in-Ok.ensures.can_end;
+      part = c.played.ensures.part;
+    })
+
+pub returns-in-Ok-clause-part_read : goal.returns-in-Ok-clause-part_read
+returns-in-Ok-clause-part_read g c =
+    let given = c.in-Ok.ensures.given in
+    read_front c.in-Ok.task.words.make (g.I.Source.left c.args.input.now) (g.I.Source.left c.prepared.new.input) given.read
+
+pub returns-in-Ok-clause-due : goal.returns-in-Ok-clause-due
+returns-in-Ok-clause-due g c =
+    played_is_due (map string_bytes c.args.words.now) (g.I.Source.left c.args.input.now) (g.I.Source.left c.prepared.new.input) c.in-Ok.task.words c.in-Ok.task.play
+    c.played.result.status c.in-Ok.ensures.given c.in-Ok.ensures.can_end c.played.ensures.one_of

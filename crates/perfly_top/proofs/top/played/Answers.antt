@@ -1,0 +1,26 @@
+use Rattle.perfly_top.proofs.Runs.{part_of, played_of}
+use Rattle.perfly_top.proofs.top.played.Goals as goal
+
+pub returns-in-Done-clause-part : goal.returns-in-Done-clause-part
+returns-in-Done-clause-part g c =
+    part_of c.args.task.words c.args.task.play c.run_of-run.result.played.end c.tell.result.history c.run_of-run.result.played.history
+    c.run_of-run.result.played.stats.items (g.O.Sink.written c.args.frames.now) (g.O.Sink.written c.run_of-run.new.frames)
+    c.tell.ensures.history c.run_of-run.ensures.run
+
+pub returns-in-Done-clause-played : goal.returns-in-Done-clause-played
+returns-in-Done-clause-played g c = λ told.
+    played_of c.args.task.words c.args.task.play c.run_of-run.result.played.end c.tell.result.history c.run_of-run.result.played.history
+    c.run_of-run.result.played.stats.items (g.O.Sink.written c.args.frames.now) (g.O.Sink.written c.run_of-run.new.frames)
+    c.tell.ensures.history c.run_of-run.ensures.run c.in-Done.is c.requires.can_end
+
+pub returns-in-FrameFault-clause-part : goal.returns-in-FrameFault-clause-part
+returns-in-FrameFault-clause-part g c =
+    part_of c.args.task.words c.args.task.play c.run_of-run.result.played.end c.stopped.result.history c.run_of-run.result.played.history
+    c.run_of-run.result.played.stats.items (g.O.Sink.written c.args.frames.now) (g.O.Sink.written c.run_of-run.new.frames)
+    c.stopped.ensures.history c.run_of-run.ensures.run
+
+pub returns-in-NoMemory-clause-part : goal.returns-in-NoMemory-clause-part
+returns-in-NoMemory-clause-part g c =
+    part_of c.args.task.words c.args.task.play c.run_of-run.result.played.end c.stopped-in-NoMemory.result.history c.run_of-run.result.played.history
+    c.run_of-run.result.played.stats.items (g.O.Sink.written c.args.frames.now) (g.O.Sink.written c.run_of-run.new.frames)
+    c.stopped-in-NoMemory.ensures.history c.run_of-run.ensures.run

@@ -1,0 +1,68 @@
+//! The play of a call.
+ghost use Rattle.std.specs.Prelude.{◌≡◌, ◌≢◌, ◌≤◌, ◌⊎◌, ℕ, None, Some, Ok, Err, IfOk, IfErr, IfSome, OnOk};
+ghost use Rattle.pf_io.specs.Causes.{Calm, Rose};
+ghost use Rattle.play_format.specs.declared.refusal.Refusal.{Refusal};
+ghost use Rattle.play_format.specs.Reads.{Reads, HasReading, first_refusal};
+ghost use Rattle.perfly_top.specs.Calls.{given_text, IsReadFor};
+ghost use Rattle.perfly_top.specs.Readings.{Gave, HasNoPlay};
+ghost use Rattle.perfly_top.specs.declared.stop.Stop.{Stop};
+ghost use Rattle.perfly_top.specs.declared.stop.Stop.TheVariants as stop;
+
+use crate::stop::Stop;
+use pf_io::{Source, read_all};
+use play_format::{Play, parse};
+use play_gen::make_play;
+use std::alloc::Global;
+
+/// The bytes of the source, to its end or to the limit.
+fn read_input<I: Source>(alloc: Global, input: &mut I) -> Result<Vec<u8>, Stop>
+    ensures gave { IfOk result (λ v. Gave (I.left input.old) (I.left input.new) v.items) }
+    ensures why { IfErr result (λ s. HasNoPlay None (I.left input.old) (I.left input.new) s) }
+    ensures fault { result ≡ Err stop.ReadFault → Rose (I.faults input.old) (I.faults input.new) }
+    ensures calm { result ≢ Err stop.ReadFault → Calm (I.faults input.old) (I.faults input.new) }
+{
+    Ok(read_all(alloc, input)?)
+}
+
+/// The play that bytes spell.
+fn play_of(alloc: Global, bytes: &[u8]) -> Result<Play, Stop>
+    ensures found { IfOk result (λ p. Reads bytes.now p) }
+    ensures refused { (r : Refusal) → result ≡ Err (stop.Refused r)
+        → (first_refusal bytes.now ≡ Some r) × ¬ HasReading bytes.now }
+    ensures causes { (s : Stop) → result ≡ Err s → ((r : Refusal) × (s ≡ stop.Refused r)) ⊎ (s ≡ stop.NoMemory) }
+{
+    Ok(parse(alloc, bytes)?)
+}
+
+/// The play that the source spells.
+fn read_play<I: Source>(alloc: Global, input: &mut I) -> Result<Play, Stop>
+    ensures spelled { IfOk result (λ p. IfSome (I.left input.old) (λ text. Reads text p)) }
+    ensures read { OnOk result (IsReadFor None (I.left input.old) (I.left input.new)) }
+    ensures why { IfErr result (λ s. HasNoPlay None (I.left input.old) (I.left input.new) s) }
+    ensures fault { result ≡ Err stop.ReadFault → Rose (I.faults input.old) (I.faults input.new) }
+    ensures calm { result ≢ Err stop.ReadFault → Calm (I.faults input.old) (I.faults input.new) }
+{
+    let bytes = read_input(alloc, input)?;
+    play_of(alloc, bytes.as_slice())
+}
+
+/// The play of a call: made from the number, where there is one, and else the one that the source spells.
+pub(crate) fn given_play<I: Source>(
+    alloc: Global,
+    make: Option<u16>,
+    input: &mut I,
+) -> Result<Play, Stop>
+    requires low { IfSome make (λ n. 1 ≤ n) }
+    requires high { IfSome make (λ n. n ≤ 256) }
+    ensures spelled { IfOk result (λ p. IfSome (given_text make (I.left input.old)) (λ text. Reads text p)) }
+    ensures read { OnOk result (IsReadFor make (I.left input.old) (I.left input.new)) }
+    ensures unread { (n : ℕ) → make ≡ Some n → I.left input.new ≡ I.left input.old }
+    ensures why { IfErr result (λ s. HasNoPlay make (I.left input.old) (I.left input.new) s) }
+    ensures fault { result ≡ Err stop.ReadFault → Rose (I.faults input.old) (I.faults input.new) }
+    ensures calm { result ≢ Err stop.ReadFault → Calm (I.faults input.old) (I.faults input.new) }
+{
+    match make {
+        Some(n) => Ok(make_play(alloc, u32::from(n))?),
+        None => read_play(alloc, input),
+    }
+}

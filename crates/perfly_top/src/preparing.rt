@@ -1,0 +1,61 @@
+//! What a call has to play.
+ghost use Rattle.std.specs.Prelude.{◌≡◌, ◌≢◌, ◌≤◌, ◌⊎◌, ℕ, map, None, Some, Err, IfOk, IfErr, IfSome};
+ghost use Rattle.std.specs.String.{string_bytes};
+ghost use Rattle.pf_io.specs.Causes.{Calm, Rose};
+ghost use Rattle.play_check.specs.Stuck.{IsStuck};
+ghost use Rattle.program_words.specs.declared.words.Words.{Words};
+ghost use Rattle.program_words.specs.Meaning.{meaning_of_words};
+ghost use Rattle.perfly_top.specs.Calls.{IsGiven};
+ghost use Rattle.perfly_top.specs.Endings.{IsWhy};
+ghost use Rattle.perfly_top.specs.declared.stop.Stop.TheVariants as stop;
+
+use crate::loading::given_play;
+use crate::stop::Stop;
+use pf_io::Source;
+use play_check::stuck;
+use play_format::Play;
+use program_words::{Words, read_words};
+use std::alloc::Global;
+
+/// A play that can end, and the words that say how it is played.
+#[derive(Drop)]
+pub(crate) struct Task {
+    pub(crate) words: Words,
+    pub(crate) play: Play,
+}
+
+/// What the words are, and why they may be none.
+fn right_words(alloc: Global, words: &[String]) -> Result<Words, Stop>
+    ensures meaning { IfOk result (λ w. meaning_of_words (map string_bytes words.now) ≡ Some w) }
+    ensures some { IfOk result (λ w. 1 ≤ w.ahead) }
+    ensures few { IfOk result (λ w. w.ahead ≤ 4) }
+    ensures low { IfOk result (λ w. IfSome w.make (λ n. 1 ≤ n)) }
+    ensures high { IfOk result (λ w. IfSome w.make (λ n. n ≤ 256)) }
+    ensures wrong { IfErr result (λ s. ((s ≡ stop.Words) × (meaning_of_words (map string_bytes words.now) ≡ None)) ⊎ (s ≡ stop.NoMemory)) }
+{
+    Ok(read_words(alloc, words)?)
+}
+
+/// The play that the words and the source give, where it can end; else why there is none.
+pub(crate) fn prepared<I: Source>(
+    alloc: Global,
+    words: &[String],
+    input: &mut I,
+) -> Result<Task, Stop>
+    ensures given { IfOk result (λ t. IsGiven (map string_bytes words.now) (I.left input.old) (I.left input.new) t.words t.play) }
+    ensures can_end { IfOk result (λ t. ¬ IsStuck t.play.app t.play.dbase) }
+    ensures some { IfOk result (λ t. 1 ≤ t.words.ahead) }
+    ensures few { IfOk result (λ t. t.words.ahead ≤ 4) }
+    ensures why { IfErr result (λ s. IsWhy (map string_bytes words.now) (I.left input.old) (I.left input.new) s) }
+    ensures unread { (w : Words) (n : ℕ) → meaning_of_words (map string_bytes words.now) ≡ Some w → w.make ≡ Some n
+        → I.left input.new ≡ I.left input.old }
+    ensures fault { result ≡ Err stop.ReadFault → Rose (I.faults input.old) (I.faults input.new) }
+    ensures calm { result ≢ Err stop.ReadFault → Calm (I.faults input.old) (I.faults input.new) }
+{
+    let words = right_words(alloc, words)?;
+    let play = given_play(alloc, words.make, input)?;
+    match stuck(&play) {
+        Some((app, dbase)) => Err(Stop::Stuck(app, dbase)),
+        None => Ok(Task { words, play }),
+    }
+}

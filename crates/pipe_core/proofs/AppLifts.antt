@@ -1,0 +1,462 @@
+-- The poll of APP keeps what the pipe keeps.
+use Rattle.std.proofs.Common.{◌≡◌, ◌⊎◌, ℕ, zero, suc, ◌+◌, ◌<◌, ◌≤◌, ◌==◌, Bool, true, false, cond, ◌&&◌, ◌||◌, List, [], ◌∷◌, ◌++◌, map, drop, length, is_some, slice_get, Option, Some, None, Result, Ok, Err, inl, inr, refl, sym, ap, ◌∙◌, subst, arith, eq-eqb}
+use Rattle.std.proofs.lemmas.Bool.{and_from, or_parts}
+use Rattle.std.proofs.lemmas.List.{append-nil, length-append, length_push, nil_from_length}
+use Rattle.std.proofs.lemmas.Option.{same_Some}
+use Rattle.std.specs.Option.{option_map, MatchOption}
+use Rattle.std.specs.List.{AllByRecursion}
+use Rattle.seat_lock.specs.Log.{of}
+use Rattle.pf_model.specs.declared.edits.Edit.{Edit}
+use Rattle.pf_model.specs.declared.lines.AppLine.{AppLine}
+use Rattle.pf_model.specs.declared.lines.AppStep.{AppStep}
+use Rattle.pf_model.specs.declared.lines.AppStep.TheVariants as app
+use Rattle.pf_model.specs.Angles.{Viewpoint}
+use Rattle.pf_history.specs.declared.commands.Caller.{Caller}
+use Rattle.pf_history.specs.declared.commands.Caller.TheVariants.{App, Dbase}
+use Rattle.pf_history.specs.declared.commands.Command.{Command}
+use Rattle.pf_history.specs.declared.commands.Command.TheVariants as command
+use Rattle.pf_history.specs.declared.commands.Entry.{Entry}
+use Rattle.pf_history.specs.Commands.{caller_of, is_frame}
+use Rattle.pf_history.specs.Objects.{FrameState, opening_state, next_state}
+use Rattle.pf_history.specs.Logs.{Log, state_of, IsLegal, IsLegalFrom, is_caller, is_by}
+use Rattle.pf_history.specs.Asks.{asked_dbase, is_at}
+use Rattle.pf_history.proofs.Counting.{never_fall_law, counts_law}
+use Rattle.play_format.specs.Plays.{Script}
+use Rattle.pf_scene.specs.Scenes.{Shared, SceneState}
+use Rattle.pf_scene.specs.Acts.{MayEdit, MayView, MaySync, MayFrame}
+use Rattle.stage_parts.specs.declared.packets.Packet.{Packet}
+use Rattle.stage_parts.specs.Loads.{Each}
+use Rattle.stage_parts.specs.Packets.{bytes_in, LinkPart}
+use Rattle.stage_parts.specs.Pictures.{streamed}
+use Rattle.stage_parts.specs.States.{AppState}
+use Rattle.stage_parts.specs.Parts.{AppKeeps, DbaseKeeps}
+use Rattle.stage_parts.proofs.Gathering.{gathering_law}
+use Rattle.stage_parts.proofs.DbaseSteps.{dbase_law}
+use Rattle.stage_parts.proofs.Places.{each_all}
+use Rattle.frame_stages.specs.declared.answers.Did.{Did}
+use Rattle.frame_stages.specs.declared.answers.Did.TheVariants as did
+use Rattle.frame_stages.specs.declared.answers.StageError.{StageError}
+use Rattle.frame_stages.specs.declared.answers.StageError.TheVariants as error
+use Rattle.frame_stages.specs.Answers.{is_over}
+use Rattle.frame_stages.specs.Flights.{SinkSide}
+use Rattle.frame_stages.specs.Scripts.{next_step}
+use Rattle.frame_stages.specs.AppTurns.{Tells, IsMarked}
+use Rattle.frame_stages.specs.AppWorks.{AppWork, AreOwnFrames, is_done, merges_in}
+use Rattle.frame_stages.specs.AppAnswers as stage
+use Rattle.frame_stages.specs.AppAnswers.{Around, around, AppAdds, AppAnswers, Polled, FoundMark, IsLonger}
+use Rattle.frame_stages.specs.DbaseWorks.{dbase_state}
+use Rattle.pipe_core.specs.declared.events.Event.TheVariants as event
+use Rattle.pipe_core.specs.Cores.{CoreState, CanRun, CoreFits, setup_of, one_seat}
+use Rattle.pipe_core.specs.Waits.{SyncWaits, FrameWaits, CloseWaits, StepWaits, Waits, IsFull, IsOver, shared_of}
+use Rattle.stage_parts.specs.Moves.{moved}
+use Rattle.pipe_core.specs.Pipes.{PipeWork, core_of, PipeKeeps, Answers, AddsAtMostOne, IsWritten, AppLifted}
+use Rattle.pipe_core.proofs.Sides.{never_both}
+use Rattle.pipe_core.proofs.Lifting.{opened, not_over}
+use Rattle.pipe_core.proofs.BaseLifts.{grown_entries}
+
+-- The log
+
+-- What the scene has become: its log has one more entry of the application at most, and the stop mark stays where it was
+-- set.
+record Grown (old new : SceneState) : Type 0 where
+  more : Log
+  is : new.shared.log ≡ old.shared.log ++ more
+  adds : AddsAtMostOne event.App old.shared.log new.shared.log
+  dbase : AllByRecursion (λ e. is_at 0 Dbase e ≡ false) more
+  zeros : AllByRecursion (λ e. e.0 ≡ 0) more
+  stops : old.shared.stopped ≡ true → new.shared.stopped ≡ true
+  ahead : new.shared.ahead ≡ old.shared.ahead
+  channels : new.shared.channels ≡ old.shared.channels
+
+still : (old new : SceneState) → new ≡ old → Grown old new
+still old new same =
+    record {
+      more = [];
+      is = ap (λ (x : SceneState). x.shared.log) same ∙ sym (append-nil old.shared.log);
+      adds = inl (ap (λ (x : SceneState). x.shared.log) same);
+      dbase = tt;
+      zeros = tt;
+      stops = λ set. ap (λ (x : SceneState). x.shared.stopped) same ∙ set;
+      ahead = ap (λ (x : SceneState). x.shared.ahead) same;
+      channels = ap (λ (x : SceneState). x.shared.channels) same;
+    }
+
+-- the scene that was left is told
+told_left : (P : Shared → Shared → Type 0) (old new : SceneState) → Tells P (Some old) (Some new) → P old.shared new.shared
+told_left P old new tells = subst (λ (x : SceneState). P old.shared x.shared) (sym (same_Some new tells.0 tells.1)) tells.2
+
+marked_scene : (old new : SceneState) → IsMarked old.shared new.shared → Grown old new
+marked_scene old new marks =
+    record {
+      more = [];
+      is = marks.log ∙ sym (append-nil old.shared.log);
+      adds = inl marks.log;
+      dbase = tt;
+      zeros = tt;
+      stops = λ set. marks.stopped;
+      ahead = marks.ahead;
+      channels = marks.channels;
+    }
+
+entered_scene : (old new : SceneState) → IsLonger 0 old.shared new.shared → Grown old new
+entered_scene old new longer =
+    record {
+      more = (0, longer.entry) ∷ [];
+      is = longer.log;
+      adds = inr (longer.entry, ap Some (sym longer.app), longer.log);
+      dbase = (ap (λ (c : Caller). (0 == 0) && is_caller Dbase c) longer.app, tt);
+      zeros = (refl, tt);
+      stops = λ set. longer.stopped ∙ set;
+      ahead = longer.ahead;
+      channels = longer.channels;
+    }
+
+-- around the application's stage
+
+abbrev pub before_poll : PipeWork → SinkSide → Around
+before_poll p sink =
+    around p.scene.shared.log (Some p.scene)
+    (record {
+      taken = p.c.line.taken;
+      sent = p.a.line.sent;
+      told_sent = Some p.c.line.sent;
+      told_taken = Some p.a.line.taken;
+      room = p.a.room;
+      sink = sink;
+    })
+
+abbrev pub after_poll : PipeWork → SceneState → (sent taken : List Packet) → SinkSide → Around
+after_poll p scene sent taken sink =
+    around scene.shared.log (Some scene)
+    (record {
+      taken = taken;
+      sent = sent;
+      told_sent = Some p.c.line.sent;
+      told_taken = Some p.a.line.taken;
+      room = p.a.room;
+      sink = sink;
+    })
+
+scene_grows : (p : PipeWork) (w : AppWork) (scene : SceneState) (sent taken : List Packet) (sink sink' : SinkSide) (result : Result Did StageError) →
+    AppAnswers result 0 p.app w (before_poll p sink) (after_poll p scene sent taken sink') → Grown p.scene scene
+scene_grows p w scene sent taken sink sink' (Ok did.Did) (inl sends) = still p.scene scene (same_Some scene p.scene sends.told)
+scene_grows p w scene sent taken sink sink' (Ok did.Did) (inr (inl takes)) = still p.scene scene (same_Some scene p.scene takes.told)
+scene_grows p w scene sent taken sink sink' (Ok did.Did) (inr (inr (inl passes))) = still p.scene scene (same_Some scene p.scene passes.told)
+scene_grows p w scene sent taken sink sink' (Ok did.Did) (inr (inr (inr makes))) =
+    entered_scene p.scene scene (told_left (IsLonger 0) p.scene scene makes.told)
+scene_grows p w scene sent taken sink sink' (Ok did.NotYet) answer = still p.scene scene (same_Some scene p.scene answer.0.told)
+scene_grows p w scene sent taken sink sink' (Ok did.Over) answer = still p.scene scene (same_Some scene p.scene answer.told)
+scene_grows p w scene sent taken sink sink' (Err error.FrameFault) answer = marked_scene p.scene scene (told_left IsMarked p.scene scene answer.told)
+scene_grows p w scene sent taken sink sink' (Err error.NoMemory) answer = marked_scene p.scene scene (told_left IsMarked p.scene scene answer.told)
+
+-- Own Frames
+
+by_app : (caller : Caller) (c : Command) → caller ≡ caller_of c → is_frame c ≡ true → is_caller App caller ≡ true
+by_app caller (command.Edit e) same is = absurd (cc)
+by_app caller (command.Merge m) same is = absurd (cc)
+by_app caller (command.View channel v) same is = absurd (cc)
+by_app caller (command.Sync r) same is = absurd (cc)
+by_app caller command.Frame same is = ap (is_caller App) same
+
+own_frames : (s : FrameState) (log : Log) → IsLegalFrom s log → AllByRecursion (λ e. is_by App e ≡ true → e.0 ≡ 0) log → AreOwnFrames 0 log
+own_frames s [] legal zeros = tt
+own_frames s (e ∷ es) legal zeros = (
+  λ is. let app = by_app e.1.caller e.1.command legal.0.caller is in and_from (e.0 == 0) (is_by App e) (eq-eqb e.0 0 (zeros.0 app)) app,
+  own_frames (next_state s e.1.command) es legal.1 zeros.1,
+)
+
+-- What is kept
+
+-- the pipe where the application and the scene are these, and this was sent and received
+abbrev pub applied : PipeWork → AppWork → SceneState → (sent taken : List Packet) → PipeWork
+applied p w scene sent taken =
+    record p {
+      app = w;
+      scene = scene;
+      a = record p.a { line = record p.a.line { sent = sent } };
+      c = record p.c { line = record p.c.line { taken = taken } };
+    }
+
+record AppKept (play : Script) (ahead : ℕ) (p q : PipeWork) (bytes bytes' : Option (List ℕ)) : Type 0 where
+  keeps : PipeKeeps play ahead q
+  adds : AddsAtMostOne event.App p.scene.shared.log q.scene.shared.log
+  wrote : IsWritten bytes bytes' (core_of play p) (core_of play q)
+
+app_kept : (play : Script) (ahead : ℕ) (p : PipeWork) (w : AppWork) (scene : SceneState) (sent taken : List Packet) (sink sink' : SinkSide) (result : Result Did StageError) →
+    PipeKeeps play ahead p → IsLegal play.channels scene.shared.log → LinkPart sent p.a.line.taken → LinkPart p.c.line.sent taken →
+    Polled 0 result p.app w (before_poll p sink) (after_poll p scene sent taken sink') → Grown p.scene scene →
+    ((n : ℕ) → w.state.fault ≡ Some n → scene.shared.stopped ≡ true) →
+    AppKept play ahead p (applied p w scene sent taken) sink.bytes sink'.bytes
+app_kept play ahead p w scene sent taken sink sink' result keeps legal link_a link_c polled grown marked =
+    let g = setup_of play ahead in
+    let old = opened play ahead (core_of play p) keeps.core in
+    let log = p.scene.shared.log in
+    let app_entries = grown_entries App log scene.shared.log grown.more grown.is old.app_entries grown.zeros in
+    let own =
+    own_frames (opening_state play.channels) scene.shared.log legal
+    (each_all (λ (e : ℕ × Entry). is_by App e ≡ true → e.0 ≡ 0) scene.shared.log app_entries) in
+    let given = polled.given g keeps.stages.app in
+    let on = polled.part g (core_of play p).pipe.stream keeps.stages.app own old.app in
+    let stream = on.keeps.streams.bytes in
+    let base = (dbase_law play.dbase play.channels 0 (dbase_state play.dbase p.dbase) log keeps.dbase.keeps).stays grown.more grown.dbase in
+    let holds : DbaseKeeps play.dbase play.channels 0 (dbase_state play.dbase p.dbase) scene.shared.log =
+    subst (λ (es : Log). DbaseKeeps play.dbase play.channels 0 (dbase_state play.dbase p.dbase) es) (sym grown.is) base in
+    let later = (never_fall_law play.channels log grown.more).frames in
+    let longer = ap (λ (es : Log). (state_of play.channels es).frames) grown.is in
+    let counts = (counts_law play.channels log).merges in
+    let counts' = (counts_law play.channels scene.shared.log).merges in
+    let waited = polled.waited (omega (arith, keeps.waited, counts)) in
+    record {
+      keeps = record {
+        core = record {
+          pipe = (gathering_law g play.dbase one_seat (core_of play (applied p w scene sent taken)).pipe).fits
+              (record {
+                merges = old.merges;
+                legal = legal;
+                app_entries = app_entries;
+                dbase_entries = grown_entries Dbase log scene.shared.log grown.more grown.is old.dbase_entries grown.zeros;
+                link_a = link_a;
+                link_b = old.link_b;
+                link_c = link_c;
+                app = subst (λ (bytes : List ℕ). AppKeeps g 0 w.state scene.shared.log taken sent bytes) stream on.keeps;
+                cull = old.cull;
+                draw = old.draw;
+                base = holds;
+              });
+          app_lines = given.within;
+          dbase_lines = keeps.core.dbase_lines;
+          marked = marked;
+        };
+        stages = record {
+          app = given;
+          cull = keeps.stages.cull;
+          draw_lens = keeps.stages.draw_lens;
+          draw_back = keeps.stages.draw_back;
+          in_flight = grown.ahead ∙ keeps.stages.in_flight;
+          channels = grown.channels ∙ keeps.stages.channels;
+        };
+        room = record { a = keeps.room.a; b = keeps.room.b; c = keeps.room.c };
+        waited = omega (arith, waited, counts');
+        cull = keeps.cull;
+        dbase = record { keeps = holds; awaited = omega (arith, keeps.dbase.awaited, later, longer); stands = keeps.dbase.stands };
+        failed = λ fails. grown.stops (keeps.failed fails);
+      };
+      adds = grown.adds;
+      wrote = record { more = on.more; stream = sym stream; wrote = on.wrote };
+    }
+
+-- Over
+
+found_mark : (log : Log) (scene : SceneState) (over : Bool) → FoundMark 0 log (Some scene) over → over ≡ scene.shared.stopped
+found_mark log scene over found = found.1.2 ∙ ap (λ (x : SceneState). x.shared.stopped) (sym found.1.4)
+
+app_over : (play : Script) (p : PipeWork) (result : Result Did StageError) → (is_done p.app.state ≡ true → result ≡ Ok did.Over) →
+    (is_done p.app.state ≡ false → is_over result ≡ p.scene.shared.stopped) → IsOver play event.App (core_of play p) → is_over result ≡ true
+app_over play p result done looked over = by (is_done p.app.state) refl over
+  where
+    by : (b : Bool) → is_done p.app.state ≡ b → IsOver play event.App (core_of play p) → is_over result ≡ true
+    by true is over = ap is_over (done is)
+    by false is (inl ended) = absurd (never_both p.app.state.ended ended (or_parts p.app.state.ended (is_some p.app.state.fault) is).0)
+    by false is (inr set) = looked is ∙ set
+
+app_is_over : (play : Script) (ahead : ℕ) (p : PipeWork) (result : Result Did StageError) → PipeKeeps play ahead p →
+    (is_done p.app.state ≡ false → is_over result ≡ p.scene.shared.stopped) → is_over result ≡ true → IsOver play event.App (core_of play p)
+app_is_over play ahead p result keeps looked over = by p.app.state.ended refl p.app.state.fault refl
+  where
+    by : (b : Bool) → p.app.state.ended ≡ b → (f : Option ℕ) → p.app.state.fault ≡ f → IsOver play event.App (core_of play p)
+    by true is f fault = inl is
+    by false is (Some n) fault = inr (keeps.core.marked n fault)
+    by false is None fault =
+        let alive : is_done p.app.state ≡ false = ap (λ b. b || is_some p.app.state.fault) is ∙ ap is_some fault in
+        inr (sym (looked alive) ∙ over)
+
+-- Waiting
+
+next_is : (lines : List AppLine) (n : ℕ) → next_step (drop n lines) ≡ option_map (λ l. l.step) (slice_get lines n)
+next_is [] zero = refl
+next_is [] (suc n) = refl
+next_is (l ∷ lines) zero = refl
+next_is (l ∷ lines) (suc n) = next_is lines n
+
+sync_waits : (play : Script) (ahead : ℕ) (p : PipeWork) (sink : SinkSide) → 1 ≤ ahead → PipeKeeps play ahead p →
+    stage.SyncWaits p.app (Some p.scene) (before_poll p sink).ends → SyncWaits (shared_of play ahead (core_of play p)) (core_of play p).pipe
+sync_waits play ahead p sink some keeps (inl (dry, behind)) =
+    let same = keeps.stages.app.ahead in
+    inl (dry (omega (arith, behind, same, some)), omega (arith, behind, same))
+sync_waits play ahead p sink some keeps (inr bars) =
+    inr
+    (λ may.
+    bars
+    (record {
+      back = subst (λ (n : ℕ). (state_of n p.scene.shared.log).retired ≤ p.app.state.written) (sym keeps.stages.channels) may.back;
+      begun = subst (λ (n : ℕ). p.app.state.written ≤ (state_of n p.scene.shared.log).frames) (sym keeps.stages.channels) may.begun;
+      light = may.light;
+    }))
+
+frame_waits : (play : Script) (ahead : ℕ) (p : PipeWork) (sink : SinkSide) → 1 ≤ ahead → PipeKeeps play ahead p → (synced : Bool) →
+    stage.FrameWaits synced p.app (Some p.scene) (before_poll p sink).ends → FrameWaits synced (shared_of play ahead (core_of play p)) (core_of play p).pipe
+frame_waits play ahead p sink some keeps false waits = sync_waits play ahead p sink some keeps waits
+frame_waits play ahead p sink some keeps true waits =
+    λ may.
+    let stages = keeps.stages in
+    let same = stages.app.ahead in
+    let free : (state_of p.scene.shared.channels p.scene.shared.log).frames < (state_of p.scene.shared.channels p.scene.shared.log).retired + ahead =
+    subst (λ (n : ℕ). (state_of n p.scene.shared.log).frames < (state_of n p.scene.shared.log).retired + ahead) (sym stages.channels) may.free in
+    waits
+    (record {
+      agreed = same ∙ sym stages.in_flight;
+      free = omega (arith, free, same);
+      many = stages.app.channels ∙ sym stages.channels;
+      light = may.light;
+    })
+
+step_waits : (play : Script) (ahead : ℕ) (p : PipeWork) (sink : SinkSide) (seen' : Log) → 1 ≤ ahead → PipeKeeps play ahead p →
+    merges_in seen' ≡ (state_of play.channels p.scene.shared.log).merges → (step : Option AppStep) →
+    stage.StepWaits step p.app (Some p.scene) (before_poll p sink).ends seen' →
+    StepWaits (length (asked_dbase play.dbase)) (shared_of play ahead (core_of play p)) (core_of play p).pipe step
+step_waits play ahead p sink seen' some keeps counts (Some (app.Edit e)) waits = λ may. waits (record { fit = may.fit; light = may.light })
+step_waits play ahead p sink seen' some keeps counts (Some (app.View channel v)) waits =
+    λ may. waits (record { there = subst (λ (n : ℕ). channel < n) (sym keeps.stages.channels) may.there; light = may.light })
+step_waits play ahead p sink seen' some keeps counts (Some app.Sync) waits = sync_waits play ahead p sink some keeps waits
+step_waits play ahead p sink seen' some keeps counts (Some app.Frame) waits = frame_waits play ahead p sink some keeps p.app.state.synced waits
+step_waits play ahead p sink seen' some keeps counts (Some (app.Wait n)) waits = omega (arith, waits, counts)
+step_waits play ahead p sink seen' some keeps counts None (inl (dry, behind)) = inr (inl (dry, behind))
+step_waits play ahead p sink seen' some keeps counts None (inr (inl few)) =
+    let merges = keeps.stages.app.merges in
+    inl (omega (arith, few, counts, merges))
+step_waits play ahead p sink seen' some keeps counts None (inr (inr waits)) = by (sync_waits play ahead p sink some keeps waits)
+  where
+    by : SyncWaits (shared_of play ahead (core_of play p)) (core_of play p).pipe →
+        CloseWaits (length (asked_dbase play.dbase)) (shared_of play ahead (core_of play p)) (core_of play p).pipe
+    by (inl (dry, behind)) = inr (inl (dry, omega (arith, behind, some)))
+    by (inr barred) = inr (inr barred)
+
+app_waits : (play : Script) (ahead : ℕ) (p : PipeWork) (sink : SinkSide) (seen' : Log) → 1 ≤ ahead → PipeKeeps play ahead p →
+    seen' ≡ p.scene.shared.log → stage.AppWaits p.app (Some p.scene) (before_poll p sink).ends seen' → Waits play ahead event.App (core_of play p)
+app_waits play ahead p sink seen' some keeps seen waits = by p.app.state.held waits
+  where
+    counts : merges_in seen' ≡ (state_of play.channels p.scene.shared.log).merges
+    counts = ap merges_in seen ∙ sym (counts_law play.channels p.scene.shared.log).merges
+
+    Step : Type 0
+    Step = StepWaits (length (asked_dbase play.dbase)) (shared_of play ahead (core_of play p)) (core_of play p).pipe
+        (option_map (λ (l : AppLine). l.step) (slice_get play.app p.app.state.at))
+
+    step : (merges_in seen' < p.app.state.need) ⊎ stage.StepWaits (next_step p.app.rest) p.app (Some p.scene) (before_poll p sink).ends seen' → Step
+    step (inl few) = let waited = keeps.waited in absurd (omega (arith, few, counts, waited))
+    step (inr waits) =
+        let next = ap next_step keeps.stages.app.rest ∙ next_is play.app p.app.state.at in
+        step_waits play ahead p sink seen' some keeps counts (option_map (λ (l : AppLine). l.step) (slice_get play.app p.app.state.at))
+        (subst (λ (o : Option AppStep). stage.StepWaits o p.app (Some p.scene) (before_poll p sink).ends seen') next waits)
+
+    by : (held : Option Packet) →
+        MatchOption held ((merges_in seen' < p.app.state.need) ⊎ stage.StepWaits (next_step p.app.rest) p.app (Some p.scene) (before_poll p sink).ends seen')
+        (λ _. length p.a.line.taken + p.a.room ≤ length p.a.line.sent) → MatchOption held Step (λ _. IsFull ahead p.a.line)
+    by None waits = step waits
+    by (Some packet) waits = let room = keeps.room.a in omega (arith, waits, room)
+
+-- What it did
+
+app_moves : (play : Script) (p : PipeWork) (w : AppWork) (scene : SceneState) (sent taken : List Packet) (sink sink' : SinkSide) →
+    AppAnswers (Ok did.Did) 0 p.app w (before_poll p sink) (after_poll p scene sent taken sink') → Grown p.scene scene →
+    moved (core_of play p).pipe < moved (core_of play (applied p w scene sent taken)).pipe
+app_moves play p w scene sent taken sink sink' (inl sends) grown =
+    let log = ap (λ (x : SceneState). length x.shared.log) (same_Some scene p.scene sends.told) in
+    let back = ap (λ (x : stage.Ends). length x.taken) sends.ends in
+    omega (arith, log, back, sends.at, sends.many)
+app_moves play p w scene sent taken sink sink' (inr (inl takes)) grown =
+    let log = ap (λ (x : SceneState). length x.shared.log) (same_Some scene p.scene takes.told) in
+    let gone = ap (λ (x : stage.Ends). length x.sent) takes.ends in
+    omega (arith, log, gone, takes.at, takes.many)
+app_moves play p w scene sent taken sink sink' (inr (inr (inl passes))) grown =
+    let log = ap (λ (x : SceneState). length x.shared.log) (same_Some scene p.scene passes.told) in
+    let gone = ap (λ (x : stage.Ends). length x.sent) passes.ends in
+    let back = ap (λ (x : stage.Ends). length x.taken) passes.ends in
+    omega (arith, log, gone, back, passes.at)
+app_moves play p w scene sent taken sink sink' (inr (inr (inr makes))) grown =
+    let longer = told_left (IsLonger 0) p.scene scene makes.told in
+    let log = ap (λ (es : Log). length es) longer.log in
+    let pushed = length_push p.scene.shared.log (0, longer.entry) in
+    let gone = ap (λ (x : stage.Ends). length x.sent) makes.ends in
+    let back = ap (λ (x : stage.Ends). length x.taken) makes.ends in
+    omega (arith, log, pushed, gone, back, makes.at)
+
+app_mark : (play : Script) (p : PipeWork) (w : AppWork) (scene : SceneState) (sent taken : List Packet) (sink sink' : SinkSide) →
+    AppAnswers (Ok did.Did) 0 p.app w (before_poll p sink) (after_poll p scene sent taken sink') → scene.shared.stopped ≡ p.scene.shared.stopped
+app_mark play p w scene sent taken sink sink' (inl sends) = ap (λ (x : SceneState). x.shared.stopped) (same_Some scene p.scene sends.told)
+app_mark play p w scene sent taken sink sink' (inr (inl takes)) = ap (λ (x : SceneState). x.shared.stopped) (same_Some scene p.scene takes.told)
+app_mark play p w scene sent taken sink sink' (inr (inr (inl passes))) = ap (λ (x : SceneState). x.shared.stopped) (same_Some scene p.scene passes.told)
+app_mark play p w scene sent taken sink sink' (inr (inr (inr makes))) = (told_left (IsLonger 0) p.scene scene makes.told).stopped
+
+-- nothing changed
+app_rests : (play : Script) (p : PipeWork) (w : AppWork) (scene : SceneState) (sent taken : List Packet) (sink sink' : SinkSide) →
+    stage.IsIdle 0 p.app w (before_poll p sink) (after_poll p scene sent taken sink') → core_of play (applied p w scene sent taken) ≡ core_of play p
+app_rests play p w scene sent taken sink sink' idle =
+    let still = same_Some scene p.scene idle.told in
+    let gone = ap (λ (x : stage.Ends). x.sent) idle.ends in
+    let back = ap (λ (x : stage.Ends). x.taken) idle.ends in
+    λ i. core_of play (applied p (idle.work i) (still i) (gone i) (back i))
+
+pub app_lifts : (play : Script) (ahead : ℕ) (p : PipeWork) (w : AppWork) (scene : SceneState) (sent taken : List Packet) (sink sink' : SinkSide) (result : Result Did StageError) →
+    1 ≤ ahead → PipeKeeps play ahead p → IsLegal scene.shared.channels scene.shared.log → LinkPart sent p.a.line.taken → LinkPart p.c.line.sent taken →
+    Polled 0 result p.app w (before_poll p sink) (after_poll p scene sent taken sink') →
+    (is_done p.app.state ≡ true → result ≡ Ok did.Over) →
+    (is_done p.app.state ≡ false → FoundMark 0 p.scene.shared.log (Some p.scene) (is_over result)) →
+    AppLifted play ahead result p (applied p w scene sent taken) sink.bytes sink'.bytes
+app_lifts play ahead p w scene sent taken sink sink' result some keeps legal link_a link_c polled done looked =
+    by result polled (app_over play p result done found) (app_is_over play ahead p result keeps found)
+  where
+    found : is_done p.app.state ≡ false → is_over result ≡ p.scene.shared.stopped
+    found alive = found_mark p.scene.shared.log p.scene (is_over result) (looked alive)
+
+    kept : (answer : Result Did StageError) → Polled 0 answer p.app w (before_poll p sink) (after_poll p scene sent taken sink') →
+        (grown : Grown p.scene scene) → ((n : ℕ) → w.state.fault ≡ Some n → scene.shared.stopped ≡ true) →
+        AppKept play ahead p (applied p w scene sent taken) sink.bytes sink'.bytes
+    kept answer polled grown marked =
+        app_kept play ahead p w scene sent taken sink sink' answer keeps
+        (subst (λ (n : ℕ). IsLegal n scene.shared.log) (grown.channels ∙ keeps.stages.channels) legal) link_a link_c polled grown marked
+
+    grows : (answer : Result Did StageError) → Polled 0 answer p.app w (before_poll p sink) (after_poll p scene sent taken sink') → Grown p.scene scene
+    grows answer polled = scene_grows p w scene sent taken sink sink' answer polled.answer
+
+    as_before : Grown p.scene scene → w.state.fault ≡ p.app.state.fault → (n : ℕ) → w.state.fault ≡ Some n → scene.shared.stopped ≡ true
+    as_before grown same n fault = grown.stops (keeps.core.marked n (sym same ∙ fault))
+
+    lifted : (answer : Result Did StageError) → AppKept play ahead p (applied p w scene sent taken) sink.bytes sink'.bytes →
+        Answers play ahead event.App answer (core_of play p) (core_of play (applied p w scene sent taken)) →
+        AppLifted play ahead answer p (applied p w scene sent taken) sink.bytes sink'.bytes
+    lifted answer kept says = record { lifted = record { keeps = kept.keeps; adds = kept.adds; answer = says }; wrote = kept.wrote }
+
+    by : (result : Result Did StageError) → Polled 0 result p.app w (before_poll p sink) (after_poll p scene sent taken sink') →
+        (IsOver play event.App (core_of play p) → is_over result ≡ true) → (is_over result ≡ true → IsOver play event.App (core_of play p)) →
+        AppLifted play ahead result p (applied p w scene sent taken) sink.bytes sink'.bytes
+    by (Ok did.Did) polled over is =
+        let grown = grows (Ok did.Did) polled in
+        lifted (Ok did.Did) (kept (Ok did.Did) polled grown (as_before grown (polled.whole refl)))
+        (record {
+          alive = not_over (Ok did.Did) (IsOver play event.App (core_of play p)) over refl;
+          moves = app_moves play p w scene sent taken sink sink' polled.answer grown;
+          mark = app_mark play p w scene sent taken sink sink' polled.answer;
+        })
+    by (Ok did.NotYet) polled over is =
+        let grown = grows (Ok did.NotYet) polled in
+        let log = ap (λ (x : SceneState). x.shared.log) (same_Some scene p.scene polled.answer.0.told) in
+        lifted (Ok did.NotYet) (kept (Ok did.NotYet) polled grown (as_before grown (polled.whole refl))) (
+          app_rests play p w scene sent taken sink sink' polled.answer.0,
+          not_over (Ok did.NotYet) (IsOver play event.App (core_of play p)) over refl,
+          app_waits play ahead p sink scene.shared.log some keeps log polled.answer.1,
+        )
+    by (Ok did.Over) polled over is =
+        let grown = grows (Ok did.Over) polled in
+        lifted (Ok did.Over) (kept (Ok did.Over) polled grown (as_before grown (polled.whole refl)))
+        (app_rests play p w scene sent taken sink sink' polled.answer, is refl)
+    by (Err error.FrameFault) polled over is =
+        let grown = grows (Err error.FrameFault) polled in
+        let marks = told_left IsMarked p.scene scene polled.answer.told in
+        lifted (Err error.FrameFault) (kept (Err error.FrameFault) polled grown (λ n fault. marks.stopped))
+        (not_over (Err error.FrameFault) (IsOver play event.App (core_of play p)) over refl, tt, marks.log, marks.stopped)
+    by (Err error.NoMemory) polled over is =
+        let grown = grows (Err error.NoMemory) polled in
+        let marks = told_left IsMarked p.scene scene polled.answer.told in
+        lifted (Err error.NoMemory) (kept (Err error.NoMemory) polled grown (λ n fault. marks.stopped))
+        (not_over (Err error.NoMemory) (IsOver play event.App (core_of play p)) over refl, tt, marks.log, marks.stopped)

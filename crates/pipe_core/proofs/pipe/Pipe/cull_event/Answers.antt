@@ -1,0 +1,59 @@
+use Rattle.std.proofs.Common.{refl, sym, ap, subst}
+use Rattle.pipe_core.specs.Pipes.{PipeWork, core_of, PipeKeeps, Lifted, link_work}
+use Rattle.pipe_core.specs.declared.events.Event.TheVariants as event
+use Rattle.pipe_core.proofs.Polls.{in_order, cull_polls}
+use Rattle.pipe_core.proofs.Lifting.{passes_whole}
+use Rattle.pipe_core.proofs.pipe.Pipe.cull_event.Goals as goal
+
+pub returns-clause-lifted : goal.returns-clause-lifted
+returns-clause-lifted g c =
+    λ play ahead keeps.
+    let d = c.self.inside in
+    let p : PipeWork = record {
+      app = d.app;
+      cull = d.cull;
+      draw = d.draw;
+      dbase = d.dbase;
+      scene = d.desk;
+      a = link_work d.to_cull;
+      b = link_work d.to_draw;
+      c = link_work d.back;
+    } in
+    let q : PipeWork = record {
+      app = d.app;
+      cull = c.poll.new.self;
+      draw = d.draw;
+      dbase = d.dbase;
+      scene = c.poll.new.desk;
+      a = link_work c.poll.new.from;
+      b = link_work c.poll.new.to;
+      c = link_work d.back;
+    } in
+    let poll = c.poll.ensures in
+    subst (λ (x : PipeWork). Lifted play ahead event.Cull c.poll.result x q) c.self.view_is
+    (cull_polls play ahead p q c.poll.result
+    (record {
+      app = refl;
+      draw = refl;
+      dbase = refl;
+      back = refl;
+      link_a = in_order q.a.line.sent q.a.line.taken c.poll.new.from.items.items c.poll.new.from.in_order;
+      link_b = in_order q.b.line.sent q.b.line.taken c.poll.new.to.items.items c.poll.new.to.in_order;
+      told = poll.told;
+      take_room = poll.take_room;
+      told_sent = poll.told_sent;
+      send_room = poll.send_room;
+      told_taken = poll.told_taken;
+      lens = poll.lens;
+      keeps = poll.keeps;
+      answer = poll.answer;
+      ended = poll.ended;
+      looked = poll.looked;
+    })
+    (subst (PipeKeeps play ahead) (sym c.self.view_is) keeps))
+
+pub returns-clause-stream : goal.returns-clause-stream
+returns-clause-stream g c = λ play. ap (λ (x : PipeWork). (core_of play x).pipe.stream) c.self.view_is
+
+pub returns-clause-whole : goal.returns-clause-whole
+returns-clause-whole g c = passes_whole _ _ _ _ c.poll.ensures.answer

@@ -1,0 +1,272 @@
+//! The pipe on one thread.
+ghost use Rattle.std.specs.Prelude.{◌≡◌, ℕ, ◌≤◌, false, [], length, Err, IfOk, OnOk, IfErr};
+ghost use Rattle.pf_io.specs.Causes.{Rose, Calm};
+ghost use Rattle.pf_history.specs.Asks.{asked_dbase};
+ghost use Rattle.play_format.specs.Plays.{Script};
+ghost use Rattle.pf_scene.specs.Scenes.{IsSmall};
+ghost use Rattle.frame_stages.specs.declared.answers.StageError.TheVariants as error;
+ghost use Rattle.pipe_core.specs.Cores.{CanRun};
+ghost use Rattle.pipe_core.specs.Runs.{Ran};
+ghost use Rattle.pipe_core.specs.Pipes.{core_of, PipeKeeps, Lifted, IsWritten, AppLifted, FailsAt, link_work, opening_link, opening_scene};
+ghost use Rattle.pipe_core.specs.declared.events.Event.TheVariants as event;
+
+use crate::events::Event;
+use crate::legal::LegalGlance;
+use crate::parts::all_made;
+use draw_list::Stats;
+use frame_link::ListLink;
+use frame_stages::{AppStage, CullStage, DbaseStage, Did, DrawStage, Packet, StageError};
+use pf_history::History;
+use pf_io::{FreeGate, Gate, NoMemory, Sink};
+use pf_model::{BaseLine, BaseStep};
+use pf_scene::Scene;
+use play_format::Play;
+use seat_lock::{Desk, PlainDesk};
+use std::alloc::Global;
+use std::marker::Model;
+use std::thread::Threads;
+
+/// The four stages over links and a scene of one thread. An event is one whole poll of one of them.
+///
+/// Contracts see the stages, the scene and the links.
+#[derive(Drop)]
+pub struct Pipe {
+    app: AppStage,
+    cull: CullStage,
+    draw: DrawStage,
+    dbase: DbaseStage,
+    desk: PlainDesk<Scene>,
+    to_cull: ListLink<Packet>,
+    to_draw: ListLink<Packet>,
+    back: ListLink<Packet>,
+}
+
+impl Model for Pipe {
+    ghost use Rattle.pipe_core.specs.Pipes.{PipeWork, link_work};
+
+    ghost Value = { PipeWork };
+
+    ghost view = { λ p. record {
+      app = p.app;
+      cull = p.cull;
+      draw = p.draw;
+      dbase = p.dbase;
+      scene = p.desk;
+      a = link_work p.to_cull;
+      b = link_work p.to_draw;
+      c = link_work p.back;
+    } };
+}
+
+/// The number of merges that a section asks for.
+fn count_merges(dbase: &[BaseLine]) -> u32
+    requires steps { length dbase.now ≤ 262144 }
+    ensures { result ≡ length (asked_dbase dbase.now) }
+{
+    let mut merges = 0;
+    for line in dbase {
+        if let BaseStep::Merge = &line.step {
+            merges += 1;
+        }
+    }
+    merges
+}
+
+/// A link, through which nothing went, with room for one packet more than so many frames.
+fn new_link(alloc: Global, ahead: u8) -> Result<ListLink<Packet>, NoMemory>
+    ensures { IfOk result (λ l. link_work l ≡ opening_link ahead) }
+{
+    let room = usize::from(ahead) + 1;
+    ListLink::new(alloc, room)
+}
+
+/// The scene before the first command, at the desk of one thread.
+fn new_desk(alloc: Global, ahead: u8, channels: u8) -> Result<PlainDesk<Scene>, NoMemory>
+    requires ahead { IsSmall ahead }
+    requires channels { IsSmall channels }
+    ensures { IfOk result (λ scene. scene ≡ opening_scene ahead channels) }
+{
+    let scene = Scene::new(alloc, ahead, channels)?;
+    Ok(PlainDesk::new(scene))
+}
+
+impl Pipe {
+    /// The pipe of a play before its first event, where so many frames may be in flight. The stop mark is not set.
+    pub fn new(alloc: Global, play: Play, ahead: u8) -> Result<Pipe, NoMemory>
+        requires ahead { IsSmall ahead }
+        ensures keeps { IfOk result (λ p. PipeKeeps play ahead p) }
+        ensures unset { IfOk result (λ p. (core_of play p).stopped ≡ false) }
+        ensures log { IfOk result (λ p. p.scene.shared.log ≡ []) }
+    {
+        let lens = play.lens();
+        let back = play.back();
+        let channels = play.channels();
+        let merges = count_merges(play.dbase());
+        let (app_lines, dbase_lines) = play.into_lists();
+        let parts = all_made(
+            AppStage::new(alloc, app_lines, merges, lens, back, ahead, channels),
+            CullStage::new(alloc, lens),
+            DrawStage::new(alloc, lens, back),
+            DbaseStage::new(alloc, dbase_lines),
+            new_desk(alloc, ahead, channels),
+            new_link(alloc, ahead),
+            new_link(alloc, ahead),
+            new_link(alloc, ahead),
+        )?;
+        Ok(Pipe {
+            app: parts.app,
+            cull: parts.cull,
+            draw: parts.draw,
+            dbase: parts.dbase,
+            desk: parts.desk,
+            to_cull: parts.to_cull,
+            to_draw: parts.to_draw,
+            back: parts.back,
+        })
+    }
+
+    /// The greatest number of copies that a geode's cycle has had, and 0 before the first cycle was made.
+    pub fn copies(&self) -> u32
+        ensures { result ≡ self.now.scene.copies }
+    {
+        self.desk.value().copies()
+    }
+
+    /// A poll of the application.
+    fn app_event<O: Sink, G: Gate>(&mut self, frames: &mut O, gate: &G) -> Result<Did, StageError>
+        ensures lifted { (play : Script) (ahead : ℕ) → 1 ≤ ahead → PipeKeeps play ahead self.old
+            → AppLifted play ahead result self.old self.new (O.written frames.old) (O.written frames.new) }
+        ensures fault { result ≡ Err error.FrameFault → Rose (O.faults frames.old) (O.faults frames.new) }
+        ensures last { result ≡ Err error.FrameFault → O.at_fault frames.new ≡ O.written frames.new }
+        ensures calm { (result ≡ Err error.FrameFault → ⊥) → Calm (O.faults frames.old) (O.faults frames.new) }
+    {
+        let result = self.app.poll(
+            &mut self.desk,
+            &mut self.to_cull,
+            &mut self.back,
+            frames,
+            gate,
+        );
+        self.desk.look(LegalGlance);
+        result
+    }
+
+    /// A poll of the cull.
+    fn cull_event<G: Gate>(&mut self, gate: &G) -> Result<Did, StageError>
+        ensures lifted { (play : Script) (ahead : ℕ) → PipeKeeps play ahead self.old
+            → Lifted play ahead event.Cull result self.old self.new }
+        ensures stream { (play : Script) → (core_of play self.new).pipe.stream ≡ (core_of play self.old).pipe.stream }
+        ensures whole { result ≡ Err error.FrameFault → ⊥ }
+    {
+        self.cull
+            .poll(&mut self.desk, &mut self.to_cull, &mut self.to_draw, gate)
+    }
+
+    /// A poll of the draw.
+    fn draw_event<R: Threads + Sync, G: Gate>(
+        &mut self,
+        rt: &R,
+        gate: &G,
+    ) -> Result<Did, StageError>
+        ensures lifted { (play : Script) (ahead : ℕ) → PipeKeeps play ahead self.old
+            → Lifted play ahead event.Draw result self.old self.new }
+        ensures stream { (play : Script) → (core_of play self.new).pipe.stream ≡ (core_of play self.old).pipe.stream }
+        ensures whole { result ≡ Err error.FrameFault → ⊥ }
+    {
+        self.draw.poll(rt, &mut self.desk, &mut self.to_draw, &mut self.back, gate)
+    }
+
+    /// A poll of the database process.
+    fn dbase_event<G: Gate>(&mut self, gate: &G) -> Result<Did, StageError>
+        ensures lifted { (play : Script) (ahead : ℕ) → PipeKeeps play ahead self.old
+            → Lifted play ahead event.Dbase result self.old self.new }
+        ensures stream { (play : Script) → (core_of play self.new).pipe.stream ≡ (core_of play self.old).pipe.stream }
+        ensures whole { result ≡ Err error.FrameFault → ⊥ }
+    {
+        let result = self.dbase.poll(&mut self.desk, gate);
+        self.desk.look(LegalGlance);
+        result
+    }
+
+    /// A poll of the stage that the event names, through this gate.
+    pub(crate) fn poll_with<R: Threads + Sync, O: Sink, G: Gate>(
+        &mut self,
+        rt: &R,
+        event: Event,
+        frames: &mut O,
+        gate: &G,
+    ) -> Result<Did, StageError>
+        ensures lifted { (play : Script) (ahead : ℕ) → CanRun play ahead → PipeKeeps play ahead self.old
+            → Lifted play ahead event result self.old self.new }
+        ensures wrote { (play : Script) (ahead : ℕ) → CanRun play ahead → PipeKeeps play ahead self.old
+            → IsWritten (O.written frames.old) (O.written frames.new) (core_of play self.old) (core_of play self.new) }
+        ensures fault { result ≡ Err error.FrameFault → Rose (O.faults frames.old) (O.faults frames.new) }
+        ensures last { result ≡ Err error.FrameFault → O.at_fault frames.new ≡ O.written frames.new }
+        ensures calm { (result ≡ Err error.FrameFault → ⊥) → Calm (O.faults frames.old) (O.faults frames.new) }
+    {
+        match event {
+            Event::App => self.app_event(frames, gate),
+            Event::Cull => self.cull_event(gate),
+            Event::Draw => self.draw_event(rt, gate),
+            Event::Dbase => self.dbase_event(gate),
+        }
+    }
+
+    /// One event: one whole poll of the stage that it names. The frame sink is given the pictures that came back. After an
+    /// error the stop mark is set; FrameFault comes from the application alone, where the sink has one fault more.
+    pub fn step<R: Threads + Sync, O: Sink>(
+        &mut self,
+        rt: &R,
+        event: Event,
+        frames: &mut O,
+    ) -> Result<Did, StageError>
+        // It keeps what the pipe of a play keeps, adds at most one entry, and this is what its answer says.
+        ensures lifted { (play : Script) (ahead : ℕ) → CanRun play ahead → PipeKeeps play ahead self.old
+            → Lifted play ahead event result self.old self.new }
+
+        // What the sink is given stands at the end of the stream.
+        ensures wrote { (play : Script) (ahead : ℕ) → CanRun play ahead → PipeKeeps play ahead self.old
+            → IsWritten (O.written frames.old) (O.written frames.new) (core_of play self.old) (core_of play self.new) }
+        ensures fault { result ≡ Err error.FrameFault → Rose (O.faults frames.old) (O.faults frames.new) }
+        ensures last { result ≡ Err error.FrameFault → O.at_fault frames.new ≡ O.written frames.new }
+        ensures calm { (result ≡ Err error.FrameFault → ⊥) → Calm (O.faults frames.old) (O.faults frames.new) }
+    {
+        self.poll_with(rt, event, frames, &FreeGate)
+    }
+
+    /// Events in order, up to the first error.
+    pub fn run_events<R: Threads + Sync, O: Sink>(
+        &mut self,
+        rt: &R,
+        events: &[Event],
+        frames: &mut O,
+    ) -> Result<(), StageError>
+        ensures keeps { (play : Script) (ahead : ℕ) → CanRun play ahead → PipeKeeps play ahead self.old
+            → PipeKeeps play ahead self.new }
+
+        // Ok: none of them answered an error. Else those before the one that did.
+        ensures ran { (play : Script) (ahead : ℕ) → CanRun play ahead → PipeKeeps play ahead self.old
+            → OnOk result (Ran play ahead events.now (core_of play self.old) (core_of play self.new)) }
+        ensures failed { (play : Script) (ahead : ℕ) → CanRun play ahead → PipeKeeps play ahead self.old
+            → IfErr result (λ error. FailsAt play ahead events.now error (core_of play self.old) (core_of play self.new)) }
+
+        // What the sink is given stands at the end of the stream.
+        ensures wrote { (play : Script) (ahead : ℕ) → CanRun play ahead → PipeKeeps play ahead self.old
+            → IsWritten (O.written frames.old) (O.written frames.new) (core_of play self.old) (core_of play self.new) }
+        ensures fault { result ≡ Err error.FrameFault → Rose (O.faults frames.old) (O.faults frames.new) }
+        ensures last { result ≡ Err error.FrameFault → O.at_fault frames.new ≡ O.written frames.new }
+        ensures calm { (result ≡ Err error.FrameFault → ⊥) → Calm (O.faults frames.old) (O.faults frames.new) }
+    {
+        for event in events {
+            self.step(rt, *event, frames)?;
+        }
+        Ok(())
+    }
+    /// The history, and the numbers of the frames that came back.
+    pub(crate) fn into_parts(self) -> (History, Vec<Stats>)
+        ensures history { result.0.entries ≡ self.scene.shared.log }
+        ensures stats { result.1.items ≡ self.app.state.stats }
+    {
+        (self.desk.into_value().into_history(), self.app.into_stats())
+    }
+}
