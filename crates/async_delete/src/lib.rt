@@ -4,6 +4,3 @@
 mod graves;
 
 pub use graves::Graves;
-
-#[cfg(test)]
-mod tests;

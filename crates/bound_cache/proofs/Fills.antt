@@ -1,5 +1,6 @@
 -- Lists that give the same item everywhere, and what is read after a write.
-use Rattle.std.proofs.Common.{◌≡◌, ℕ, zero, suc, ◌<◌, Bool, true, false, cond, ◌==◌, List, [], ◌∷◌, Option, None, ◌++◌, map, length, get_or, set, refl, sym, ◌∙◌, ap, subst, arith, get_or-set_same, get_or-set_other}
+use Rattle.std.proofs.Common.{◌≡◌, ℕ, zero, suc, ◌+◌, ◌<◌, ◌≤◌, max, Bool, true, false, cond, ◌==◌, List, [], ◌∷◌, Option, None, ◌++◌, map, length, get_or, set, refl, sym, ◌∙◌, ap, subst, arith, get_or-set_same, get_or-set_other, length-set, below_more, nat_lt}
+use Rattle.std.proofs.Math.Nat.{le-max_left, le-max_right, max-le}
 use Rattle.std.proofs.lemmas.Bool.{eqb-true}
 use Rattle.std.proofs.lemmas.Bool.Decides.{nat_tests}
 use Rattle.std.specs.Option.{option_map}
@@ -7,6 +8,7 @@ use Rattle.fx_math.specs.declared.boxes.Box3.{Box3}
 use Rattle.fx_math.specs.Views.{bounds_of}
 use Rattle.bound_cache.specs.declared.marks.Mark.{Mark}
 use Rattle.bound_cache.specs.declared.marks.Mark.TheVariants.{Clean}
+use Rattle.bound_cache.specs.Sizes.{AreCleanFrom}
 use Rattle.bound_cache.specs.Tables.{TableState, with_mark, with_box}
 
 -- one more of the same
@@ -54,3 +56,46 @@ boxed_table bs ms id b l = λ i. record {
   boxes = λ k. (ap (λ x. option_map bounds_of x) (read_set bs id b None k l) ∙ read_map (λ x. option_map bounds_of x) (k == id) b (get_or bs k None)) i;
   marks = λ k. get_or ms k Clean;
 }
+
+-- marks at the end of which all are clean, and from the start of which some are made so
+pub record ClearedBelow (count place : ℕ) (was marks : List Mark) : Type 0 where
+  pub same_length : length marks ≡ length was
+  pub before : (k : ℕ) → k < place → get_or marks k Clean ≡ Clean
+  pub after : (k : ℕ) → count ≤ k → get_or marks k Clean ≡ Clean
+
+pub cleared_none : (count : ℕ) (marks : List Mark) → AreCleanFrom count marks → ClearedBelow count 0 marks marks
+cleared_none count marks rest = record { same_length = refl; before = λ k below. absurd (omega arith); after = rest.clean }
+
+still_clean : (marks : List Mark) (place k : ℕ) → place < length marks → get_or marks k Clean ≡ Clean → get_or (set marks place Clean) k Clean ≡ Clean
+still_clean marks place k l h = read_set marks place Clean Clean k l ∙ ap (λ m. cond (k == place) Clean m) h ∙ by (k == place)
+  where
+    by : (b : Bool) → cond b Clean Clean ≡ Clean
+    by true = refl
+    by false = refl
+
+pub cleared_more : (count place : ℕ) (was marks : List Mark) → place < length marks → ClearedBelow count place was marks → ClearedBelow count (place + 1) was (set marks place Clean)
+cleared_more count place was marks l some = record {
+  same_length = length-set marks place Clean ∙ some.same_length;
+  before = below_more (λ k. get_or (set marks place Clean) k Clean ≡ Clean) place (λ k below. still_clean marks place k l (some.before k below)) (get_or-set_same marks place Clean Clean l);
+  after = λ k above. still_clean marks place k l (some.after k above);
+}
+
+pub cleared_all : (count place : ℕ) (was marks : List Mark) → count ≤ place → ClearedBelow count place was marks → (k : ℕ) → get_or marks k Clean ≡ Clean
+cleared_all count place was marks all some k = by (nat_lt k place) refl
+  where
+    by : (b : Bool) → nat_lt k place ≡ b → get_or marks k Clean ≡ Clean
+    by true e = let l : k < place = grind (arith, nat_tests) in some.before k l
+    by false e = let l : place ≤ k = grind (arith, nat_tests) in some.after k (omega arith)
+
+-- a mark moves up where marks are clean from
+pub clean_above : (marks : List Mark) (first id : ℕ) (m : Mark) → id < 65536 → AreCleanFrom first marks → AreCleanFrom (max first (id + 1)) (set marks id m)
+clean_above marks first id m l from =
+    let left : first ≤ max first (id + 1) = le-max_left first (id + 1) in
+    let right : id + 1 ≤ max first (id + 1) = le-max_right first (id + 1) in
+    record {
+      narrow = max-le from.narrow (omega arith);
+      clean = λ k above. get_or-set_other marks id k m Clean (λ e. absurd (omega arith)) ∙ from.clean k (omega arith);
+    }
+
+pub all_clean : (marks : List Mark) → ((k : ℕ) → get_or marks k Clean ≡ Clean) → AreCleanFrom 0 marks
+all_clean marks clean = record { narrow = omega arith; clean = λ k l. clean k }

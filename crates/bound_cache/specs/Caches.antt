@@ -1,15 +1,17 @@
 -- What clauses see of a cache of boxes, and when its boxes are those of a scene.
-use Rattle.std.specs.Prelude.{◌≡◌, ℕ, Bool, false, List, slice_index_or, Option, None}
+use Rattle.std.specs.Prelude.{◌≡◌, ℕ, ◌≤◌, Bool, false, List, slice_index_or, Option, None}
 use Rattle.std.specs.Option.{option_map_or}
 use Rattle.fx_math.specs.Plain.{Bounds}
 use Rattle.pf_model.specs.Kinds.{is_geode}
 use Rattle.pf_model.specs.Graphs.{Look}
 use Rattle.pf_model.specs.Boxes.{box_of}
 
--- The boxes that are kept, and whether each id was touched since the last clean, both by the id.
+-- The boxes that are kept, and whether each id was touched since the last clean, both by the id; and one more than the
+-- greatest id that was ever touched.
 pub record CacheState : Type 0 where
   pub boxes : List (Option Bounds)
   pub touched : List Bool
+  pub high : ℕ
 
 -- the box that is kept for an id
 abbrev pub box_at : CacheState → ℕ → Option Bounds
@@ -25,6 +27,10 @@ pub record AreBoxesOf (look : Look) (boxes : ℕ → Option Bounds) : Type 0 whe
 -- each id that is not touched has the same node in the scene as it was and as it is
 pub record ChangesAreTouched (was look : Look) (touched : ℕ → Bool) : Type 0 where
   pub same : (id : ℕ) → touched id ≡ false → look id ≡ was id
+
+-- nodes stand only under ids below this
+abbrev pub StandBelow : Look → ℕ → Type 0
+StandBelow look high = (id : ℕ) → high ≤ id → look id ≡ None
 
 -- a geode stands under the id
 abbrev pub is_geode_at : Look → ℕ → Bool

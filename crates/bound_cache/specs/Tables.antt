@@ -1,5 +1,5 @@
 -- How far a clean has come from the boxes of the scene as it was to those of the scene as it is.
-use Rattle.std.specs.Prelude.{◌≡◌, ⊤, ℕ, suc, ◌≤◌, Bool, true, false, not, ◌||◌, ◌==◌, if◌then◌else◌, List, [], Option, Some, None}
+use Rattle.std.specs.Prelude.{◌≡◌, ⊤, ℕ, suc, ◌<◌, ◌≤◌, Bool, true, false, not, ◌||◌, ◌==◌, if◌then◌else◌, List, [], Option, Some, None}
 use Rattle.std.specs.List.{list_any}
 use Rattle.fx_math.specs.Plain.{Bounds}
 use Rattle.pf_model.specs.declared.nodes.Node.{Node}
@@ -100,7 +100,9 @@ IsReached look id Changed = ⊤
 abbrev pub FitsLevels : Look → ℕ → ℕ → Type 0
 FitsLevels look n id = height_in (suc n) look id ≤ n
 
--- a table between two cleans, and whether any id is touched
-pub record IsAtRest (t : TableState) (any_touched : Bool) : Type 0 where
+-- a table between two cleans, whether any id is touched, and a number that touched ids are below
+pub record IsAtRest (t : TableState) (any_touched : Bool) (high : ℕ) : Type 0 where
   pub unseen : (id : ℕ) → is_seen (t.marks id) ≡ false
   pub told : any_touched ≡ false → (id : ℕ) → is_touched (t.marks id) ≡ false
+  pub below : (id : ℕ) → is_touched (t.marks id) ≡ true → id < high
+  pub narrow : high ≤ 65536

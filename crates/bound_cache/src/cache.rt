@@ -1,10 +1,10 @@
 //! The cache of boxes as its callers see it.
-ghost use Rattle.std.specs.Prelude.{◌≡◌, ℕ, ◌||◌, ◌==◌, true, false, None, IfOk};
+ghost use Rattle.std.specs.Prelude.{◌≡◌, ℕ, ◌+◌, ◌||◌, ◌==◌, true, false, max, None, IfOk};
 ghost use Rattle.std.specs.Option.{option_map};
 ghost use Rattle.fx_math.specs.Views.{bounds_of};
 ghost use Rattle.pf_model.specs.Graphs.{Look};
 ghost use Rattle.pf_model.specs.Limits.{KeepsLimits};
-ghost use Rattle.bound_cache.specs.Caches.{box_at, touched_at, AreBoxesOf, ChangesAreTouched, is_geode_at};
+ghost use Rattle.bound_cache.specs.Caches.{box_at, touched_at, AreBoxesOf, ChangesAreTouched, StandBelow, is_geode_at};
 
 use crate::marks::Mark;
 use crate::table::BoxTable;
@@ -15,11 +15,13 @@ use std::alloc::Global;
 use std::marker::Model;
 
 /// The box of each node of a scene, kept while the scene changes. Whoever changes a node touches its id, and a clean
-/// then reckons the boxes of the touched ids and of all above them anew.
+/// then reckons the boxes of the touched ids and of all above them anew. It looks for nodes under the ids up to the
+/// greatest that was ever touched.
 #[derive(Debug, Drop)]
 pub struct BoxCache {
     table: BoxTable,
     any_touched: bool,
+    high: u32,
 }
 
 impl Model for BoxCache {
@@ -35,9 +37,10 @@ impl Model for BoxCache {
     ghost view = { λ c. record {
       boxes = map (option_map bounds_of) c.table.boxes.items;
       touched = map is_touched c.table.marks.items;
+      high = c.high;
     } };
 
-    ghost invariant = { λ c. IsAtRest (table_of c.table) c.any_touched };
+    ghost invariant = { λ c. IsAtRest (table_of c.table) c.any_touched c.high };
 }
 
 impl BoxCache {
@@ -45,11 +48,13 @@ impl BoxCache {
     pub fn new(alloc: Global) -> Result<BoxCache, NoMemory>
         ensures boxes { IfOk result (λ c. (id : ℕ) → box_at c id ≡ None) }
         ensures touched { IfOk result (λ c. (id : ℕ) → touched_at c id ≡ false) }
+        ensures high { IfOk result (λ c. c.high ≡ 0) }
     {
         let table = BoxTable::new(alloc)?;
         Ok(BoxCache {
             table,
             any_touched: false,
+            high: 0,
         })
     }
 
@@ -57,26 +62,30 @@ impl BoxCache {
     pub fn touch(&mut self, id: u16)
         ensures boxes { (k : ℕ) → box_at self.new k ≡ box_at self.old k }
         ensures touched { (k : ℕ) → touched_at self.new k ≡ (k == id || touched_at self.old k) }
+        ensures high { self.new.high ≡ max self.old.high (id + 1) }
     {
         self.table.set_mark(id, Mark::Touched);
         self.any_touched = true;
+        self.high = self.high.max(id as u32 + 1);
     }
 
     /// Brings the boxes to those of a scene. Where the boxes were those of the scene as it was, each id whose node has
-    /// changed since was touched, and the scene is within the limits, all boxes are then those from scratch. On every
-    /// scene it goes at most 32 nodes deep, and an untouched geode keeps its box.
+    /// changed since was touched, the nodes of the scene as it was stood under ids up to the greatest that was ever
+    /// touched, and the scene is within the limits, all boxes are then those from scratch. On every scene it goes at
+    /// most 32 nodes deep, and an untouched geode keeps its box.
     pub fn clean<V: NodeView>(&mut self, scene: &V)
         ensures right { (was : Look) → AreBoxesOf was (box_at self.old)
-            → ChangesAreTouched was (V.look scene.now) (touched_at self.old) → KeepsLimits (V.look scene.now)
-            → AreBoxesOf (V.look scene.now) (box_at self.new) }
+            → ChangesAreTouched was (V.look scene.now) (touched_at self.old) → StandBelow was self.old.high
+            → KeepsLimits (V.look scene.now) → AreBoxesOf (V.look scene.now) (box_at self.new) }
         ensures kept { (id : ℕ) → is_geode_at (V.look scene.now) id ≡ true → touched_at self.old id ≡ false
             → box_at self.new id ≡ box_at self.old id }
         ensures untouched { (id : ℕ) → touched_at self.new id ≡ false }
+        ensures high { self.new.high ≡ self.old.high }
     {
         if !self.any_touched {
             return;
         }
-        self.table.reach_all(scene);
+        self.table.reach_all(scene, self.high);
         self.table.forget_marks();
         self.any_touched = false;
     }

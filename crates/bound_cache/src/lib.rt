@@ -8,6 +8,3 @@ mod reckoning;
 mod table;
 
 pub use cache::BoxCache;
-
-#[cfg(test)]
-mod tests;

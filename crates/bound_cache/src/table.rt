@@ -1,5 +1,5 @@
 //! The boxes of all ids, and the pass of a clean over them.
-ghost use Rattle.std.specs.Prelude.{◌≡◌, ℕ, ◌+◌, ◌<◌, ◌≤◌, true, None, map, length, slice_index_or, IfOk};
+ghost use Rattle.std.specs.Prelude.{◌≡◌, ℕ, ◌+◌, ◌<◌, ◌≤◌, true, None, map, max, length, slice_index_or, IfOk};
 ghost use Rattle.std.specs.Vec.{vec_len};
 ghost use Rattle.std.specs.List.{list_any};
 ghost use Rattle.std.specs.Option.{option_map};
@@ -7,7 +7,7 @@ ghost use Rattle.fx_math.specs.Views.{bounds_of};
 ghost use Rattle.pf_model.specs.Graphs.{Look};
 ghost use Rattle.pf_model.specs.Laws.{AreLow};
 ghost use Rattle.pf_model.specs.Boxes.{hull_of_all, box_from, box_step};
-ghost use Rattle.bound_cache.specs.Sizes.{AreForAllIds};
+ghost use Rattle.bound_cache.specs.Sizes.{AreForAllIds, AreCleanFrom};
 ghost use Rattle.bound_cache.specs.declared.marks.Mark.TheVariants.{Clean};
 ghost use Rattle.bound_cache.specs.Tables.{is_seen, is_changed, is_stale, with_box, with_mark, settled};
 ghost use Rattle.bound_cache.specs.Tables.{FitsLevels, StaysHalfway, IsReached, Proceeds};
@@ -25,12 +25,14 @@ const IDS: usize = 65_536;
 /// The nodes on the longest chain of a scene within the limits.
 const MAX_LEVELS: u8 = 32;
 
-/// The box and the mark of each id.
+/// The box and the mark of each id, and one more than the greatest id that was marked since the marks were forgotten.
 #[derive(Debug, Drop)]
 pub(crate) struct BoxTable {
     boxes: Vec<Option<Box3>>,
     marks: Vec<Mark>,
+    marked: u32,
     ghost sized: { AreForAllIds boxes.items marks.items },
+    ghost unmarked: { AreCleanFrom marked marks.items },
 }
 
 /// So many times the same item.
@@ -45,13 +47,15 @@ fn filled<T: Copy>(alloc: Global, item: T, count: usize) -> Result<Vec<T>, NoMem
     Ok(items)
 }
 
-/// Makes all marks clean.
-fn clear(marks: &mut Vec<Mark>)
+/// Makes the first marks clean, after which all are.
+fn clear(marks: &mut Vec<Mark>, count: u32)
+    requires within { count ≤ length marks.old.items }
+    requires rest { AreCleanFrom count marks.old.items }
     ensures count { length marks.new.items ≡ length marks.old.items }
     ensures clean { (k : ℕ) → slice_index_or marks.new.items k Clean ≡ Clean }
 {
-    for mark in marks.iter_mut() {
-        *mark = Mark::Clean;
+    for place in 0..count {
+        marks[place as usize] = Mark::Clean;
     }
 }
 
@@ -65,7 +69,11 @@ impl BoxTable {
     {
         let boxes = filled(alloc, None, IDS)?;
         let marks = filled(alloc, Mark::Clean, IDS)?;
-        Ok(BoxTable { boxes, marks })
+        Ok(BoxTable {
+            boxes,
+            marks,
+            marked: 0,
+        })
     }
 
     /// The box of an id.
@@ -87,6 +95,7 @@ impl BoxTable {
         ensures { table_of self.new ≡ with_mark id mark (table_of self.old) }
     {
         self.marks[id as usize] = mark;
+        self.marked = self.marked.max(id as u32 + 1);
     }
 
     /// Gives an id a box, or none.
@@ -99,10 +108,10 @@ impl BoxTable {
     /// Makes all marks clean, and leaves the boxes.
     pub(crate) fn forget_marks(&mut self)
         ensures boxes { (table_of self.new).boxes ≡ (table_of self.old).boxes }
-        ensures wide { (id : ℕ) → 65536 ≤ id → (table_of self.new).boxes id ≡ None }
         ensures clean { (id : ℕ) → (table_of self.new).marks id ≡ Clean }
     {
-        clear(&mut self.marks);
+        clear(&mut self.marks, self.marked);
+        self.marked = 0;
     }
 
     /// Whether the box of one of these has changed.
@@ -197,15 +206,16 @@ impl BoxTable {
         self.visit(scene, MAX_LEVELS, id);
     }
 
-    /// Visits all ids that are touched or have a node.
-    pub(crate) fn reach_all<V: NodeView>(&mut self, scene: &V)
-        ensures reached { (id : ℕ) → id < 65536 → IsReached (V.look scene.now) id ((table_of self.new).marks id) }
+    /// Visits all ids below a number that are touched or have a node.
+    pub(crate) fn reach_all<V: NodeView>(&mut self, scene: &V, high: u32)
+        requires { high ≤ 65536 }
+        ensures reached { (id : ℕ) → id < high → IsReached (V.look scene.now) id ((table_of self.new).marks id) }
         ensures proceeds { Proceeds (V.look scene.now) (table_of self.old) (table_of self.new) }
         ensures right { AreLow (V.look scene.now)
             → StaysHalfway (V.look scene.now) (table_of self.old) (table_of self.new) }
     {
-        for id in 0..=u16::MAX {
-            self.reach(scene, id);
+        for id in 0..high {
+            self.reach(scene, id as u16);
         }
     }
 }

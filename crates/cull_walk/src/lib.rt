@@ -6,6 +6,3 @@ pub(crate) mod walk;
 
 pub use draw_list::Stats;
 pub use walk::cull;
-
-#[cfg(test)]
-mod tests;

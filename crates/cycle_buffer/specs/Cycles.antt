@@ -1,5 +1,5 @@
 -- What clauses see of cycle buffers.
-use Rattle.std.specs.Prelude.{◌≡◌, ℕ, ◌+◌, ◌-◌, ◌≤◌, Bool, ◌&&◌, ◌==◌, nat_lt, if◌then◌else◌, List, length, Option}
+use Rattle.std.specs.Prelude.{◌≡◌, ℕ, ◌+◌, ◌-◌, ◌≤◌, max, Bool, ◌&&◌, ◌==◌, nat_lt, if◌then◌else◌, List, length, Option}
 use Rattle.std.specs.List.{All}
 use Rattle.std.specs.Map.{lookup}
 use Rattle.std.specs.BTreeMap.{is_at}
@@ -41,11 +41,19 @@ takes_home tris c = length tris == length c.written && nat_lt c.free c.copies
 abbrev pub after_home : List Tri → CycleState → CycleState
 after_home tris c = if takes_home tris c then came_home c else c
 
+-- how many copies of a cycle are out
+abbrev pub out_of : CycleState → ℕ
+out_of c = c.copies - c.free
+
 -- The cycles by their serials, how many copies a new one gets, and the greatest number of copies that one has had.
 pub record CyclesState : Type 0 where
   pub cycles : List (ℕ × CycleState)
   pub copies : ℕ
   pub most : ℕ
+
+-- the greatest number of copies that a cycle has had, or that a new one gets
+abbrev pub most_of : CyclesState → ℕ
+most_of c = max c.most c.copies
 
 -- the cycle of a serial, where there is one
 abbrev pub cycle_at : CyclesState → ℕ → Option CycleState
@@ -62,6 +70,10 @@ free_at c serial = option_map_or (λ x. x.free) (cycle_at c serial) 0
 -- the number of copies under a serial
 abbrev pub copies_at : CyclesState → ℕ → ℕ
 copies_at c serial = option_map_or (λ x. x.copies) (cycle_at c serial) 0
+
+-- the number of copies that are out under a serial
+abbrev pub out_at : CyclesState → ℕ → ℕ
+out_at c serial = option_map_or out_of (cycle_at c serial) 0
 
 -- What the type of a cycle keeps: each free copy is as long as what was written, the free ones are among the copies,
 -- and there is room for all of them.

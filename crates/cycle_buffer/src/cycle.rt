@@ -1,6 +1,6 @@
 //! The cycle buffer of one geode.
 ghost use Rattle.std.specs.Prelude.{◌≡◌, ◌+◌, ◌-◌, ◌≤◌, ◌<◌, length, IfOk, OnOk, OnErr};
-ghost use Rattle.cycle_buffer.specs.Cycles.{fresh, grown, cut, came_home, after_home, rewritten};
+ghost use Rattle.cycle_buffer.specs.Cycles.{fresh, grown, cut, came_home, after_home, rewritten, out_of};
 
 use pf_io::NoMemory;
 use pf_model::{Geom, Tri};
@@ -78,6 +78,7 @@ impl Cycle {
         requires { 0 < self.old.free }
         ensures array { result ≡ self.old.written }
         ensures cycle { self.new ≡ cut self.old }
+        ensures out { out_of self.new ≡ out_of self.old + 1 }
     {
         match self.free.pop() {
             Some(mut array) => {

@@ -1,11 +1,12 @@
 //! The cycle buffers of all geodes, by their serials.
-ghost use Rattle.std.specs.Prelude.{◌≡◌, ◌≢◌, ℕ, ◌+◌, ◌≤◌, ◌<◌, max, true, List, [], length, Option, Some, None, is_some, is_ok, OnOk, OnErr, IfOk};
+ghost use Rattle.std.specs.Prelude.{◌≡◌, ◌≢◌, ℕ, ◌+◌, ◌-◌, ◌≤◌, ◌<◌, max, true, List, [], length, Option, Some, None, is_some, is_ok, OnOk, OnErr, IfOk};
 ghost use Rattle.std.specs.Prelude.{nat_lt};
 ghost use Rattle.std.specs.Option.{option_map, option_map_or};
 ghost use Rattle.std.specs.Ordering.{nat_cmp};
 ghost use Rattle.std.specs.BTreeMap.{get};
 ghost use Rattle.pf_model.specs.declared.geometry.Tri.{Tri};
-ghost use Rattle.cycle_buffer.specs.Cycles.{cycle_at, written_at, free_at, copies_at, fresh, cut, grown, rewritten, after_home};
+ghost use Rattle.cycle_buffer.specs.Cycles.{cycle_at, written_at, free_at, copies_at, out_at, out_of, most_of};
+ghost use Rattle.cycle_buffer.specs.Cycles.{fresh, cut, grown, rewritten, after_home};
 
 use crate::cycle::Cycle;
 use pf_io::NoMemory;
@@ -51,6 +52,7 @@ impl Cycles {
         ensures added { OnOk result (cycle_at self.new serial ≡ Some (fresh tris.now self.old.copies)) }
         ensures most { OnOk result (self.new.most ≡ max self.old.most self.old.copies) }
         ensures others { (s : ℕ) → s ≢ serial → cycle_at self.new s ≡ cycle_at self.old s }
+        ensures out { (s : ℕ) → out_at self.new s ≡ out_at self.old s }
         ensures copies { self.new.copies ≡ self.old.copies }
         ensures unchanged { OnErr result (self.new ≡ self.old) }
     {
@@ -65,6 +67,7 @@ impl Cycles {
         requires { option_map length (written_at self.old serial) ≡ Some (length tris.now) }
         ensures written { cycle_at self.new serial ≡ option_map (rewritten tris.now) (cycle_at self.old serial) }
         ensures others { (s : ℕ) → s ≢ serial → cycle_at self.new s ≡ cycle_at self.old s }
+        ensures out { (s : ℕ) → out_at self.new s ≡ out_at self.old s }
         ensures copies { self.new.copies ≡ self.old.copies }
         ensures most { self.new.most ≡ self.old.most }
     {
@@ -78,6 +81,8 @@ impl Cycles {
     pub fn remove(&mut self, serial: u32)
         ensures removed { cycle_at self.new serial ≡ None }
         ensures others { (s : ℕ) → s ≢ serial → cycle_at self.new s ≡ cycle_at self.old s }
+        ensures none_out { out_at self.new serial ≡ 0 }
+        ensures others_out { (s : ℕ) → s ≢ serial → out_at self.new s ≡ out_at self.old s }
         ensures copies { self.new.copies ≡ self.old.copies }
         ensures most { self.new.most ≡ self.old.most }
     {
@@ -89,6 +94,10 @@ impl Cycles {
     pub fn home(&mut self, serial: u32, array: Geom)
         ensures home { cycle_at self.new serial ≡ option_map (after_home array) (cycle_at self.old serial) }
         ensures others { (s : ℕ) → s ≢ serial → cycle_at self.new s ≡ cycle_at self.old s }
+        ensures came { option_map length (written_at self.old serial) ≡ Some (length array)
+            → out_at self.new serial ≡ out_at self.old serial - 1 }
+        ensures others_out { (s : ℕ) → s ≢ serial → out_at self.new s ≡ out_at self.old s }
+        ensures no_more_out { (s : ℕ) → out_at self.new s ≤ out_at self.old s }
         ensures copies { self.new.copies ≡ self.old.copies }
         ensures most { self.new.most ≡ self.old.most }
     {
@@ -148,6 +157,8 @@ fn cut(cycles: &mut BTreeMap<u32, Cycle>, serial: u32) -> Geom
     requires { 0 < option_map_or (λ c. c.free) (get nat_cmp cycles.old serial) 0 }
     ensures array { option_map (λ c. c.written) (get nat_cmp cycles.old serial) ≡ Some result }
     ensures cycle { get nat_cmp cycles.new serial ≡ option_map cut (get nat_cmp cycles.old serial) }
+    ensures out { option_map_or out_of (get nat_cmp cycles.new serial) 0
+        ≡ option_map_or out_of (get nat_cmp cycles.old serial) 0 + 1 }
     ensures others { (s : ℕ) → s ≢ serial → get nat_cmp cycles.new s ≡ get nat_cmp cycles.old s }
 {
     match cycles.get_mut(&serial) {
@@ -161,12 +172,19 @@ impl Arrays for Cycles {
 
     ghost written = { written_at };
 
+    ghost out = { out_at };
+
+    ghost most = { most_of };
+
     fn ready(&mut self, serial: u32) -> Result<(), NoMemory>
         requires { is_some (written_at self.old serial) ≡ true }
         ensures ready { OnOk result (0 < free_at self.new serial) }
         ensures was_ready { 0 < free_at self.old serial → OnOk result (self.new ≡ self.old) × (is_ok result ≡ true) }
         ensures others { (s : ℕ) → s ≢ serial → free_at self.new s ≡ free_at self.old s }
         ensures written { (s : ℕ) → written_at self.new s ≡ written_at self.old s }
+        ensures out { (s : ℕ) → out_at self.new s ≡ out_at self.old s }
+        ensures most { most_of self.new ≤ max (most_of self.old) (out_at self.old serial + 1) }
+        ensures no_less { self.old.most ≤ self.new.most }
         ensures unchanged { OnErr result (self.new ≡ self.old) }
         ensures grown { free_at self.old serial ≡ 0 → OnOk result (
             (cycle_at self.new serial ≡ option_map grown (cycle_at self.old serial))
@@ -189,10 +207,13 @@ impl Arrays for Cycles {
         ensures less { free_at self.new serial + 1 ≡ free_at self.old serial }
         ensures others { (s : ℕ) → s ≢ serial → free_at self.new s ≡ free_at self.old s }
         ensures written { (s : ℕ) → written_at self.new s ≡ written_at self.old s }
+        ensures out { out_at self.new serial ≡ out_at self.old serial + 1 }
+        ensures others_out { (s : ℕ) → s ≢ serial → out_at self.new s ≡ out_at self.old s }
         ensures cycle { cycle_at self.new serial ≡ option_map cut (cycle_at self.old serial) }
         ensures other_cycles { (s : ℕ) → s ≢ serial → cycle_at self.new s ≡ cycle_at self.old s }
         ensures copies { self.new.copies ≡ self.old.copies }
-        ensures most { self.new.most ≡ self.old.most }
+        ensures most { most_of self.new ≡ most_of self.old }
+        ensures same_most { self.new.most ≡ self.old.most }
     {
         cut(&mut self.cycles, serial)
     }

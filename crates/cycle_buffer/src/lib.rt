@@ -7,6 +7,3 @@ mod cycles;
 pub use cycle::Cycle;
 pub use cycles::Cycles;
 pub use pf_model::Geom as Array;
-
-#[cfg(test)]
-mod tests;

@@ -7,6 +7,3 @@ pub mod laws;
 
 pub use buffer::Buffer;
 pub use errors::BufferError;
-
-#[cfg(test)]
-mod tests;

@@ -6,7 +6,7 @@ use Rattle.tri_cover.specs.Picture.{nearer}
 use Rattle.depth_raster.specs.Blocks.{colour_in}
 use Rattle.depth_raster.specs.Marks.{seen_as}
 use Rattle.depth_raster.specs.Pieces.{AreRanked, fragments_by, pieces_over, IsColoured, settled}
-use Rattle.depth_raster.specs.Slots.{slots_over, AreSlotsOf}
+use Rattle.depth_raster.specs.Slots.{slots_over}
 use Rattle.depth_raster.specs.Tiles.{mark_in, MarksFollow, IsPainted, IsAt, IsDrawn}
 use Rattle.depth_raster.specs.declared.blocks.Block.{Block}
 use Rattle.depth_raster.specs.declared.marks.Mark.{Mark}
@@ -15,12 +15,16 @@ use Rattle.depth_raster.specs.declared.slots.Slot.{Slot}
 use Rattle.depth_raster.specs.declared.tile.Tile.{Tile}
 use Rattle.depth_raster.proofs.Settling.{pieces_seen, pieces_blank}
 
+-- at the pixels of the tile the slots make the same of marks as the pieces
+abbrev pub AreOver : Lens → List Piece → List Slot → Tile → Type 0
+AreOver lens ps ss t = (q r : ℕ) → IsAt t q r → (m : Mark) → slots_over lens ps ss (t.block.left + q) (t.block.first + r) m ≡ pieces_over lens ps (t.block.left + q) (t.block.first + r) m
+
 -- one pixel of a tile: its mark before, with the pieces, and after; its colour before and after
 record IsPixelDrawn (lens : Lens) (px py : ℕ) (back : List ℕ) (ps : List Piece) (m n : Mark) (c d : List ℕ) : Type 0 where
   marked : n ≡ settled (pieces_over lens ps px py m)
   coloured : IsColoured lens px py back ps (pieces_over lens ps px py m) c d
 
-pixel_drawn : (lens : Lens) (back : List ℕ) (ps : List Piece) (ss : List Slot) (a b c : Tile) → AreSlotsOf lens ps ss → MarksFollow (slots_over lens ps ss) a b → IsPainted lens back ps b c → (q r : ℕ) → IsAt a q r →
+pixel_drawn : (lens : Lens) (back : List ℕ) (ps : List Piece) (ss : List Slot) (a b c : Tile) → AreOver lens ps ss a → MarksFollow (slots_over lens ps ss) a b → IsPainted lens back ps b c → (q r : ℕ) → IsAt a q r →
     IsPixelDrawn lens (a.block.left + q) (a.block.first + r) back ps (mark_in a.block a.marks.items q r) (mark_in c.block c.marks.items q r) (colour_in a.block a.colours.items q r) (colour_in c.block c.colours.items q r)
 pixel_drawn lens back ps ss a b c slots h k q r at = record {
   marked = ap (λ (d : Block). mark_in d c.marks.items q r) k.block ∙ k.marks q r column row ∙ ap settled marked;
@@ -49,12 +53,12 @@ pixel_drawn lens back ps ss a b c slots h k q r at = record {
     row = subst (λ (d : Block). r < d.rows) (sym h.block) at.row
 
     marked : mark_in b.block b.marks.items q r ≡ over
-    marked = ap (λ (d : Block). mark_in d b.marks.items q r) h.block ∙ h.marks q r at.column at.row ∙ slots.over px py (mark_in a.block a.marks.items q r)
+    marked = ap (λ (d : Block). mark_in d b.marks.items q r) h.block ∙ h.marks q r at.column at.row ∙ slots q r at (mark_in a.block a.marks.items q r)
 
 pixel_seen : (lens : Lens) (px py : ℕ) (back : List ℕ) (ps : List Piece) (m n : Mark) (c d : List ℕ) → AreRanked ps → m.rank ≡ 0 → IsPixelDrawn lens px py back ps m n c d → seen_as n d ≡ fold nearer (seen_as m c) (fragments_by lens px py ps)
 pixel_seen lens px py back ps m n c d ranks none is = ap (λ (k : Mark). seen_as k d) is.marked ∙ pieces_seen lens px py ps m c none back d ranks is.coloured
 
-pub tile_drawn_over : (lens : Lens) (back : List ℕ) (ps : List Piece) (ss : List Slot) (a b c : Tile) → AreSlotsOf lens ps ss → AreRanked ps → MarksFollow (slots_over lens ps ss) a b → IsPainted lens back ps b c → IsDrawn lens back ps a c
+pub tile_drawn_over : (lens : Lens) (back : List ℕ) (ps : List Piece) (ss : List Slot) (a b c : Tile) → AreOver lens ps ss a → AreRanked ps → MarksFollow (slots_over lens ps ss) a b → IsPainted lens back ps b c → IsDrawn lens back ps a c
 tile_drawn_over lens back ps ss a b c slots ranks h k = record {
   block = k.block ∙ h.block;
   seen = λ q r at none.

@@ -1,10 +1,10 @@
 -- Blocks drawn row by row, and rows pixel by pixel.
-use Rattle.std.proofs.Common.{◌≡◌, ℕ, ◌+◌, ◌<◌, ◌≤◌, List, length, set, get_or, get_or-set_same, get_or-set_other, refl, ap, sym, ◌∙◌, subst, arith, ⊎_elim}
-use Rattle.std.proofs.lemmas.Bool.{cases_eq}
+use Rattle.std.proofs.Common.{◌≡◌, ℕ, ◌+◌, ◌*◌, ◌<◌, ◌≤◌, List, length, set, get_or, get_or-set_same, get_or-set_other, refl, ap, sym, ◌∙◌, subst, arith, ⊎_elim}
+use Rattle.std.proofs.lemmas.Bool.{cases_eq, cases_lt}
 use Rattle.std.proofs.lemmas.Nat.{same_from_place, mul-add-lt, mul-le}
 use Rattle.std.proofs.Math.Nat.{add-mul, zero-mul}
 use Rattle.depth_raster.specs.Blocks.{place_in, size_of}
-use Rattle.depth_raster.specs.Following.{Follows, RowsFollow, PixelsFollow, RowFollows, FirstRelate, Relates}
+use Rattle.depth_raster.specs.Following.{Follows, RowsFollow, PixelsFollow, RowFollows, FirstRelate, Relates, SpanRelates}
 use Rattle.depth_raster.specs.declared.blocks.Block.{Block}
 
 pub place_within : (b : Block) (q r : ℕ) → q < b.width → r < b.rows → place_in b q r < size_of b
@@ -98,3 +98,76 @@ relate_written {A} {X} view d b before xs P q r i v so_far whole column row at i
 pub all_related : {X : Type 0} (b : Block) (before after : ℕ → ℕ → X) (P : ℕ → ℕ → X → X → Type 0) (r n : ℕ) → b.rows ≤ r → n ≡ place_in b 0 r → FirstRelate b before after P n → Relates b before after P
 all_related b before after P r n all is so_far q s column row =
     so_far.done q s column row (omega (arith, is, mul-add-lt s b.width q b.rows row column, mul-le b.rows b.width r b.width all (omega arith)))
+
+-- ---- some pixels of a row
+pub none_spanned : {X : Type 0} (b : Block) (before : ℕ → ℕ → X) (P : ℕ → ℕ → X → X → Type 0) (r start : ℕ) → SpanRelates b before before P r start start
+none_spanned b before P r start = record { done = λ q lo hi column. absurd (omega (arith, lo, hi)); others = λ q s column apart. refl }
+
+-- one more pixel is written
+pub span_written : {A X : Type 0} (view : A → X) (d : A) (b : Block) (before : ℕ → ℕ → X) (xs : List A) (P : ℕ → ℕ → X → X → Type 0) (r start q i : ℕ) (v : A) → SpanRelates b before (λ p s. view (get_or xs (place_in b p s) d)) P r start q → length xs ≡ size_of b → start ≤ q → q < b.width → r < b.rows → i ≡ place_in b q r → P q r (view (get_or xs i d)) (view v)
+    → SpanRelates b before (λ p s. view (get_or (set xs i v) (place_in b p s) d)) P r start (q + 1)
+span_written {A} {X} view d b before xs P r start q i v so_far whole from column row at is = record {
+  done = λ p lo hi in_row. ⊎_elim
+      (λ same. subst (λ (n : ℕ). P n r (before n r) (view (get_or (set xs i v) (place_in b n r) d))) (sym same) here)
+      (λ apart. subst (λ (y : X). P p r (before p r) y) (sym (elsewhere p r in_row (λ k m. apart k))) (so_far.done p lo (omega (arith, apart, hi)) in_row))
+      (cases_eq p q);
+  others = λ p s in_row apart.
+      elsewhere p s in_row (λ k m. apart m (omega (arith, k, from)) (omega (arith, k)))
+      ∙ so_far.others p s in_row (λ m lo hi. apart m lo (omega (arith, hi)));
+}
+  where
+    elsewhere : (p s : ℕ) → p < b.width → (p ≡ q → s ≡ r → ⊥) → view (get_or (set xs i v) (place_in b p s) d) ≡ view (get_or xs (place_in b p s) d)
+    elsewhere p s in_row apart =
+        ap (λ (j : ℕ). view (get_or (set xs j v) (place_in b p s) d)) at
+        ∙ ap view (written_elsewhere b xs q r p s v d column in_row apart)
+
+    there : view (get_or xs i d) ≡ before q r
+    there = ap (λ (j : ℕ). view (get_or xs j d)) at ∙ so_far.others q r column (λ m lo hi. omega (arith, hi))
+
+    new : view (get_or (set xs i v) (place_in b q r) d) ≡ view v
+    new = ap (λ (j : ℕ). view (get_or (set xs j v) (place_in b q r) d)) at ∙ ap view (written_here b xs q r v d whole column row)
+
+    here : P q r (before q r) (view (get_or (set xs i v) (place_in b q r) d))
+    here = subst (λ (y : X). P q r (before q r) y) (sym new) (subst (λ (x : X). P q r x (view v)) there is)
+
+pub span_weaker : {X : Type 0} (b : Block) (before after : ℕ → ℕ → X) (P Q : ℕ → ℕ → X → X → Type 0) (r start end : ℕ) → SpanRelates b before after P r start end
+    → ((q : ℕ) → start ≤ q → q < end → q < b.width → (x y : X) → P q r x y → Q q r x y) → SpanRelates b before after Q r start end
+span_weaker b before after P Q r start end span f = record {
+  done = λ q lo hi column. f q lo hi column (before q r) (after q r) (span.done q lo hi column);
+  others = span.others;
+}
+
+rows_apart : (w s r : ℕ) → s < r → s * w + w ≤ r * w
+rows_apart w s r l = omega (arith, mul-le (s + 1) w r w (omega (arith, l)) (omega arith), add-mul s 1 w)
+
+place_before : (b : Block) (p s q r : ℕ) → p < b.width → (s ≡ r → p < q) → s ≤ r → place_in b p s < place_in b q r
+place_before b p s q r column same l = ⊎_elim
+    (λ below. omega (arith, column, rows_apart b.width s r below))
+    (λ above. let is : s ≡ r = omega (arith, l, above) in omega (arith, same is, ap (λ (n : ℕ). n * b.width) is))
+    (cases_lt s r)
+
+-- a span more
+pub related_span : {X : Type 0} (b : Block) (before mid after : ℕ → ℕ → X) (P : ℕ → ℕ → X → X → Type 0) (r start end : ℕ) → FirstRelate b before mid P (place_in b start r) → SpanRelates b mid after P r start end → start ≤ end → end ≤ b.width
+    → FirstRelate b before after P (place_in b end r)
+related_span {X} b before mid after P r start end so_far span some within = record {
+  done = λ p s in_row in_rows l. ⊎_elim
+      (λ same. subst (λ (n : ℕ). P p n (before p n) (after p n)) (sym same) (in_span p in_row (subst (λ (n : ℕ). place_in b p n < place_in b end r) same l) (subst (λ (n : ℕ). n < b.rows) same in_rows)))
+      (λ apart. let before_row : s ≤ r = earlier p s in_row l in
+      subst (λ (y : X). P p s (before p s) y) (sym (span.others p s in_row (λ m lo hi. apart m))) (so_far.done p s in_row in_rows (place_before b p s start r in_row (λ m. absurd (apart m)) before_row)))
+      (cases_eq s r);
+  ahead = λ p s in_row l.
+      span.others p s in_row (λ m lo hi. omega (arith, l, hi, ap (λ (n : ℕ). n * b.width) m))
+      ∙ so_far.ahead p s in_row (omega (arith, l, some));
+}
+  where
+    earlier : (p s : ℕ) → p < b.width → place_in b p s < place_in b end r → s ≤ r
+    earlier p s in_row l = ⊎_elim
+        (λ above. absurd (omega (arith, l, within, rows_apart b.width r s above)))
+        (λ below. below)
+        (cases_lt r s)
+
+    in_span : (p : ℕ) → p < b.width → place_in b p r < place_in b end r → r < b.rows → P p r (before p r) (after p r)
+    in_span p in_row l row = ⊎_elim
+        (λ below. subst (λ (y : X). P p r (before p r) y) (sym (span.others p r in_row (λ m lo hi. omega (arith, below, lo)))) (so_far.done p r in_row row (omega (arith, below))))
+        (λ beyond. subst (λ (x : X). P p r x (after p r)) (so_far.ahead p r in_row (omega (arith, beyond))) (span.done p beyond (omega (arith, l)) in_row))
+        (cases_lt p start)

@@ -1,5 +1,5 @@
 -- Pixels that a face leaves as they are.
-use Rattle.std.proofs.Common.{◌≡◌, ℕ, ◌<◌, ◌≤◌, List, Option, option_map, refl, ap, sym, ◌∙◌, arith, ⊎_elim}
+use Rattle.std.proofs.Common.{◌≡◌, ℕ, ◌+◌, ◌<◌, ◌≤◌, List, Option, option_map, refl, ap, sym, ◌∙◌, arith, ⊎_elim}
 use Rattle.std.specs.Option.{option_map_or}
 use Rattle.std.proofs.lemmas.Bool.{cases_lt}
 use Rattle.fx_math.specs.declared.lenses.Lens.{Lens}
@@ -9,8 +9,12 @@ use Rattle.depth_raster.specs.declared.blocks.Block.{Block}
 use Rattle.depth_raster.specs.declared.faces.Face.{Face}
 use Rattle.depth_raster.specs.declared.marks.Mark.{Mark}
 use Rattle.depth_raster.specs.Around.{IsUnhit}
+use Rattle.depth_raster.specs.Blocks.{IsBlockOf}
 use Rattle.depth_raster.specs.Faces.{fragment_in, fragment_by, glazed_by_face}
 use Rattle.depth_raster.specs.Marks.{mark_of, mark_with, mark_over}
+use Rattle.depth_raster.specs.Pieces.{IsPieceOf}
+use Rattle.depth_raster.specs.Tiles.{mark_in, within, face_over}
+use Rattle.depth_raster.specs.declared.pieces.Piece.{Piece}
 use Rattle.depth_raster.specs.Following.{Follows, RowsFollow, PixelsFollow, RowFollows}
 
 pub mark_missed : (lens : Lens) (px py : ℕ) (f : Face) (m : Mark) → IsUnhit lens f.tri px py → mark_over lens px py f m ≡ m
@@ -43,3 +47,14 @@ rows_rest b before after f n so_far still q r column row = ⊎_elim
     (λ below. so_far.drawn q r column row below)
     (λ beyond. so_far.ahead q r column beyond ∙ sym (still q r column beyond row))
     (cases_lt r n)
+
+-- ---- pixels of a row beside a piece
+pub missed_left : (lens : Lens) (p : Piece) (b : Block) (marks : List Mark) (q r : ℕ) → IsPieceOf lens p → IsBlockOf lens b → q < b.width → r < b.rows → b.left + q < p.extent.left → within b (face_over lens p.face) q r (mark_in b marks q r) ≡ mark_in b marks q r
+missed_left lens p b marks q r ready block column row l =
+    mark_missed lens (b.left + q) (b.first + r) p.face (mark_in b marks q r)
+    (ready.extent.left_of (b.left + q) (b.first + r) (omega (arith, column, block.columns)) (omega (arith, row, block.rows)) l)
+
+pub missed_right : (lens : Lens) (p : Piece) (b : Block) (marks : List Mark) (q r : ℕ) → IsPieceOf lens p → IsBlockOf lens b → q < b.width → r < b.rows → p.extent.right ≤ b.left + q → within b (face_over lens p.face) q r (mark_in b marks q r) ≡ mark_in b marks q r
+missed_right lens p b marks q r ready block column row l =
+    mark_missed lens (b.left + q) (b.first + r) p.face (mark_in b marks q r)
+    (ready.extent.right_of (b.left + q) (b.first + r) (omega (arith, column, block.columns)) (omega (arith, row, block.rows)) l)

@@ -66,11 +66,11 @@ nothing_at (x ∷ xs) (suc i) h = nothing_at xs i (omega (arith, h))
 pub ready_piece : (lens : Lens) (ps : List Piece) (s : Slot) → All (IsPieceOf lens) ps → (p : Piece) → slice_get ps s.index ≡ Some p → IsPieceOf lens p
 ready_piece lens ps s all p is = subst (IsPieceOf lens) (get_or_from_slice_get ps s.index p p is) (All-get_or (IsPieceOf lens) ps s.index p (slice_get_within ps s.index p is) all)
 
-slot_is : (lens : Lens) (ps : List Piece) (s : Slot) (p : Piece) → slice_get ps s.index ≡ Some p → (px py : ℕ) (m : Mark) → face_over lens p.face px py m ≡ slot_over lens ps s px py m
+pub slot_is : (lens : Lens) (ps : List Piece) (s : Slot) (p : Piece) → slice_get ps s.index ≡ Some p → (px py : ℕ) (m : Mark) → face_over lens p.face px py m ≡ slot_over lens ps s px py m
 unfolding mark_over
 slot_is lens ps s p is px py m = ap (λ (o : Option Piece). mark_with m (option_and_then (λ p. mark_by lens px py p.face) o)) (sym is)
 
-slot_none : (lens : Lens) (ps : List Piece) (s : Slot) → slice_get ps s.index ≡ None → (px py : ℕ) (m : Mark) → m ≡ slot_over lens ps s px py m
+pub slot_none : (lens : Lens) (ps : List Piece) (s : Slot) → slice_get ps s.index ≡ None → (px py : ℕ) (m : Mark) → m ≡ slot_over lens ps s px py m
 slot_none lens ps s is px py m = ap (λ (o : Option Piece). mark_with m (option_and_then (λ p. mark_by lens px py p.face) o)) (sym is)
 
 pub slot_drawn : (lens : Lens) (ps : List Piece) (s : Slot) (p : Piece) (before after : List Tile) → slice_get ps s.index ≡ Some p → TilesRelate (MarksFollow (face_over lens p.face)) before after → TilesRelate (MarksFollow (slot_over lens ps s)) before after

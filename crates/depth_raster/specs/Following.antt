@@ -30,3 +30,9 @@ pub record FirstRelate {X : Type 0} (b : Block) (before after : ℕ → ℕ → 
 -- at each pixel of the block P holds of what lay there and what lies there
 abbrev pub Relates : {X : Type 0} → Block → (before after : ℕ → ℕ → X) → (P : ℕ → ℕ → X → X → Type 0) → Type 0
 Relates b before after P = (q r : ℕ) → q < b.width → r < b.rows → P q r (before q r) (after q r)
+
+-- at the pixels of row r from column start to before column end, P holds of what lay there and what lies there; all others are
+-- as they were
+pub record SpanRelates {X : Type 0} (b : Block) (before after : ℕ → ℕ → X) (P : ℕ → ℕ → X → X → Type 0) (r start end : ℕ) : Type 0 where
+  pub done : (q : ℕ) → start ≤ q → q < end → q < b.width → P q r (before q r) (after q r)
+  pub others : (q s : ℕ) → q < b.width → (s ≡ r → start ≤ q → q < end → ⊥) → after q s ≡ before q s

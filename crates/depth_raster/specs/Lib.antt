@@ -2,7 +2,9 @@ pub mod Faces
 pub mod Extents
 pub mod Around
 pub mod Looks
+pub mod Edges
 pub mod Shades
+pub mod Mixing
 pub mod Blocks
 pub mod Marks
 pub mod Following
@@ -11,6 +13,7 @@ pub mod Panes
 pub mod Pieces
 pub mod Tiles
 pub mod Slots
+pub mod Shares
 pub mod Strips
 pub mod Batches
 pub mod Canvas

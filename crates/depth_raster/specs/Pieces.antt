@@ -1,7 +1,9 @@
 -- What pieces that are drawn together make of a pixel.
-use Rattle.std.specs.Prelude.{◌≡◌, ℕ, ◌+◌, ◌<◌, List, [], fold, filter_map, length, if◌then◌else◌, nat_lt, Option, Some, slice_get, slice_index_or}
+use Rattle.std.specs.Prelude.{◌≡◌, ℕ, ◌+◌, ◌-◌, ◌<◌, List, [], fold, filter_map, length, if◌then◌else◌, nat_lt, Option, Some, slice_get, slice_index_or}
 use Rattle.fx_math.specs.declared.lenses.Lens.{Lens}
+use Rattle.tri_cover.specs.declared.face.Face as faces
 use Rattle.tri_cover.specs.declared.hit.Hit.{Hit}
+use Rattle.tri_cover.specs.declared.ready.Ready.TheVariants.{Face}
 use Rattle.tri_cover.specs.Hits.{hit}
 use Rattle.tri_cover.specs.Picture.{Fragment}
 use Rattle.depth_raster.specs.Faces.{fragment_by, glazed_by_face}
@@ -17,9 +19,18 @@ pub record IsPieceOf (lens : Lens) (p : Piece) : Type 0 where
   pub box : IsBoxOf p.ready p.extent
   pub ready : IsReady lens p.face.tri p.ready
 
+-- the piece has this face
+abbrev pub HasFace : Piece → faces.Face → Type 0
+HasFace p f = p.ready ≡ Face f
+
 -- the ranks of pieces are their places, from 1
 abbrev pub AreRanked : List Piece → Type 0
 AreRanked ps = (k : ℕ) (d : Piece) → k < length ps → (slice_index_or ps k d).face.rank ≡ k + 1
+
+-- the piece has this rank among pieces
+pub record IsRanked (ps : List Piece) (p : Piece) (rank : ℕ) : Type 0 where
+  pub some : 0 < rank
+  pub at : slice_get ps (rank - 1) ≡ Some p
 
 -- the fragments of pieces at a pixel
 abbrev pub fragments_by : Lens → (px py : ℕ) → List Piece → List Fragment

@@ -1,5 +1,5 @@
 -- A picture in strips of rows, and a strip in tiles.
-use Rattle.std.specs.Prelude.{◌≡◌, ℕ, ◌-◌, ◌*◌, ◌<◌, List, length, slice_index_or, min}
+use Rattle.std.specs.Prelude.{◌≡◌, ℕ, ◌+◌, ◌-◌, ◌*◌, ◌/◌, ◌<◌, List, length, slice_index_or, min}
 use Rattle.std.specs.Int.{div_ceil}
 use Rattle.fx_math.specs.declared.lenses.Lens.{Lens}
 use Rattle.depth_raster.specs.Blocks.{IsBlockOf}
@@ -24,9 +24,11 @@ pub record AreTilesOf (band : Block) (tiles : List Tile) : Type 0 where
 abbrev pub TilesRelate : (Tile → Tile → Type 0) → (before after : List Tile) → Type 0
 TilesRelate P before after = (j : ℕ) (d : Tile) → j < length before → P (slice_index_or before j d) (slice_index_or after j d)
 
--- the strip is one of the lens's picture
+-- the strip is one of the lens's picture: its rows are among the same sixty-four
 pub record IsStripOf (lens : Lens) (s : Strip) : Type 0 where
   pub band : IsBlockOf lens s.band
+  pub begins : s.band.first < lens.h
+  pub share : (r : ℕ) → r < s.band.rows → (s.band.first + r) / 64 ≡ s.band.first / 64
   pub tiles : AreTilesOf s.band s.tiles.items
 
 -- P holds of each tile of a strip before and after

@@ -19,6 +19,10 @@ use Rattle.depth_raster.specs.declared.tile.Tile.{Tile}
 abbrev pub mark_in : Block → List Mark → (q r : ℕ) → Mark
 mark_in b marks q r = slice_index_or marks (place_in b q r) no_mark
 
+-- the marks of row r have the rank, from column start to before column end
+abbrev pub HaveRank : Block → List Mark → (r start end rank : ℕ) → Type 0
+HaveRank b marks r start end rank = (q : ℕ) → start ≤ q → q < end → (mark_in b marks q r).rank ≡ rank
+
 -- what is made of a mark at a pixel of the picture, by the pixel's place in a block
 abbrev pub within : {X : Type 0} → Block → (ℕ → ℕ → X → X) → (q r : ℕ) → X → X
 within b f q r x = f (b.left + q) (b.first + r) x

@@ -1,10 +1,12 @@
 //! Pieces that are drawn together, and the order in which they are drawn.
-ghost use Rattle.std.specs.Prelude.{◌≡◌, ◌≤◌, ◌<◌, [], ◌∷◌, ◌++◌, length, nat_le, IfOk};
+ghost use Rattle.std.specs.Prelude.{◌≡◌, ◌≤◌, ◌<◌, [], ◌∷◌, ◌++◌, All, length, nat_le, IfOk};
 ghost use Rattle.std.specs.Vec.{vec_len, vec_capacity};
 ghost use Rattle.depth_raster.specs.Pieces.{AreRanked};
 
 use crate::faces::Face;
 use crate::pieces::Piece;
+use crate::share::Share;
+use crate::shares::{new_shares, share_out};
 use crate::slots::{Slot, fill, sort};
 use fx_math::Lens;
 use pf_io::NoMemory;
@@ -13,20 +15,23 @@ use std::alloc::Global;
 /// The most pieces that are drawn together.
 const ROOM: usize = 16_384;
 
-/// Pieces, with the slots that order them, and room for as many as are drawn together.
+/// Pieces, with the slots that order them and the shares of these, and room for as many as are drawn together.
 #[derive(Drop)]
 pub(crate) struct Batch {
     pub(crate) pieces: Vec<Piece>,
-    pub(crate) slots: Vec<Slot>,
+    slots: Vec<Slot>,
+    pub(crate) shares: Vec<Share>,
     ghost few: { length pieces.items ≤ 16384 },
     ghost ranked: { AreRanked pieces.items },
     ghost pieces_room: { 16384 ≤ vec_capacity pieces },
     ghost slots_room: { 16384 ≤ vec_capacity slots },
+    ghost shares_whole: { length shares.items ≡ 16 },
 }
 
 impl Batch {
     ghost use Rattle.fx_math.specs.declared.lenses.Lens.{Lens};
-    ghost use Rattle.depth_raster.specs.Slots.{AreSlotsOf};
+    ghost use Rattle.depth_raster.specs.Pieces.{IsPieceOf};
+    ghost use Rattle.depth_raster.specs.Shares.{AreSharesOf};
     ghost use Rattle.depth_raster.specs.Batches.{IsWithFace};
 
     /// No pieces.
@@ -37,7 +42,12 @@ impl Batch {
         pieces.reserve(ROOM)?;
         let mut slots = Vec::new(alloc);
         slots.reserve(ROOM)?;
-        Ok(Batch { pieces, slots })
+        let shares = new_shares(alloc)?;
+        Ok(Batch {
+            pieces,
+            slots,
+            shares,
+        })
     }
 
     /// Whether no piece has room.
@@ -64,13 +74,15 @@ impl Batch {
         append(&mut self.pieces, piece);
     }
 
-    /// Puts the slots of the pieces in the order of their least depths.
+    /// Puts the slots of the pieces in the order of their least depths, and into shares.
     pub(crate) fn order(&mut self)
         ensures pieces { self.new.pieces.items ≡ self.old.pieces.items }
-        ensures slots { (lens : Lens) → AreSlotsOf lens self.new.pieces.items self.new.slots.items }
+        ensures shares { (lens : Lens) → All (IsPieceOf lens) self.new.pieces.items
+            → AreSharesOf lens self.new.pieces.items self.new.shares.items }
     {
         fill(&mut self.slots, &self.pieces);
         sort(&mut self.slots, &self.pieces);
+        share_out(&mut self.shares, &self.slots);
     }
 }
 

@@ -8,7 +8,8 @@ use crate::blocks::Block;
 use crate::looks::product;
 use tri_cover::{Face, Linear};
 
-/// Whether the edge values at the corners of a block tell that a face is hit nowhere in it before a depth.
+/// Whether the edge values at the corners of a block tell that a face is hit nowhere in it before a depth. Their sum is asked
+/// first: of faces that are drawn by depth, most are behind what is drawn.
 pub(crate) fn is_hidden(face: &Face, block: &Block, limit: u64) -> bool
     requires columns { block.now.left + block.now.width ≤ size_limit }
     requires rows { block.now.first + block.now.rows ≤ size_limit }
@@ -20,6 +21,9 @@ pub(crate) fn is_hidden(face: &Face, block: &Block, limit: u64) -> bool
     if block.rows == 0 {
         return true;
     }
+    if is_far(face, block, limit) {
+        return true;
+    }
     if is_below(&face.edges.e0, block) {
         return true;
     }
@@ -29,7 +33,7 @@ pub(crate) fn is_hidden(face: &Face, block: &Block, limit: u64) -> bool
     if is_below(&face.edges.e2, block) {
         return true;
     }
-    is_far(face, block, limit)
+    false
 }
 
 /// Whether a linear function is below 0 in a block.

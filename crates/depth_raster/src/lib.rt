@@ -5,15 +5,18 @@ mod across;
 mod batch;
 mod blocks;
 mod corners;
+mod edges;
 mod extents;
 mod faces;
 mod glass;
 mod glass_strips;
 mod glass_tiles;
 mod glazing;
+mod guesses;
 mod hiding;
 mod looks;
 mod marks;
+mod mixing;
 mod opaque;
 mod painting;
 mod panes;
@@ -21,6 +24,8 @@ mod pieces;
 mod pixels;
 mod raster;
 mod shades;
+mod share;
+mod shares;
 mod shown;
 mod slots;
 mod strip;
@@ -30,6 +35,3 @@ mod tiles;
 mod work;
 
 pub use raster::Raster;
-
-#[cfg(test)]
-mod tests;

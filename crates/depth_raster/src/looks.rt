@@ -1,10 +1,12 @@
 //! Faces at pixels: hit before a depth or not, with no division where not; and colours.
-ghost use Rattle.std.specs.Prelude.{◌≡◌, ◌*◌, ◌/◌, ◌<◌, ◌≤◌, ◌^◌, true, false, IfSome, IfNone, IsTrue};
+ghost use Rattle.std.specs.Prelude.{◌≡◌, ℕ, ◌+◌, ◌*◌, ◌/◌, ◌<◌, ◌≤◌, ◌^◌, true, false, IfSome, IfNone, IsTrue};
 ghost use Rattle.fx_math.specs.Limits.{size_limit};
 ghost use Rattle.tri_cover.specs.Faces.{is_in_box, is_covered};
 ghost use Rattle.tri_cover.specs.Linears.{weight_at};
+ghost use Rattle.depth_raster.specs.Edges.{AreValuesAt};
 ghost use Rattle.depth_raster.specs.Looks.{Looks, are_covering};
 
+use crate::edges::EdgeValues;
 use std::num::{nearest_u64_to_f64, saturating_f64_to_u64};
 use tri_cover::{Face, Linear};
 
@@ -15,24 +17,17 @@ pub(crate) fn look(face: &Face, limit: u64, px: u16, py: u16) -> Option<u32>
     requires inside { is_in_box face.now.extent px py ≡ true }
     ensures { Looks face.now px py limit result }
 {
-    match covered_sum(face, px, py) {
-        Some(sum) => depth_before(face, limit, sum),
-        None => None,
-    }
+    look_by(face, &EdgeValues::at(face, px, py), limit, 0)
 }
 
-/// The sum of the edge values of a face at a pixel that it covers.
-#[tactic(auto, using(crate::proofs::Looking::weights_some))]
-fn covered_sum(face: &Face, px: u16, py: u16) -> Option<u64>
-    requires x { px < size_limit }
-    requires y { py < size_limit }
-    ensures some { IfSome result (λ s. (is_covered face.now px py ≡ true) × (s ≡ weight_at face.now.edges.sum px py) × (0 < s)) }
-    ensures none { IfNone result (is_covered face.now px py ≡ false) }
+/// The same, from the edge values at the pixel; a guess that is at most two below the depth spares a division.
+pub(crate) fn look_by(face: &Face, values: &EdgeValues, limit: u64, guess: u32) -> Option<u32>
+    ensures { (px py : ℕ) → AreValuesAt face.now px py values.now → is_in_box face.now.extent px py ≡ true
+        → Looks face.now px py limit result }
 {
-    if is_covered(face, px, py) {
-        Some(weight(&face.edges.sum, px, py))
-    } else {
-        None
+    match values.covered() {
+        Some(sum) => depth_before(face, limit, guess, sum),
+        None => None,
     }
 }
 
@@ -59,7 +54,7 @@ pub(crate) fn is_covered(face: &Face, px: u16, py: u16) -> bool
     are_covering(first, second, third, sum)
 }
 
-fn are_covering(first: i64, second: i64, third: i64, sum: i64) -> bool
+pub(crate) fn are_covering(first: i64, second: i64, third: i64, sum: i64) -> bool
     ensures { result ≡ are_covering first second third sum }
 {
     first >= 0 && second >= 0 && third >= 0 && sum > 0
@@ -67,7 +62,7 @@ fn are_covering(first: i64, second: i64, third: i64, sum: i64) -> bool
 
 /// The depth of a face at a pixel where its edge values have this sum, if it is before a depth.
 #[tactic(auto, using(crate::proofs::Looking::limit_reached, crate::proofs::Looking::quotient_before))]
-fn depth_before(face: &Face, limit: u64, sum: u64) -> Option<u32>
+fn depth_before(face: &Face, limit: u64, guess: u32, sum: u64) -> Option<u32>
     requires { 0 < sum }
     ensures some { IfSome result (λ d. (d ≡ face.now.dividend / sum) × (face.now.extent.near ≤ d)
         × (d ≤ face.now.extent.far) × (d < limit)) }
@@ -77,7 +72,7 @@ fn depth_before(face: &Face, limit: u64, sum: u64) -> Option<u32>
     if product(limit, sum) <= face.dividend {
         return None;
     }
-    let depth = quotient(face.dividend, sum);
+    let depth = quotient(face.dividend, sum, guess);
     if depth < u128::from(face.extent.near) || u128::from(face.extent.far) < depth {
         return None;
     }
@@ -90,8 +85,56 @@ pub(crate) fn product(limit: u64, sum: u64) -> u128
     u128::from(limit) * u128::from(sum)
 }
 
+/// A quotient, from a guess that may be near.
+fn quotient(dividend: u128, sum: u64, guess: u32) -> u128
+    requires some { 0 < sum }
+    requires small { dividend < 2 ^ 96 }
+    ensures { result ≡ dividend / sum }
+{
+    let start = u64::from(guess);
+    match near_quotient(dividend, sum, start) {
+        Some(near) => u128::from(near),
+        None => divided(dividend, sum),
+    }
+}
+
+/// A quotient that is a number or at most two above it.
+fn near_quotient(dividend: u128, sum: u64, guess: u64) -> Option<u64>
+    requires some { 0 < sum }
+    requires small { guess < 2 ^ 32 }
+    ensures { IfSome result (λ n. n ≡ dividend / sum) }
+{
+    let low = product(guess, sum);
+    if dividend < low {
+        return None;
+    }
+    let rest = dividend - low;
+    let wide = u128::from(sum);
+    if 3 * wide <= rest {
+        return None;
+    }
+    Some(guess + fitting(rest, wide))
+}
+
+/// How often a number fits into one that is less than three times as great.
+fn fitting(rest: u128, sum: u128) -> u64
+    requires small { sum < 2 ^ 64 }
+    requires few { rest < 3 * sum }
+    ensures low { result * sum ≤ rest }
+    ensures high { rest < result * sum + sum }
+    ensures bound { result ≤ 2 }
+{
+    if rest < sum {
+        0
+    } else if rest < 2 * sum {
+        1
+    } else {
+        2
+    }
+}
+
 /// A quotient, guessed and judged where it is not one of 64 bits.
-fn quotient(dividend: u128, sum: u64) -> u128
+fn divided(dividend: u128, sum: u64) -> u128
     requires some { 0 < sum }
     requires small { dividend < 2 ^ 96 }
     ensures { result ≡ dividend / sum }

@@ -164,7 +164,7 @@ pub(crate) fn flush<R: Threads + Sync>(
         lens,
         back,
         &batch.pieces,
-        &batch.slots,
+        &batch.shares,
         strips,
     );
     batch.clear();

@@ -1,17 +1,21 @@
 //! The colours of a tile after faces are drawn.
-ghost use Rattle.std.specs.Prelude.{◌≡◌, ◌<◌, All, length};
+ghost use Rattle.std.specs.Prelude.{◌≡◌, ℕ, ◌+◌, ◌<◌, ◌≤◌, All, length};
+ghost use Rattle.fx_math.specs.Limits.{size_limit};
 ghost use Rattle.depth_raster.specs.Blocks.{IsBlockOf, size_of, colour_in};
-ghost use Rattle.depth_raster.specs.Following.{Follows, Relates};
-ghost use Rattle.depth_raster.specs.Pieces.{IsPieceOf, IsColoured, settled};
-ghost use Rattle.depth_raster.specs.Tiles.{mark_in, painted_within, IsCleared, IsPainted};
+ghost use Rattle.depth_raster.specs.Following.{Follows, Relates, SpanRelates};
+ghost use Rattle.depth_raster.specs.Mixing.{shaded_within};
+ghost use Rattle.depth_raster.specs.Pieces.{IsPieceOf, IsRanked, IsColoured, settled};
+ghost use Rattle.depth_raster.specs.Tiles.{mark_in, painted_within, HaveRank, IsCleared, IsPainted};
 
 use crate::blocks::Block;
 use crate::marks::{Mark, NOTHING};
+use crate::mixing::Sums;
 use crate::pieces::Piece;
 use crate::pixels::colour;
 use crate::tile::Tile;
 use crate::tiles::greatest_depth;
 use fx_math::Lens;
+use tri_cover::{Face, Ready};
 
 /// Clears the marks of a tile.
 pub(crate) fn clear(tile: &mut Tile)
@@ -60,32 +64,190 @@ fn paint_rows(
     ensures { Relates block.now (colour_in block.now colours.old) (colour_in block.now colours.new)
         (painted_within lens.now back pieces.now block.now marks.now) }
 {
-    let mut guess = back;
     for r in 0..block.rows {
-        for q in 0..block.width {
-            let place = block.place(q, r);
-            let colour = colour_of(
-                &marks[place],
-                colours[place],
-                back,
-                guess,
-                pieces,
-                lens,
-                block.left + q,
-                block.first + r,
-            );
-            guess = colour;
-            colours[place] = colour;
+        let mut q = 0;
+        while q < block.width {
+            let end = run_end(marks, block, q, r);
+            paint_run(colours, marks, block, lens, back, pieces, r, q, end);
+            q = end;
         }
     }
 }
 
-/// The colour at a pixel of a mark, after pieces are drawn; a guess that is near makes it cheap.
+/// The end of a run of pixels in a row, from one of them on: their marks have one rank.
+fn run_end(marks: &[Mark], block: &Block, start: u16, r: u16) -> u16
+    requires marks { length marks.now ≡ size_of block.now }
+    requires narrow { block.now.width ≤ size_limit }
+    requires column { start < block.now.width }
+    requires row { r < block.now.rows }
+    ensures some { start < result }
+    ensures within { result ≤ block.now.width }
+    ensures ranks { HaveRank block.now marks.now r start result (mark_in block.now marks.now start r).rank }
+{
+    let rank = marks[block.place(start, r)].rank;
+    for q in start + 1..block.width {
+        let place = block.place(q, r);
+        if marks[place].rank != rank {
+            return q;
+        }
+    }
+    block.width
+}
+
+/// Paints a run of pixels in a row, whose marks have one rank.
+fn paint_run(
+    colours: &mut [[u8; 3]],
+    marks: &[Mark],
+    block: &Block,
+    lens: &Lens,
+    back: [u8; 3],
+    pieces: &[Piece],
+    r: u16,
+    start: u16,
+    end: u16,
+)
+    requires colours { length colours.old ≡ size_of block.now }
+    requires marks { length marks.now ≡ size_of block.now }
+    requires block { IsBlockOf lens.now block.now }
+    requires pieces { All (IsPieceOf lens.now) pieces.now }
+    requires row { r < block.now.rows }
+    requires some { start < end }
+    requires within { end ≤ block.now.width }
+    requires ranks { HaveRank block.now marks.now r start end (mark_in block.now marks.now start r).rank }
+    ensures { SpanRelates block.now (colour_in block.now colours.old) (colour_in block.now colours.new)
+        (painted_within lens.now back pieces.now block.now marks.now) r start end }
+{
+    let place = block.place(start, r);
+    let rank = marks[place].rank as usize;
+    if 0 < rank && rank <= pieces.len() {
+        let index = rank - 1;
+        paint_piece(
+            colours,
+            marks,
+            block,
+            lens,
+            back,
+            pieces,
+            &pieces[index],
+            r,
+            start,
+            end,
+        );
+    } else {
+        paint_pixels(colours, marks, block, lens, back, pieces, r, start, end);
+    }
+}
+
+/// Paints a run of pixels in a row, at which a piece is nearest.
+fn paint_piece(
+    colours: &mut [[u8; 3]],
+    marks: &[Mark],
+    block: &Block,
+    lens: &Lens,
+    back: [u8; 3],
+    pieces: &[Piece],
+    piece: &Piece,
+    r: u16,
+    start: u16,
+    end: u16,
+)
+    requires colours { length colours.old ≡ size_of block.now }
+    requires marks { length marks.now ≡ size_of block.now }
+    requires block { IsBlockOf lens.now block.now }
+    requires pieces { All (IsPieceOf lens.now) pieces.now }
+    requires ready { IsPieceOf lens.now piece.now }
+    requires row { r < block.now.rows }
+    requires some { start < end }
+    requires within { end ≤ block.now.width }
+    requires nearest { (q : ℕ) → start ≤ q → q < end → IsRanked pieces.now piece.now (mark_in block.now marks.now q r).rank }
+    ensures { SpanRelates block.now (colour_in block.now colours.old) (colour_in block.now colours.new)
+        (painted_within lens.now back pieces.now block.now marks.now) r start end }
+{
+    match &piece.ready {
+        Ready::Face(face) => paint_face(colours, block, face, r, start, end),
+        _ => paint_pixels(colours, marks, block, lens, back, pieces, r, start, end),
+    }
+}
+
+/// Paints pixels in a row by a face, from each pixel to the next.
+fn paint_face(colours: &mut [[u8; 3]], block: &Block, face: &Face, r: u16, start: u16, end: u16)
+    requires colours { length colours.old ≡ size_of block.now }
+    requires columns { block.now.left + block.now.width ≤ size_limit }
+    requires rows { block.now.first + block.now.rows ≤ size_limit }
+    requires row { r < block.now.rows }
+    requires some { start < end }
+    requires within { end ≤ block.now.width }
+    ensures { SpanRelates block.now (colour_in block.now colours.old) (colour_in block.now colours.new)
+        (shaded_within face.now block.now) r start end }
+{
+    let steps = Sums::steps(face);
+    let mut sums = Sums::at(face, block.left + start, block.first + r);
+    let mut guess = first_guess(colours, block, face, start, r);
+    for q in start..end {
+        let place = block.place(q, r);
+        let colour = sums.colour(face, guess, block.left + q, block.first + r);
+        colours[place] = colour;
+        guess = colour;
+        sums = sums.plus(&steps);
+    }
+}
+
+/// A guess of a face's colour at a pixel: that of the pixel above; where there is none, that of a vertex.
+fn first_guess(colours: &[[u8; 3]], block: &Block, face: &Face, q: u16, r: u16) -> [u8; 3]
+    requires colours { length colours.now ≡ size_of block.now }
+    requires column { q < block.now.width }
+    requires row { r < block.now.rows }
+{
+    if r == 0 {
+        face.colours[0]
+    } else {
+        let place = block.place(q, r - 1);
+        colours[place]
+    }
+}
+
+/// Paints pixels in a row, each by itself.
+fn paint_pixels(
+    colours: &mut [[u8; 3]],
+    marks: &[Mark],
+    block: &Block,
+    lens: &Lens,
+    back: [u8; 3],
+    pieces: &[Piece],
+    r: u16,
+    start: u16,
+    end: u16,
+)
+    requires colours { length colours.old ≡ size_of block.now }
+    requires marks { length marks.now ≡ size_of block.now }
+    requires block { IsBlockOf lens.now block.now }
+    requires pieces { All (IsPieceOf lens.now) pieces.now }
+    requires row { r < block.now.rows }
+    requires some { start < end }
+    requires within { end ≤ block.now.width }
+    ensures { SpanRelates block.now (colour_in block.now colours.old) (colour_in block.now colours.new)
+        (painted_within lens.now back pieces.now block.now marks.now) r start end }
+{
+    for q in start..end {
+        let place = block.place(q, r);
+        let colour = colour_of(
+            &marks[place],
+            colours[place],
+            back,
+            pieces,
+            lens,
+            block.left + q,
+            block.first + r,
+        );
+        colours[place] = colour;
+    }
+}
+
+/// The colour at a pixel of a mark, after pieces are drawn.
 fn colour_of(
     mark: &Mark,
     before: [u8; 3],
     back: [u8; 3],
-    guess: [u8; 3],
     pieces: &[Piece],
     lens: &Lens,
     px: u16,
@@ -101,7 +263,7 @@ fn colour_of(
     }
     let index = mark.rank as usize - 1;
     if index < pieces.len() {
-        colour(&pieces[index], guess, lens, px, py)
+        colour(&pieces[index], back, lens, px, py)
     } else {
         back
     }

@@ -1,46 +1,41 @@
 //! A piece at a pixel.
-ghost use Rattle.std.specs.Prelude.{◌≡◌, ◌+◌, ◌<◌, option_map, true, IfSome, Some, []};
+ghost use Rattle.std.specs.Prelude.{◌≡◌, ℕ, ◌+◌, ◌<◌, true, IfSome, Some, []};
 ghost use Rattle.fx_math.specs.Limits.{size_limit};
 ghost use Rattle.tri_cover.specs.Faces as faces;
 ghost use Rattle.tri_cover.specs.declared.hit.Hit.{Hit};
+ghost use Rattle.fx_math.specs.declared.lenses.Lens.{Lens};
 ghost use Rattle.tri_cover.specs.Hits.{hit};
 ghost use Rattle.depth_raster.specs.Around.{IsWithin};
 ghost use Rattle.depth_raster.specs.Faces.{glazed_by_face, glazed_by_hit};
-ghost use Rattle.depth_raster.specs.Marks.{mark_of, mark_with, mark_over, behind_as};
-ghost use Rattle.depth_raster.specs.Pieces.{IsPieceOf};
+ghost use Rattle.depth_raster.specs.Edges.{AreValuesAt};
+ghost use Rattle.depth_raster.specs.Marks.{mark_over, behind_as};
+ghost use Rattle.depth_raster.specs.Pieces.{IsPieceOf, HasFace};
 
+use crate::edges::EdgeValues;
 use crate::faces::Face;
 use crate::glazing::blend;
-use crate::looks::look;
+use crate::looks::{look, look_by};
 use crate::marks::Mark;
 use crate::pieces::Piece;
 use crate::shades::shade;
 use fx_math::Lens;
 use tri_cover::Ready;
 
-/// The nearer of a mark and a piece at a pixel.
-pub(crate) fn nearer(piece: &Piece, mark: Mark, lens: &Lens, px: u16, py: u16) -> Mark
-    requires x { px < lens.now.w }
-    requires y { py < lens.now.h }
-    requires ready { IsPieceOf lens.now piece.now }
-    requires inside { IsWithin piece.now.extent px py }
-    ensures { result ≡ mark_over lens.now px py piece.now.face mark }
+/// The nearer of a mark and a piece of a face at a pixel where the face has these edge values; a guess of its depth that is
+/// near makes it cheap.
+pub(crate) fn nearer(
+    piece: &Piece,
+    face: &tri_cover::Face,
+    values: &EdgeValues,
+    guess: u32,
+    mark: Mark,
+) -> Mark
+    requires face { HasFace piece.now face.now }
+    ensures { (lens : Lens) (px py : ℕ) → px < lens.w → py < lens.h → IsPieceOf lens piece.now → IsWithin piece.now.extent px py
+        → AreValuesAt face.now px py values.now → result ≡ mark_over lens px py piece.now.face mark }
 {
-    match &piece.ready {
-        Ready::Face(face) => nearer_face(face, &piece.face, mark, px, py),
-        _ => piece.face.over(mark, lens, px, py),
-    }
-}
-
-/// The nearer of a mark and a face at a pixel.
-fn nearer_face(face: &tri_cover::Face, label: &Face, mark: Mark, px: u16, py: u16) -> Mark
-    requires x { px < size_limit }
-    requires y { py < size_limit }
-    requires inside { faces.is_in_box face.now.extent px py ≡ true }
-    ensures { result ≡ mark_with mark (option_map (mark_of label.now) (faces.face_hit face.now px py)) }
-{
-    match look(face, limit(mark.depth, label.shift), px, py) {
-        Some(depth) => mark.lesser(label.mark(depth)),
+    match look_by(face, values, limit(mark.depth, piece.face.shift), guess) {
+        Some(depth) => mark.lesser(piece.face.mark(depth)),
         None => mark,
     }
 }

@@ -127,7 +127,7 @@ fn draw_strips<R: Threads + Sync>(
     ensures colours { (px py : ℕ) → px < lens.now.w → py < lens.now.h
         → colour_at strips.new px py ≡ picture lens.now back (instances_in list.now) px py }
 {
-    clear_strips(strips);
+    clear_strips(rt, lens, strips);
     opaque::draw_opaque(rt, strips, batch, lens, back, list);
     opaque::flush(rt, strips, batch, lens, back);
     glass::draw_glass(rt, strips, batch, lens, list);

@@ -89,7 +89,7 @@ pub(crate) fn shade(face: &Face, guess: [u8; 3], px: u16, py: u16) -> [u8; 3]
 
 /// A quotient of at most 255, from a guess.
 #[tactic(auto, using(crate::proofs::Looking::quotient_is))]
-fn near(dividend: u64, sum: u64, guess: u8) -> u8
+pub(crate) fn near(dividend: u64, sum: u64, guess: u8) -> u8
     requires some { 0 < sum }
     requires small { sum ≤ 2 ^ 55 }
     requires most { dividend ≤ 255 * sum }

@@ -3,11 +3,10 @@ ghost use Rattle.std.specs.Prelude.{◌≡◌, ℕ, ◌+◌, ◌*◌, ◌<◌, �
 ghost use Rattle.ppm_out.specs.Pixmap.{SetsRows, pixel};
 ghost use Rattle.depth_raster.specs.Blocks.{size_of, colour_in};
 ghost use Rattle.depth_raster.specs.Following.{Relates};
-ghost use Rattle.depth_raster.specs.Shown.{tile_colour, tile_coloured, IsAssembled};
+ghost use Rattle.depth_raster.specs.Shown.{tile_coloured, IsRowCopied, IsAssembled};
 ghost use Rattle.depth_raster.specs.Strips.{AreTilesOf, AreStrips};
 ghost use Rattle.depth_raster.specs.declared.strip.Strip.{Strip};
 
-use crate::across::COLUMNS;
 use crate::blocks::Block;
 use crate::strip::Strip;
 use crate::tile::Tile;
@@ -40,23 +39,27 @@ fn copy_rows(pixels: &mut [[u8; 3]], tiles: &[Tile], band: &Block)
     ensures { Relates band.now (colour_in band.now pixels.old) (colour_in band.now pixels.new) (tile_coloured tiles.now) }
 {
     for r in 0..band.rows {
-        for q in 0..band.width {
-            let place = band.place(q, r);
-            let colour = colour_at(tiles, band, q, r);
-            pixels[place] = colour;
+        for j in 0..tiles.len() {
+            let tile = &tiles[j];
+            copy_row(pixels, &tile.colours, &tile.block, band, r);
         }
     }
 }
 
-/// The colour of the tiles of a band in a column and a row.
-fn colour_at(tiles: &[Tile], band: &Block, q: u16, r: u16) -> [u8; 3]
-    requires tiles { AreTilesOf band.now tiles.now }
-    requires column { q < band.now.width }
+/// Puts a row of the colours of a block among those of a band.
+fn copy_row(pixels: &mut [[u8; 3]], colours: &[[u8; 3]], block: &Block, band: &Block, r: u16)
+    requires pixels { length pixels.old ≡ size_of band.now }
+    requires colours { length colours.now ≡ size_of block.now }
     requires row { r < band.now.rows }
-    ensures { result ≡ tile_colour tiles.now q r }
+    requires rows { block.now.rows ≡ band.now.rows }
+    requires columns { block.now.left + block.now.width ≤ band.now.width }
+    ensures { IsRowCopied band.now block.now colours.now r pixels.old pixels.new }
 {
-    let tile = &tiles[(q / COLUMNS) as usize];
-    tile.colours[tile.block.place(q % COLUMNS, r)]
+    let start = band.place(block.left, r);
+    let end = start + block.width as usize;
+    let from = block.place(0, r);
+    let row = &colours[from..from + block.width as usize];
+    pixels[start..end].copy_from_slice(row);
 }
 
 /// Puts the colours of all strips into an image.

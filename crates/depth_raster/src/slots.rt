@@ -22,6 +22,7 @@ pub(crate) fn fill(slots: &mut Vec<Slot>, pieces: &[Piece])
     requires room { length pieces.now ≤ vec_capacity slots.old }
     requires few { length pieces.now ≤ 16384 }
     ensures capacity { vec_capacity slots.old ≤ vec_capacity slots.new }
+    ensures count { length slots.new.items ≡ length pieces.now }
     ensures slots { (lens : Lens) → AreSlotsOf lens pieces.now slots.new.items }
 {
     slots.clear();
@@ -31,7 +32,7 @@ pub(crate) fn fill(slots: &mut Vec<Slot>, pieces: &[Piece])
 }
 
 /// Appends a slot, for which there is room.
-fn append(slots: &mut Vec<Slot>, slot: Slot)
+pub(crate) fn append(slots: &mut Vec<Slot>, slot: Slot)
     requires { vec_len slots.old < vec_capacity slots.old }
     ensures items { slots.new.items ≡ slots.old.items ++ slot ∷ [] }
     ensures capacity { vec_capacity slots.old ≤ vec_capacity slots.new }
@@ -66,6 +67,7 @@ fn least_depth(u: Vec3, v: Vec3, w: Vec3) -> i32 {
 pub(crate) fn sort(slots: &mut Vec<Slot>, pieces: &[Piece])
     requires slots { (lens : Lens) → AreSlotsOf lens pieces.now slots.old.items }
     ensures capacity { vec_capacity slots.new ≡ vec_capacity slots.old }
+    ensures count { length slots.new.items ≡ length slots.old.items }
     ensures slots { (lens : Lens) → AreSlotsOf lens pieces.now slots.new.items }
 {
     slots.sort_unstable_by_key(|slot| slot.nearest);

@@ -3,7 +3,7 @@ ghost use Rattle.std.specs.Prelude.{◌≡◌, ◌<◌, All, length};
 ghost use Rattle.std.specs.Thread.{IsSync};
 ghost use Rattle.depth_raster.specs.Blocks.{IsBlockOf};
 ghost use Rattle.depth_raster.specs.Pieces.{IsPieceOf, AreRanked};
-ghost use Rattle.depth_raster.specs.Slots.{AreSlotsOf};
+ghost use Rattle.depth_raster.specs.Shares.{AreSlotsFor, AreSharesOf};
 ghost use Rattle.depth_raster.specs.Strips.{AreTilesOf, TilesRelate, IsStripOf, StripRelates, StripsRelate};
 ghost use Rattle.depth_raster.specs.Tiles.{IsCleared, IsPainted, IsDrawn};
 
@@ -11,18 +11,48 @@ use crate::across::draw_slots;
 use crate::blocks::Block;
 use crate::painting::{clear, paint};
 use crate::pieces::Piece;
+use crate::share::Share;
+use crate::shares::HEIGHT;
 use crate::slots::Slot;
 use crate::strip::Strip;
 use crate::tile::Tile;
 use crate::work::is_much;
 use fx_math::Lens;
-use std::thread::{Threads, join_mut};
+use std::thread::{Threads, for_each_mut, join_mut};
 
 /// The rows of a strip; the last one of a picture may have fewer.
 pub(crate) const ROWS: u16 = 16;
 
-/// Clears the marks of strips.
-pub(crate) fn clear_strips(strips: &mut [Strip])
+/// In how many threads strips are cleared.
+const CLEARERS: usize = 4;
+
+/// Clears the marks of strips: of a wide picture's in some threads.
+pub(crate) fn clear_strips<R: Threads + Sync>(rt: &R, lens: &Lens, strips: &mut [Strip])
+    ensures { StripsRelate IsCleared strips.old strips.new }
+{
+    if is_much(u64::from(lens.w) * u64::from(lens.h)) {
+        clear_beside(rt, strips);
+    } else {
+        clear_in_turn(strips);
+    }
+}
+
+/// Clears the marks of strips in some threads.
+fn clear_beside<R: Threads + Sync>(rt: &R, strips: &mut [Strip])
+    ensures { StripsRelate IsCleared strips.old strips.new }
+{
+    for_each_mut(
+        rt,
+        strips,
+        CLEARERS,
+        &|_i: usize, strip: &mut Strip|
+            ensures { StripRelates IsCleared strip.entry.now strip.exit.now }
+        { clear_tiles(strip) },
+    );
+}
+
+/// Clears the marks of strips one after the other.
+fn clear_in_turn(strips: &mut [Strip])
     ensures { StripsRelate IsCleared strips.old strips.new }
 {
     for i in 0..strips.len() {
@@ -47,21 +77,21 @@ pub(crate) fn draw_strips<R: Threads + Sync>(
     lens: &Lens,
     back: [u8; 3],
     pieces: &[Piece],
-    slots: &[Slot],
+    shares: &[Share],
     strips: &mut [Strip],
 )
     requires strips { All (IsStripOf lens.now) strips.old }
     requires pieces { All (IsPieceOf lens.now) pieces.now }
     requires ranks { AreRanked pieces.now }
-    requires slots { AreSlotsOf lens.now pieces.now slots.now }
+    requires shares { AreSharesOf lens.now pieces.now shares.now }
     ensures { StripsRelate (IsDrawn lens.now back pieces.now) strips.old strips.new }
 {
     if strips.len() < 2 {
-        draw_last(strips, lens, back, pieces, slots);
+        draw_last(strips, lens, back, pieces, shares);
         return;
     }
     let (upper, lower) = strips.split_at_mut(strips.len() / 2);
-    draw_halves(rt, work, lens, back, pieces, slots, upper, lower);
+    draw_halves(rt, work, lens, back, pieces, shares, upper, lower);
 }
 
 /// Draws opaque pieces in the two halves of strips, each of which has about half the work.
@@ -72,7 +102,7 @@ fn draw_halves<R: Threads + Sync>(
     lens: &Lens,
     back: [u8; 3],
     pieces: &[Piece],
-    slots: &[Slot],
+    shares: &[Share],
     upper: &mut [Strip],
     lower: &mut [Strip],
 )
@@ -82,54 +112,55 @@ fn draw_halves<R: Threads + Sync>(
     requires lower { All (IsStripOf lens.now) lower.old }
     requires pieces { All (IsPieceOf lens.now) pieces.now }
     requires ranks { AreRanked pieces.now }
-    requires slots { AreSlotsOf lens.now pieces.now slots.now }
+    requires shares { AreSharesOf lens.now pieces.now shares.now }
     ensures upper { StripsRelate (IsDrawn lens.now back pieces.now) upper.old upper.new }
     ensures lower { StripsRelate (IsDrawn lens.now back pieces.now) lower.old lower.new }
 {
     let half = work / 2;
     if !is_much(work) {
-        draw_strips(rt, half, lens, back, pieces, slots, upper);
-        draw_strips(rt, half, lens, back, pieces, slots, lower);
+        draw_strips(rt, half, lens, back, pieces, shares, upper);
+        draw_strips(rt, half, lens, back, pieces, shares, lower);
         return;
     }
     let mut above = ||
         requires { IsSync R.row × All (IsStripOf lens.now) upper.now × All (IsPieceOf lens.now) pieces.now
-            × AreRanked pieces.now × AreSlotsOf lens.now pieces.now slots.now }
+            × AreRanked pieces.now × AreSharesOf lens.now pieces.now shares.now }
         ensures { StripsRelate (IsDrawn lens.entry.now back pieces.entry.now) upper.entry.now upper.exit.now }
-    { draw_strips(rt, half, lens, back, pieces, slots, upper) };
+    { draw_strips(rt, half, lens, back, pieces, shares, upper) };
     let mut below = ||
         requires { IsSync R.row × All (IsStripOf lens.now) lower.now × All (IsPieceOf lens.now) pieces.now
-            × AreRanked pieces.now × AreSlotsOf lens.now pieces.now slots.now }
+            × AreRanked pieces.now × AreSharesOf lens.now pieces.now shares.now }
         ensures { StripsRelate (IsDrawn lens.entry.now back pieces.entry.now) lower.entry.now lower.exit.now }
-    { draw_strips(rt, half, lens, back, pieces, slots, lower) };
+    { draw_strips(rt, half, lens, back, pieces, shares, lower) };
     join_mut(rt, &mut above, &mut below);
 }
 
 /// Draws opaque pieces in a strip that is not halved any more, or in none.
-fn draw_last(strips: &mut [Strip], lens: &Lens, back: [u8; 3], pieces: &[Piece], slots: &[Slot])
+fn draw_last(strips: &mut [Strip], lens: &Lens, back: [u8; 3], pieces: &[Piece], shares: &[Share])
     requires few { length strips.old < 2 }
     requires strips { All (IsStripOf lens.now) strips.old }
     requires pieces { All (IsPieceOf lens.now) pieces.now }
     requires ranks { AreRanked pieces.now }
-    requires slots { AreSlotsOf lens.now pieces.now slots.now }
+    requires shares { AreSharesOf lens.now pieces.now shares.now }
     ensures { StripsRelate (IsDrawn lens.now back pieces.now) strips.old strips.new }
 {
     if strips.is_empty() {
         return;
     }
-    draw_strip(&mut strips[0], lens, back, pieces, slots);
+    draw_strip(&mut strips[0], lens, back, pieces, shares);
 }
 
 /// Draws opaque pieces in a strip.
-fn draw_strip(strip: &mut Strip, lens: &Lens, back: [u8; 3], pieces: &[Piece], slots: &[Slot])
+fn draw_strip(strip: &mut Strip, lens: &Lens, back: [u8; 3], pieces: &[Piece], shares: &[Share])
     requires strip { IsStripOf lens.now strip.old }
     requires pieces { All (IsPieceOf lens.now) pieces.now }
     requires ranks { AreRanked pieces.now }
-    requires slots { AreSlotsOf lens.now pieces.now slots.now }
+    requires shares { AreSharesOf lens.now pieces.now shares.now }
     ensures { StripRelates (IsDrawn lens.now back pieces.now) strip.old strip.new }
 {
     let band = strip.band;
-    draw_tiles(&mut strip.tiles, &band, lens, back, pieces, slots);
+    let share = &shares[(band.first / HEIGHT) as usize];
+    draw_tiles(&mut strip.tiles, &band, lens, back, pieces, &share.slots);
 }
 
 fn draw_tiles(
@@ -144,7 +175,7 @@ fn draw_tiles(
     requires band { IsBlockOf lens.now band.now }
     requires pieces { All (IsPieceOf lens.now) pieces.now }
     requires ranks { AreRanked pieces.now }
-    requires slots { AreSlotsOf lens.now pieces.now slots.now }
+    requires slots { AreSlotsFor lens.now pieces.now band.now slots.now }
     ensures { TilesRelate (IsDrawn lens.now back pieces.now) tiles.old tiles.new }
 {
     draw_slots(tiles, band, lens, pieces, slots);

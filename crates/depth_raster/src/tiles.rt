@@ -2,17 +2,19 @@
 ghost use Rattle.std.specs.Prelude.{◌≡◌, ◌+◌, ◌<◌, ◌≤◌, All, IsTrue, length};
 ghost use Rattle.depth_raster.specs.Blocks.{IsBlockOf, size_of};
 ghost use Rattle.depth_raster.specs.Following.{Follows, RowFollows};
-ghost use Rattle.depth_raster.specs.Pieces.{IsPieceOf};
+ghost use Rattle.depth_raster.specs.Pieces.{IsPieceOf, HasFace};
 ghost use Rattle.depth_raster.specs.Tiles.{mark_in, within, face_over, MarksFollow, IsBehind};
 
 use crate::blocks::Block;
+use crate::edges::EdgeValues;
+use crate::guesses::Guesses;
 use crate::hiding::is_hidden;
 use crate::marks::Mark;
 use crate::pieces::Piece;
 use crate::pixels::{limit, nearer};
 use crate::tile::Tile;
 use fx_math::Lens;
-use tri_cover::Ready;
+use tri_cover::{Face, Ready};
 
 /// Draws a piece over the marks of a tile.
 pub(crate) fn draw_piece(tile: &mut Tile, lens: &Lens, piece: &Piece)
@@ -67,13 +69,41 @@ fn draw_marks(marks: &mut [Mark], block: &Block, lens: &Lens, piece: &Piece)
         (within block.now (face_over lens.now piece.now.face)) }
 {
     let extent = piece.extent;
+    let mut guesses = Guesses::new();
     for r in block.rows_from(extent.top)..block.rows_to(extent.bottom) {
-        draw_row(marks, block, lens, piece, r);
+        guesses = draw_row(marks, block, lens, piece, r, guesses);
     }
 }
 
-/// Draws a piece over the marks of a row of a block.
-fn draw_row(marks: &mut [Mark], block: &Block, lens: &Lens, piece: &Piece, r: u16)
+/// Draws a piece over the marks of a row of a block. It answers the guesses for the next row.
+fn draw_row(
+    marks: &mut [Mark],
+    block: &Block,
+    lens: &Lens,
+    piece: &Piece,
+    r: u16,
+    guesses: Guesses,
+) -> Guesses
+    requires len { length marks.old ≡ size_of block.now }
+    requires block { IsBlockOf lens.now block.now }
+    requires ready { IsPieceOf lens.now piece.now }
+    requires row { r < block.now.rows }
+    requires top { piece.now.extent.top ≤ block.now.first + r }
+    requires bottom { block.now.first + r < piece.now.extent.bottom }
+    ensures { RowFollows block.now (mark_in block.now marks.old) (mark_in block.now marks.new)
+        (within block.now (face_over lens.now piece.now.face)) r }
+{
+    match &piece.ready {
+        Ready::Face(face) => draw_face(marks, block, lens, piece, face, r, guesses),
+        _ => {
+            draw_pixels(marks, block, lens, piece, r);
+            guesses
+        }
+    }
+}
+
+/// Draws a piece over the marks of a row of a block, each by itself.
+fn draw_pixels(marks: &mut [Mark], block: &Block, lens: &Lens, piece: &Piece, r: u16)
     requires len { length marks.old ≡ size_of block.now }
     requires block { IsBlockOf lens.now block.now }
     requires ready { IsPieceOf lens.now piece.now }
@@ -86,7 +116,50 @@ fn draw_row(marks: &mut [Mark], block: &Block, lens: &Lens, piece: &Piece, r: u1
     let extent = piece.extent;
     for q in block.columns_from(extent.left)..block.columns_to(extent.right) {
         let place = block.place(q, r);
-        let nearer = nearer(piece, marks[place], lens, block.left + q, block.first + r);
-        marks[place] = nearer;
+        let over = piece
+            .face
+            .over(marks[place], lens, block.left + q, block.first + r);
+        marks[place] = over;
     }
+}
+
+/// Draws the piece of a face over the marks of a row of a block, from each pixel to the next.
+fn draw_face(
+    marks: &mut [Mark],
+    block: &Block,
+    lens: &Lens,
+    piece: &Piece,
+    face: &Face,
+    r: u16,
+    guesses: Guesses,
+) -> Guesses
+    requires len { length marks.old ≡ size_of block.now }
+    requires block { IsBlockOf lens.now block.now }
+    requires ready { IsPieceOf lens.now piece.now }
+    requires row { r < block.now.rows }
+    requires top { piece.now.extent.top ≤ block.now.first + r }
+    requires bottom { block.now.first + r < piece.now.extent.bottom }
+    requires face { HasFace piece.now face.now }
+    ensures { RowFollows block.now (mark_in block.now marks.old) (mark_in block.now marks.new)
+        (within block.now (face_over lens.now piece.now.face)) r }
+{
+    let start = block.columns_from(piece.extent.left);
+    let end = block.columns_to(piece.extent.right);
+    if end <= start {
+        return guesses;
+    }
+    let shift = piece.face.shift;
+    let steps = EdgeValues::steps(face);
+    let mut values = EdgeValues::at(face, block.left + start, block.first + r);
+    let mut guess = guesses.row();
+    for q in start..end {
+        let place = block.place(q, r);
+        let nearer = nearer(piece, face, &values, guess.next(), marks[place]);
+        guess = guess.after(nearer.depth.wrapping_add(shift));
+        marks[place] = nearer;
+        values = values.plus(&steps);
+    }
+    let first = marks[block.place(start, r)].depth;
+    let second = marks[block.place((start + 1).min(end - 1), r)].depth;
+    guesses.after_row(first.wrapping_add(shift), second.wrapping_add(shift))
 }

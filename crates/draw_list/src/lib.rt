@@ -16,6 +16,3 @@ pub(crate) mod steps;
 pub use items::{Item, Span, Tint};
 pub use lists::DrawList;
 pub use stats::Stats;
-
-#[cfg(test)]
-mod tests;

@@ -37,7 +37,7 @@ asked_next g w step given going next =
 
 -- what was given stays as a line is passed
 pub given_passed : (g : Setup) (w w' : AppWork) (step : AppStep) → IsGiven g w → next_step w.rest ≡ Some step →
-    w' ≡ record w { rest = drop 1 w.rest; state = w'.state } → w'.state.at ≡ w.state.at + 1 → IsGiven g w'
+    w' ≡ record w { rest = drop 1 w.rest; state = w'.state; home = w'.home } → w'.state.at ≡ w.state.at + 1 → IsGiven g w'
 given_passed g w w' step given next is at =
     record {
       within = let here = line_there w.state.at g.lines step (ap next_step (sym given.rest) ∙ next) in omega (arith, here, at);

@@ -20,8 +20,10 @@ use Rattle.frame_stages.specs.Scripts.{next_step}
 use Rattle.frame_stages.specs.Flights.{FlightState, SinkSide, CameBack, CameShort}
 use Rattle.frame_stages.specs.AppTurns.{Marks}
 use Rattle.frame_stages.specs.AppWorks.{AppWork, work_of, holds_end, holding, merges_in}
+use Rattle.frame_stages.specs.Copies.{HoldsCopies, HasHome}
 use Rattle.frame_stages.specs.AppAnswers.{Ends, around, with_back, with_sent, IsBackFrom, Polled}
 use Rattle.frame_stages.proofs.AppLogs.{keeps_found, merges_found}
+use Rattle.frame_stages.proofs.AppHome.{home_found, home_same, home_back}
 use Rattle.frame_stages.proofs.AppAsks.{asked_at, asked_next, given_passed}
 use Rattle.frame_stages.proofs.AppPolled.{kept_on, idle}
 
@@ -56,6 +58,14 @@ came_back k a f packet seen told taken taken' told_sent sink sink' ends took awa
                 ((app_law g k (work_of a).state seen taken ends.sent stream keeps).writes packet f.spare f.stats whole
                 (omega (arith, all, short, away)) came.kept.spare came.kept.stats);
           };
+      home = λ g stream given own keeps has.
+          let after : AppWork = record (work_of a) {
+            state = record (work_of a).state { written = a.flight.written + 1; spare = f.spare; stats = f.stats };
+            home = f.home;
+          } in
+          subst (λ (t : List Packet). HasHome g k after seen t) (sym took)
+          (home_back g k (work_of a) after seen taken ends.sent stream packet given keeps away whole refl came.kept.home has);
+      counted = λ holds right. holds;
       waited = λ enough. enough;
       whole = λ ok. refl;
       adds = record { found = seen; goes_on = found-self k seen; adds = inl refl };
@@ -74,9 +84,10 @@ came_back k a f packet seen told taken taken' told_sent sink sink' ends took awa
 pub came_short : (k : ℕ) (a : Application) (f : FlightState) (packet : Packet) (seen seen' : Log) (told told' : Option SceneState)
     (taken taken' : List Packet) (told_sent : Option (List Packet)) (sink sink' : SinkSide) (ends : Ends) → taken' ≡ taken ++ packet ∷ [] →
     a.flight.written < a.flight.frames → a.flight.fault ≡ None → CameShort packet a.flight f sink sink' → Marks k seen told seen' told' →
+    (HoldsCopies told → HoldsCopies told') →
     Polled k (Err error.FrameFault) (work_of a) (work_of (record a { flight = f }))
     (around seen told (with_back taken told_sent sink ends)) (around seen' told' (with_back taken' told_sent sink' ends))
-came_short k a f packet seen seen' told told' taken taken' told_sent sink sink' ends took away whole came marks =
+came_short k a f packet seen seen' told told' taken taken' told_sent sink sink' ends took away whole came marks counted =
     subst (λ (v : FlightState). Polled k (Err error.FrameFault) (work_of a) (work_of (record a { flight = v }))
     (around seen told (with_back taken told_sent sink ends)) (around seen' told' (with_back taken' told_sent sink' ends))) (sym came.state)
     (record {
@@ -102,6 +113,15 @@ came_short k a f packet seen seen' told told' taken taken' told_sent sink sink' 
                 ((app_law g k (work_of a).state seen taken ends.sent stream keeps).fails packet came.bytes f.spare f.stats whole
                 (omega (arith, all, short, away)) came.kept.spare came.kept.stats));
           };
+      home = λ g stream given own keeps has.
+          let after : AppWork = record (work_of a) {
+            state = record (work_of a).state { fault = Some came.bytes; spare = f.spare; stats = f.stats };
+            home = f.home;
+          } in
+          subst (λ (t : List Packet). HasHome g k after seen' t) (sym took)
+          (home_found g k after seen seen' (taken ++ packet ∷ []) marks.goes_on
+          (home_back g k (work_of a) after seen taken ends.sent stream packet given keeps away whole refl came.kept.home has));
+      counted = λ holds right. counted holds;
       waited = λ enough. let more = merges_found k seen seen' marks.goes_on in omega (arith, enough, more);
       whole = λ ok. absurd (cc);
       adds = record { found = seen'; goes_on = marks.goes_on; adds = inl refl };
@@ -144,6 +164,9 @@ was_sent k a packet last seen told sent sent' room told_taken ends bare going la
           (record (work_of a).state { closed = a.ended || is_end packet; ended = a.ended || is_end packet; held = None }) seen ends.taken t stream)
           (sym pushed)
           ((app_law g k (holding packet (work_of a)).state seen ends.taken sent stream keeps).sends packet refl)));
+      home = λ g stream given own keeps has.
+          home_same g k (holding packet (work_of a)) (work_of (record a { ended = last })) seen ends.taken refl refl has;
+      counted = λ holds right. holds;
       waited = λ enough. enough;
       whole = λ ok. refl;
       adds = record { found = seen; goes_on = found-self k seen; adds = inl refl };
@@ -185,6 +208,8 @@ passes_wait k wanted w seen told ends going next here before =
           ((app_law g k w.state seen ends.taken ends.sent stream keeps).waits (w.state.at + 1) (max w.state.need wanted) (omega arith)
           (asked_at g after (given_passed g w after (app.Wait wanted) given next refl refl) going
           ∙ sym (asked_next g w (app.Wait wanted) given going next)));
+      home = λ g stream given own keeps has. home_same g k w after seen ends.taken refl refl has;
+      counted = λ holds right. holds;
       waited = λ old. enough;
       whole = λ ok. refl;
       adds = record { found = seen; goes_on = found-self k seen; adds = inl refl };

@@ -39,6 +39,7 @@ use Rattle.frame_stages.specs.AppAnswers.{Ends}
 use Rattle.frame_stages.proofs.AppLogs.{own_frames, merges_are, own_is_at}
 use Rattle.frame_stages.proofs.AppAsks.{steps, asked_at, asked_next, none_is, given_passed}
 use Rattle.frame_stages.proofs.AppPolled.{GoesOnBy}
+use Rattle.frame_stages.proofs.AppHome.{home_turn, home_synced}
 
 -- a turn of its own by the object's own entry
 own_turn : (g : Setup) (k : ℕ) (found : Shared) (c : Command) (before after : List Ask) (ask : Ask) → caller_of c ≡ App →
@@ -74,6 +75,8 @@ edit_goes k e ends w found going next enough =
           ∙ ap (λ (asks : List Ask). record { need = w.state.need; wanted = WantEdit e } ∷ asks)
           (sym (asked_at g (past w) (given_past g w (app.Edit e) given next) going)))
           refl enough);
+      home = λ g stream given keeps has.
+          home_turn g k found (command.Edit e) w (past w) ends.taken refl (λ r. refl) refl has.few has;
     }
 
 -- a view is set
@@ -96,6 +99,8 @@ view_goes k channel v ends w found going next enough =
           ∙ ap (λ (asks : List Ask). record { need = w.state.need; wanted = WantView channel v } ∷ asks)
           (sym (asked_at g (past w) (given_past g w (app.View channel v) given next) going)))
           refl enough);
+      home = λ g stream given keeps has.
+          home_turn g k found (command.View channel v) w (past w) ends.taken refl (λ r. refl) refl has.few has;
     }
 
 -- its own frames are all that were begun
@@ -105,13 +110,13 @@ frames_begun g k w log ends stream own keeps = own_frames g.channels k log own �
 
 -- a Sync was made, for a line of its own or before a Frame
 abbrev pub synced_work : Bool → AppWork → AppWork
-synced_work true w = record w { rest = drop 1 w.rest; state = record w.state { at = w.state.at + 1; synced = true } }
-synced_work false w = record w { state = record w.state { synced = true } }
+synced_work true w = record w { rest = drop 1 w.rest; state = record w.state { at = w.state.at + 1; synced = true }; home = [] }
+synced_work false w = record w { state = record w.state { synced = true }; home = [] }
 
-pub sync_goes : (asked : Bool) (k : ℕ) (ends : Ends) (w : AppWork) (found : Shared) → w.state.closed ≡ false →
+pub sync_goes : (asked : Bool) (k : ℕ) (ends : Ends) (w : AppWork) (found : Shared) → w.state.closed ≡ false → w.state.fault ≡ None →
     SyncIsNext asked w.state.synced (next_step w.rest) → w.state.need ≤ merges_in found.log → w.state.frames < w.state.written + w.ahead →
     GoesOnBy k (command.Sync w.state.written) ends w (synced_work asked w) found
-sync_goes true k ends w found going next enough room =
+sync_goes true k ends w found going whole next enough room =
     record {
       app = refl;
       at = omega arith;
@@ -129,8 +134,11 @@ sync_goes true k ends w found going next enough room =
           ∙ ap (λ (asks : List Ask). record { need = w.state.need; wanted = WantSync } ∷ asks)
           (sym (asked_at g (synced_work true w) (given_passed g w (synced_work true w) app.Sync given next refl refl) going)))
           (omega (arith, room, ahead, begun)) enough);
+      home = λ g stream given keeps has.
+          let ahead = given.ahead in
+          home_synced g k found w (synced_work true w) ends.taken ends.sent stream whole refl (omega (arith, room, ahead)) keeps;
     }
-sync_goes false k ends w found going next enough room =
+sync_goes false k ends w found going whole next enough room =
     record {
       app = refl;
       at = omega arith;
@@ -148,6 +156,9 @@ sync_goes false k ends w found going next enough room =
           ∙ ap (λ (asks : List Ask). record { need = w.state.need; wanted = WantSync } ∷ asks)
           (sym (asked_next g (synced_work false w) app.Frame (given_same g given) going next.0)))
           (omega (arith, room, ahead, begun)) enough);
+      home = λ g stream given keeps has.
+          let ahead = given.ahead in
+          home_synced g k found w (synced_work false w) ends.taken ends.sent stream whole refl (omega (arith, room, ahead)) keeps;
     }
   where
     given_same : (g : Setup) → IsGiven g w → IsGiven g (synced_work false w)
@@ -164,12 +175,12 @@ sync_goes false k ends w found going next enough room =
 
 -- the closing Sync was made, and the End is held
 abbrev pub closed_work : AppWork → AppWork
-closed_work w = record w { state = record w.state { closed = true; held = Some End } }
+closed_work w = record w { state = record w.state { closed = true; held = Some End }; home = [] }
 
-pub close_goes : (k : ℕ) (ends : Ends) (w : AppWork) (found : Shared) → w.state.closed ≡ false → w.state.held ≡ None →
+pub close_goes : (k : ℕ) (ends : Ends) (w : AppWork) (found : Shared) → w.state.closed ≡ false → w.state.fault ≡ None → w.state.held ≡ None →
     next_step w.rest ≡ None → w.state.need ≤ merges_in found.log → w.state.frames ≤ w.state.written → w.state.frames < w.state.written + w.ahead →
     w.merges ≤ merges_in found.log → GoesOnBy k (command.Sync w.state.written) ends w (closed_work w) found
-close_goes k ends w found going bare next enough back room all =
+close_goes k ends w found going whole bare next enough back room all =
     record {
       app = refl;
       at = omega arith;
@@ -199,6 +210,9 @@ close_goes k ends w found going bare next enough back room all =
           (record { need = w.state.need; wanted = WantClose }) refl
           (asked_at g w given going ∙ ap (λ (lines : List AppLine). asked_from w.state.need w.state.synced (steps lines)) (none_is w.rest next))
           (same ∙ sym begun, omega (arith, merges, all, many)) enough);
+      home = λ g stream given keeps has.
+          let ahead = given.ahead in
+          home_synced g k found w (closed_work w) ends.taken ends.sent stream whole refl (omega (arith, room, ahead)) keeps;
     }
 
 -- A frame
@@ -323,6 +337,9 @@ frame_goes k old load load' ends w found going bare synced next enough fit may c
           ∙ ap (λ (asks : List Ask). record { need = w.state.need; wanted = WantFrame } ∷ asks)
           (sym (asked_at g (begun_work load' w) (given_begun g given) going)))
           free enough);
+      home = λ g stream given keeps has.
+          let fresh = keeps.part.fresh synced in
+          home_turn g k found command.Frame (with_load old w) (begun_work load' w) ends.taken refl (λ r. refl) refl (omega (arith, fresh)) has;
     }
   where
     given_begun : (g : Setup) → IsGiven g (with_load old w) → IsGiven g (begun_work load' w)

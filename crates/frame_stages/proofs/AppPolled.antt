@@ -21,8 +21,10 @@ use Rattle.frame_stages.specs.declared.answers.StageError.{StageError}
 use Rattle.frame_stages.specs.declared.answers.StageError.TheVariants as error
 use Rattle.frame_stages.specs.AppTurns.{Tells, Made, Wanting, IsMarked, Marks}
 use Rattle.frame_stages.specs.AppWorks.{AppWork, IsGiven, AreOwnFrames, merges_in}
+use Rattle.frame_stages.specs.Copies.{HoldsCopies, IsHomeRight, HasHome}
 use Rattle.frame_stages.specs.AppAnswers.{Ends, Around, around, IsLonger, AppWaits, AppAnswers, AppAdds, KeepsOn, Polled}
 use Rattle.frame_stages.proofs.AppLogs.{keeps_found, own_front, merges_more, merges_found, one_more}
+use Rattle.frame_stages.proofs.AppHome.{home_found, home_same}
 
 append_none : (b : Option (List ℕ)) → append_known b [] ≡ b
 append_none None = refl
@@ -54,6 +56,8 @@ idle k w w' seen seen' told told' ends found same still waits =
       given = λ g given. given;
       part = λ g stream given own keeps.
           kept_on g k w.state seen' told ends stream (keeps_found g k w.state seen seen' ends.taken ends.sent stream found keeps);
+      home = λ g stream given own keeps has. home_found g k w seen seen' ends.taken found has;
+      counted = λ holds right. holds;
       waited = λ enough. let more = merges_found k seen seen' found in omega (arith, enough, more);
       whole = λ ok. refl;
       adds = record { found = seen'; goes_on = found; adds = inl refl };
@@ -69,6 +73,8 @@ over k w seen seen' told told' ends found still =
       given = λ g given. given;
       part = λ g stream given own keeps.
           kept_on g k w.state seen' told ends stream (keeps_found g k w.state seen seen' ends.taken ends.sent stream found keeps);
+      home = λ g stream given own keeps has. home_found g k w seen seen' ends.taken found has;
+      counted = λ holds right. holds;
       waited = λ enough. let more = merges_found k seen seen' found in omega (arith, enough, more);
       whole = λ ok. refl;
       adds = record { found = seen'; goes_on = found; adds = inl refl };
@@ -95,9 +101,9 @@ respare g k a log ends stream spare many keeps =
 
 -- there was no memory, and the mark is set
 pub out : (k : ℕ) (w w' : AppWork) (seen seen' : Log) (told told' : Option SceneState) (ends : Ends) →
-    Marks k seen told seen' told' → IsRespared w w' →
+    Marks k seen told seen' told' → (HoldsCopies told → IsHomeRight w told → HoldsCopies told') → IsRespared w w' →
     Polled k (Err error.NoMemory) w w' (around seen told ends) (around seen' told' ends)
-out k w w' seen seen' told told' ends marks as_before =
+out k w w' seen seen' told told' ends marks counted as_before =
     subst (λ (v : AppWork). Polled k (Err error.NoMemory) w v (around seen told ends) (around seen' told' ends)) (sym as_before.same)
     (record {
       given = λ g given. record {
@@ -113,6 +119,10 @@ out k w w' seen seen' told told' ends marks as_before =
           kept_on g k (record w.state { spare = w'.state.spare }) seen' told' ends stream
           (respare g k w.state seen' ends stream w'.state.spare as_before.many
           (keeps_found g k w.state seen seen' ends.taken ends.sent stream marks.goes_on keeps));
+      home = λ g stream given own keeps has.
+          home_same g k w (record w { state = record w.state { spare = w'.state.spare } }) seen' ends.taken refl refl
+          (home_found g k w seen seen' ends.taken marks.goes_on has);
+      counted = counted;
       waited = λ enough. let more = merges_found k seen seen' marks.goes_on in omega (arith, enough, more);
       whole = λ ok. refl;
       adds = record { found = seen'; goes_on = marks.goes_on; adds = inl refl };
@@ -156,6 +166,8 @@ pub record GoesOnBy (k : ℕ) (c : Command) (ends : Ends) (w w' : AppWork) (foun
   pub part : (g : Setup) (stream : List ℕ) → IsGiven g w → AreOwnFrames k found.log →
       AppKeeps g k w.state found.log ends.taken ends.sent stream →
       AppKeeps g k w'.state (found.log ++ own_entry found.channels found.log k c ∷ []) ends.taken ends.sent stream
+  pub home : (g : Setup) (stream : List ℕ) → IsGiven g w → AppKeeps g k w.state found.log ends.taken ends.sent stream →
+      HasHome g k w found.log ends.taken → HasHome g k w' (found.log ++ own_entry found.channels found.log k c ∷ []) ends.taken
 
 longer : (k : ℕ) (c : Command) → caller_of c ≡ App → (old new : Shared) → new ≡ entered c (seated k old) → IsLonger k old new
 longer k c app old new is =
@@ -170,9 +182,9 @@ longer k c app old new is =
 
 -- an entry was made
 pub by_entry : (k : ℕ) (c : Command) (May : Shared → Type 0) (w w' : AppWork) (seen seen' : Log) (told told' : Option SceneState) (ends : Ends)
-    (m : Made k c May seen told seen' told') → GoesOnBy k c ends w w' m.found →
+    (m : Made k c May seen told seen' told') → (HoldsCopies told → IsHomeRight w told → HoldsCopies told') → GoesOnBy k c ends w w' m.found →
     Polled k (Ok did.Did) w w' (around seen told ends) (around seen' told' ends)
-by_entry k c May w w' seen seen' told told' ends m by =
+by_entry k c May w w' seen seen' told told' ends m counted by =
     let log = m.found.log in
     let e = own_entry m.found.channels log k c in
     record {
@@ -182,6 +194,11 @@ by_entry k c May w w' seen seen' told told' ends m by =
           (subst (λ (l : Log). AppKeeps g k w'.state l ends.taken ends.sent stream) (sym m.adds)
           (by.part g stream given (own_front k log (e ∷ []) (subst (AreOwnFrames k) m.adds own))
           (keeps_found g k w.state seen log ends.taken ends.sent stream m.goes_on keeps)));
+      home = λ g stream given own keeps has.
+          subst (λ (l : Log). HasHome g k w' l ends.taken) (sym m.adds)
+          (by.home g stream given (keeps_found g k w.state seen log ends.taken ends.sent stream m.goes_on keeps)
+          (home_found g k w seen log ends.taken m.goes_on has));
+      counted = counted;
       waited = λ enough.
           let first = merges_found k seen log m.goes_on in
           let second : merges_in log ≤ merges_in seen' = subst (λ (l : Log). merges_in log ≤ merges_in l) (sym m.adds) (merges_more log (e ∷ [])) in
@@ -228,6 +245,10 @@ looked r k w w' first seen told ends after found polled =
       given = polled.given;
       part = λ g stream given own keeps.
           polled.part g stream given own (keeps_found g k w.state first seen ends.taken ends.sent stream found keeps);
+      home = λ g stream given own keeps has.
+          polled.home g stream given own (keeps_found g k w.state first seen ends.taken ends.sent stream found keeps)
+          (home_found g k w first seen ends.taken found has);
+      counted = polled.counted;
       waited = λ enough.
           let more = merges_found k first seen found in
           polled.waited (omega (arith, enough, more));

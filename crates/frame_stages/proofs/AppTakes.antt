@@ -6,6 +6,7 @@ use Rattle.seat_lock.specs.Log.{Found}
 use Rattle.seat_lock.proofs.Logs.{found-self}
 use Rattle.pf_model.specs.declared.edits.Edit.{Edit}
 use Rattle.pf_model.specs.Angles.{Viewpoint}
+use Rattle.pf_model.specs.Copies.{UpdateList}
 use Rattle.pf_model.specs.declared.lines.AppStep.{AppStep}
 use Rattle.pf_model.specs.declared.lines.AppStep.TheVariants as app
 use Rattle.pf_history.specs.declared.commands.Command.TheVariants as command
@@ -23,6 +24,7 @@ use Rattle.frame_stages.specs.Scripts.{ScriptState, next_step, passed, SyncIsNex
 use Rattle.frame_stages.specs.Flights.{FlightState, IsFitFor, begun}
 use Rattle.frame_stages.specs.AppTurns.{Bars, Made, Barred, Wanting, Marks, Begun}
 use Rattle.frame_stages.specs.AppWorks.{AppWork, work_of, holds_end, holding, with_load, merges_in}
+use Rattle.frame_stages.specs.Copies.{HoldsCopies, AreHomeward, IsHomeRight}
 use Rattle.frame_stages.specs.AppAnswers.{Ends, around, AppWaits, StepWaits, FrameWaits, SyncWaits, CloseWaits, Polled}
 use Rattle.frame_stages.proofs.AppLogs.{merges_found}
 use Rattle.frame_stages.proofs.AppPolled.{idle, out, IsRespared, marks_later, by_entry}
@@ -77,47 +79,61 @@ barred k w w' May seen seen' told told' ends step bare next same b waits =
 
 -- a step that found no memory
 pub wanting : (k : ℕ) (w w' : AppWork) (seen seen' seen'' : Log) (told told' told'' : Option SceneState) (ends : Ends) → w' ≡ w →
-    Wanting k seen told seen' told' → Marks k seen' told' seen'' told'' →
+    Wanting k seen told seen' told' → Marks k seen' told' seen'' told'' → (HoldsCopies told → IsHomeRight w told → HoldsCopies told'') →
     Polled k (Err error.NoMemory) w w' (around seen told ends) (around seen'' told'' ends)
-wanting k w w' seen seen' seen'' told told' told'' ends same want marks =
-    out k w w' seen seen'' told told'' ends (marks_later k seen seen' seen'' told told' told'' want marks)
+wanting k w w' seen seen' seen'' told told' told'' ends same want marks counted =
+    out k w w' seen seen'' told told'' ends (marks_later k seen seen' seen'' told told' told'' want marks) counted
     (subst (λ (v : AppWork). IsRespared w v) (sym same) (record { same = refl; many = refl }))
 
 -- an edit was made
 pub edited : (k : ℕ) (a : Application) (script : ScriptState) (e : Edit) (seen seen' : Log) (told told' : Option SceneState) (ends : Ends) →
     a.held ≡ None → a.ended ≡ false → next_step a.script.rest ≡ Some (app.Edit e) → a.script.need ≤ merges_in seen →
-    script ≡ passed a.script → Made k (command.Edit e) (λ s. MayEdit s e) seen told seen' told' →
+    script ≡ passed a.script → Made k (command.Edit e) (λ s. MayEdit s e) seen told seen' told' → (HoldsCopies told → HoldsCopies told') →
     Polled k (Ok did.Did) (work_of a) (work_of (record a { script = script })) (around seen told ends) (around seen' told' ends)
-edited k a script e seen seen' told told' ends bare going next enough is m =
+edited k a script e seen seen' told told' ends bare going next enough is m counted =
     subst (λ (s : ScriptState). Polled k (Ok did.Did) (work_of a) (work_of (record a { script = s })) (around seen told ends) (around seen' told' ends)) (sym is)
-    (by_entry k (command.Edit e) (λ s. MayEdit s e) (work_of a) (past (work_of a)) seen seen' told told' ends m
+    (by_entry k (command.Edit e) (λ s. MayEdit s e) (work_of a) (past (work_of a)) seen seen' told told' ends m (λ holds right. counted holds)
     (edit_goes k e ends (work_of a) m.found (not_closed a bare going) next (later k a.script.need seen m.found.log m.goes_on enough)))
 
 -- a view was set
 pub viewed : (k : ℕ) (a : Application) (script : ScriptState) (channel : ℕ) (v : Viewpoint) (seen seen' : Log) (told told' : Option SceneState)
     (ends : Ends) → a.held ≡ None → a.ended ≡ false → next_step a.script.rest ≡ Some (app.View channel v) → a.script.need ≤ merges_in seen →
-    script ≡ passed a.script → Made k (command.View channel v) (λ s. MayView s channel v) seen told seen' told' →
+    script ≡ passed a.script → Made k (command.View channel v) (λ s. MayView s channel v) seen told seen' told' → (HoldsCopies told → HoldsCopies told') →
     Polled k (Ok did.Did) (work_of a) (work_of (record a { script = script })) (around seen told ends) (around seen' told' ends)
-viewed k a script channel v seen seen' told told' ends bare going next enough is m =
+viewed k a script channel v seen seen' told told' ends bare going next enough is m counted =
     subst (λ (s : ScriptState). Polled k (Ok did.Did) (work_of a) (work_of (record a { script = s })) (around seen told ends) (around seen' told' ends)) (sym is)
-    (by_entry k (command.View channel v) (λ s. MayView s channel v) (work_of a) (past (work_of a)) seen seen' told told' ends m
+    (by_entry k (command.View channel v) (λ s. MayView s channel v) (work_of a) (past (work_of a)) seen seen' told told' ends m (λ holds right. counted holds)
     (view_goes k channel v ends (work_of a) m.found (not_closed a bare going) next (later k a.script.need seen m.found.log m.goes_on enough)))
+
+-- the lists were given back
+emptied : (a : Application) (f : FlightState) → f ≡ record a.flight { home = f.home } → f.home ≡ [] → f ≡ record a.flight { home = [] }
+emptied a f same none = same ∙ ap (λ (ls : List UpdateList). record a.flight { home = ls }) none
+
+-- the lists that were to go home stay
+pub unsent : (a : Application) (f : FlightState) → f ≡ record a.flight { home = f.home } → f.home ≡ a.flight.home →
+    work_of (record a { flight = f }) ≡ work_of a
+unsent a f same stay =
+    ap (λ (v : FlightState). work_of (record a { flight = v })) same
+    ∙ ap (λ (ls : List UpdateList). work_of (record a { flight = record a.flight { home = ls } })) stay
 
 -- a Sync was made
 pub synced : (asked : Bool) (k : ℕ) (a a' : Application) (f : FlightState) (seen seen' : Log) (told told' : Option SceneState) (ends : Ends) →
-    a.held ≡ None → a.ended ≡ false → SyncIsNext asked a.synced (next_step a.script.rest) → a.script.need ≤ merges_in seen →
-    a.flight.frames < a.flight.written + a.flight.ahead → f ≡ a.flight →
+    a.held ≡ None → a.ended ≡ false → a.flight.fault ≡ None → SyncIsNext asked a.synced (next_step a.script.rest) → a.script.need ≤ merges_in seen →
+    a.flight.frames < a.flight.written + a.flight.ahead → f ≡ record a.flight { home = f.home } → f.home ≡ [] →
     a' ≡ record a { flight = f; script = synced_script asked a.script; synced = true } →
     Made k (command.Sync a.flight.written) (λ s. MaySync s a.flight.written) seen told seen' told' →
+    (AreHomeward a.flight.written told a.flight.home → HoldsCopies told → HoldsCopies told') →
     Polled k (Ok did.Did) (work_of a) (work_of a') (around seen told ends) (around seen' told' ends)
-synced asked k a a' f seen seen' told told' ends bare going next enough room same is m =
+synced asked k a a' f seen seen' told told' ends bare going whole next enough room same none is m counted =
     subst (λ (v : AppWork). Polled k (Ok did.Did) (work_of a) v (around seen told ends) (around seen' told' ends))
-    (sym (ap work_of is ∙ ap (λ (v : FlightState). work_of (record a { flight = v; script = synced_script asked a.script; synced = true })) same
-    ∙ work asked))
+    (sym (ap work_of is ∙ ap (λ (v : FlightState). work_of (record a { flight = v; script = synced_script asked a.script; synced = true }))
+    (emptied a f same none) ∙ work asked))
     (by_entry k (command.Sync a.flight.written) (λ s. MaySync s a.flight.written) (work_of a) (synced_work asked (work_of a)) seen seen' told told' ends m
-    (sync_goes asked k ends (work_of a) m.found (not_closed a bare going) next (later k a.script.need seen m.found.log m.goes_on enough) room))
+    (λ holds right. counted (right whole) holds)
+    (sync_goes asked k ends (work_of a) m.found (not_closed a bare going) whole next (later k a.script.need seen m.found.log m.goes_on enough) room))
   where
-    work : (t : Bool) → work_of (record a { script = synced_script t a.script; synced = true }) ≡ synced_work t (work_of a)
+    work : (t : Bool) →
+        work_of (record a { flight = record a.flight { home = [] }; script = synced_script t a.script; synced = true }) ≡ synced_work t (work_of a)
     work true = refl
     work false = refl
 
@@ -127,33 +143,36 @@ or_true false = refl
 
 -- the closing Sync was made
 pub closed : (k : ℕ) (a : Application) (f : FlightState) (seen seen' : Log) (told told' : Option SceneState) (ends : Ends) →
-    a.held ≡ None → a.ended ≡ false → next_step a.script.rest ≡ None → a.script.need ≤ merges_in seen →
-    a.flight.frames ≤ a.flight.written → a.flight.frames < a.flight.written + a.flight.ahead → a.merges ≤ merges_in seen → f ≡ a.flight →
+    a.held ≡ None → a.ended ≡ false → a.flight.fault ≡ None → next_step a.script.rest ≡ None → a.script.need ≤ merges_in seen →
+    a.flight.frames ≤ a.flight.written → a.flight.frames < a.flight.written + a.flight.ahead → a.merges ≤ merges_in seen →
+    f ≡ record a.flight { home = f.home } → f.home ≡ [] →
     Made k (command.Sync a.flight.written) (λ s. MaySync s a.flight.written) seen told seen' told' →
+    (AreHomeward a.flight.written told a.flight.home → HoldsCopies told → HoldsCopies told') →
     Polled k (Ok did.Did) (work_of a) (work_of (record a { flight = f; held = Some End })) (around seen told ends) (around seen' told' ends)
-closed k a f seen seen' told told' ends bare going next enough back room all same m =
+closed k a f seen seen' told told' ends bare going whole next enough back room all same none m counted =
     subst (λ (v : AppWork). Polled k (Ok did.Did) (work_of a) v (around seen told ends) (around seen' told' ends)) (sym work)
     (by_entry k (command.Sync a.flight.written) (λ s. MaySync s a.flight.written) (work_of a) (closed_work (work_of a)) seen seen' told told' ends m
-    (close_goes k ends (work_of a) m.found (not_closed a bare going) bare next (later k a.script.need seen m.found.log m.goes_on enough) back room
+    (λ holds right. counted (right whole) holds)
+    (close_goes k ends (work_of a) m.found (not_closed a bare going) whole bare next (later k a.script.need seen m.found.log m.goes_on enough) back room
     (later k a.merges seen m.found.log m.goes_on all)))
   where
     work : work_of (record a { flight = f; held = Some End }) ≡ closed_work (work_of a)
     work =
-        ap (λ (v : FlightState). work_of (record a { flight = v; held = Some End })) same
-        ∙ ap (λ t. record (work_of a) { state = record (work_of a).state { closed = t; held = Some End } }) (or_true a.ended)
+        ap (λ (v : FlightState). work_of (record a { flight = v; held = Some End })) (emptied a f same none)
+        ∙ ap (λ t. record (work_of a) { state = record (work_of a).state { closed = t; held = Some End }; home = [] }) (or_true a.ended)
 
 -- a frame was begun with a load, in place of one that was in hand
 pub frame_begun : (k ahead : ℕ) (a a' : Application) (old load load' : LoadState) (seen seen' : Log) (told told' : Option SceneState) (ends : Ends) →
     a.held ≡ None → a.ended ≡ false → a.synced ≡ true → next_step a.script.rest ≡ Some app.Frame → a.script.need ≤ merges_in seen →
     IsFitFor a.lens a.channels load →
     a' ≡ record a { script = passed a.script; flight = begun a.flight; synced = false; held = Some (Frame load') } →
-    ahead ≡ a.flight.ahead → Begun k ahead load seen told load' seen' told' →
+    ahead ≡ a.flight.ahead → Begun k ahead load seen told load' seen' told' → (HoldsCopies told → HoldsCopies told') →
     Polled k (Ok did.Did) (with_load old (work_of a)) (work_of a') (around seen told ends) (around seen' told' ends)
-frame_begun k ahead a a' old load load' seen seen' told told' ends bare going is_synced next enough fit is same b =
+frame_begun k ahead a a' old load load' seen seen' told told' ends bare going is_synced next enough fit is same b counted =
     let m = b.made in
     subst (λ (v : AppWork). Polled k (Ok did.Did) (with_load old (work_of a)) v (around seen told ends) (around seen' told' ends)) (sym work)
     (by_entry k command.Frame (λ s. MayFrame s ahead (length load.lists)) (with_load old (work_of a)) (begun_work load' (work_of a))
-    seen seen' told told' ends m
+    seen seen' told told' ends m (λ holds right. counted holds)
     (frame_goes k old load load' ends (work_of a) m.found (not_closed a bare going) bare is_synced next
     (later k a.script.need seen m.found.log m.goes_on enough) fit
     (subst (λ n. MayFrame m.found n (length load.lists)) same m.may) b.cut b.room b.lists b.same))

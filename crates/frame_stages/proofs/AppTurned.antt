@@ -3,15 +3,22 @@ use Rattle.std.proofs.Common.{◌≡◌, ℕ, List, map, length, Option, Some, N
 use Rattle.std.specs.Prelude.{MatchOption}
 use Rattle.seat_lock.specs.Log.{Found}
 use Rattle.draw_list.specs.Lists.{Drawables}
+use Rattle.pf_model.specs.Angles.{Viewpoint}
+use Rattle.pf_model.specs.Copies.{UpdateList}
+use Rattle.pf_history.specs.declared.commands.Merge.{Merge}
+use Rattle.pf_history.specs.declared.commands.Reply.{Reply}
 use Rattle.pf_history.specs.declared.commands.Command.{Command}
 use Rattle.pf_history.specs.declared.commands.Command.TheVariants as command
 use Rattle.pf_history.specs.Logs.{Log}
-use Rattle.pf_scene.specs.Scenes.{Shared, SceneState, state_in, entered}
+use Rattle.pf_scene.specs.Scenes.{Shared, SceneState, KeepsCopies, AreOfRetired, state_in, entered}
+use Rattle.pf_scene.specs.declared.outcomes.Outcome.{Outcome}
+use Rattle.pf_scene.specs.declared.outcomes.Outcome.TheVariants as outcome
 use Rattle.pf_scene.specs.declared.outcomes.Channels.{Channels}
 use Rattle.pf_scene.specs.declared.outcomes.Framed.{Framed}
 use Rattle.pf_scene.specs.Frames.{IsCutOf, AllHaveRoom, drawn}
-use Rattle.pf_scene.specs.Acts.{seated, MayFrame, Begins, DoesStop}
+use Rattle.pf_scene.specs.Acts.{seated, MayFrame, Begins, DoesView, DoesMerge, DoesStop}
 use Rattle.stage_parts.specs.Loads.{LoadState}
+use Rattle.frame_stages.specs.Copies.{HoldsCopies, AreHomeward}
 use Rattle.frame_stages.specs.AppTurns.{Tells, Bars, Made, Barred, Wanting, IsMarked, Marks, Begun}
 
 -- what a desk tells of a turn that found this scene and left that one
@@ -102,3 +109,49 @@ turned_begun k ahead load load1 load2 load3 before channels r seen seen' told to
     all =
         is3 ∙ ap (λ (l : LoadState). record l { cut = r.cut }) is2
         ∙ ap (λ (l : LoadState). record l { lists = r.channels.lists.items; cut = r.cut }) is1
+
+-- The copies that are out
+
+-- they stay accounted for where the act keeps them so
+pub counts_on : (told told' : Option SceneState) (found left : SceneState) → Told told told' found left → (KeepsCopies found → KeepsCopies left) →
+    HoldsCopies told → HoldsCopies told'
+counts_on None told' found left tells on holds = subst HoldsCopies (sym tells) tt
+counts_on (Some scene) told' found left (is, is') on holds = subst HoldsCopies (sym is') (on (subst KeepsCopies is holds))
+
+-- where nothing changed
+pub counts_still : (told told' : Option SceneState) (found left : SceneState) → Told told told' found left → left ≡ found →
+    HoldsCopies told → HoldsCopies told'
+counts_still told told' found left tells same = counts_on told told' found left tells (λ holds. subst KeepsCopies (sym same) holds)
+
+-- where the mark was set
+pub counts_marked : (told told' : Option SceneState) (found left : SceneState) → Told told told' found left → DoesStop found left →
+    HoldsCopies told → HoldsCopies told'
+counts_marked told told' found left tells is = counts_on told told' found left tells (λ holds. subst KeepsCopies (sym is) holds)
+
+-- after a Sync that brought the right lists home
+pub counts_synced : (retired : ℕ) (lists : List UpdateList) (told told' : Option SceneState) (found left : SceneState) → Told told told' found left →
+    (AreOfRetired retired found.shared lists → KeepsCopies found → KeepsCopies left) →
+    AreHomeward retired told lists → HoldsCopies told → HoldsCopies told'
+counts_synced retired lists None told' found left tells on right holds = subst HoldsCopies (sym tells) tt
+counts_synced retired lists (Some scene) told' found left (is, is') on right holds =
+    subst HoldsCopies (sym is') (on (subst (λ (s : SceneState). AreOfRetired retired s.shared lists) is right) (subst KeepsCopies is holds))
+
+-- after a merge
+pub counts_merged : (m : Merge) (seat : ℕ) (r : Outcome Reply Merge) (told told' : Option SceneState) (found left : SceneState) →
+    Told told told' found left → DoesMerge m seat found left r → HoldsCopies told → HoldsCopies told'
+counts_merged m seat r told told' found left tells does = counts_on told told' found left tells (by r does)
+  where
+    by : (o : Outcome Reply Merge) → DoesMerge m seat found left o → KeepsCopies found → KeepsCopies left
+    by (outcome.Entered x) (may, enters, same) = enters.accounted
+    by (outcome.NotNow back) (same, is, not) = λ holds. subst KeepsCopies (sym same) holds
+    by (outcome.NoMemory back) (shared, is, on) = on
+
+-- after a view
+pub counts_viewed : (channel : ℕ) (v : Viewpoint) (seat : ℕ) (r : Outcome Reply (Unit {0})) (told told' : Option SceneState)
+    (found left : SceneState) → Told told told' found left → DoesView channel v seat found left r → HoldsCopies told → HoldsCopies told'
+counts_viewed channel v seat r told told' found left tells does = counts_on told told' found left tells (by r does)
+  where
+    by : (o : Outcome Reply (Unit {0})) → DoesView channel v seat found left o → KeepsCopies found → KeepsCopies left
+    by (outcome.Entered x) (may, enters, same) = enters.accounted
+    by (outcome.NotNow back) (same, not) = λ holds. subst KeepsCopies (sym same) holds
+    by (outcome.NoMemory back) (shared, on) = on

@@ -1,5 +1,5 @@
 -- The lines of the database process stay in order.
-use Rattle.std.proofs.Common.{◌≡◌, ℕ, ◌+◌, ◌≤◌, Bool, true, false, List, [], ◌∷◌, ◌++◌, length, Some, refl, sym, ap, ◌∙◌, subst, arith, length-append}
+use Rattle.std.proofs.Common.{◌≡◌, ℕ, ◌+◌, ◌≤◌, Bool, true, false, List, [], ◌∷◌, ◌++◌, drop, length, Some, refl, sym, ap, ◌∙◌, subst, arith, length-append}
 use Rattle.std.proofs.lemmas.Bool.{and_parts}
 use Rattle.std.specs.List.{list_all}
 use Rattle.pf_model.specs.declared.lines.BaseLine.{BaseLine}
@@ -124,6 +124,55 @@ filled_in_order w l ls b h o rest kind fills is =
       ranged = is.ranged (w.at + 1) (fills_filled w.at l.step w.hand b o.ranged fills);
       failed = λ f. absurd (cc (f, runs));
     }
+
+-- behind a merge no buffer is open
+merge_closes : (t : Bool) (l : BaseLine) (ls : List BaseLine) → kind_of l.step ≡ next.Merge → open_after t (l ∷ ls) ≡ Some false →
+    open_after false ls ≡ Some false
+merge_closes t l ls kind order = by t l.step kind order
+  where
+    by : (t : Bool) (s : BaseStep) → kind_of s ≡ next.Merge → open_after t (record l { step = s } ∷ ls) ≡ Some false →
+        open_after false ls ≡ Some false
+    by true base.Merge k o = o
+    by false base.Merge k o = absurd (cc)
+    by t base.Buffer k o = absurd (cc)
+    by t (base.Edit e) k o = absurd (cc)
+    by t (base.Ask e) k o = absurd (cc)
+    by t (base.Await n) k o = absurd (cc)
+
+-- where no buffer is open, no merge is next
+none_merges : (ls : List BaseLine) → open_after false ls ≡ Some false → merges_next ls ≡ false
+none_merges [] order = refl
+none_merges (l ∷ ls) order = by l.step order
+  where
+    by : (s : BaseStep) → open_after false (record l { step = s } ∷ ls) ≡ Some false → is_merge s ≡ false
+    by base.Merge o = absurd (cc)
+    by base.Buffer o = refl
+    by (base.Edit e) o = refl
+    by (base.Ask e) o = refl
+    by (base.Await n) o = refl
+
+-- the merge in hand was entered
+pub merged_in_order : (v w : DbaseWork) (ls : List BaseLine) (h : InHand) → v ≡ w → IsInOrder v → next_line w.rest ≡ next.Merge →
+    ls ≡ drop 1 v.rest → h ≡ hand.Nothing →
+    IsInOrder (record { rest = ls; at = v.at + 1; need = v.need; failed = v.failed; hand = h })
+merged_in_order v w ls h same o kind rest none =
+    by v.rest refl (subst (λ (d : DbaseWork). next_line d.rest ≡ next.Merge) (sym same) kind) rest
+  where
+    by : (lines : List BaseLine) → v.rest ≡ lines → next_line lines ≡ next.Merge → ls ≡ drop 1 lines →
+        IsInOrder (record { rest = ls; at = v.at + 1; need = v.need; failed = v.failed; hand = h })
+    by [] is k d = absurd (cc)
+    by (l ∷ ms) is k d =
+        let rest : v.rest ≡ l ∷ ls = is ∙ ap (λ (xs : List BaseLine). l ∷ xs) (sym d) in
+        let order = merge_closes (is_open v.hand) l ls k (subst (λ (xs : List BaseLine). open_after (is_open v.hand) xs ≡ Some false) rest o.order) in
+        let runs = still_runs v l ls o rest in
+        record {
+          few = tail_few l ls v o rest;
+          fit = tail_fits l ls v o rest;
+          order = subst (λ (x : InHand). open_after (is_open x) ls ≡ Some false) (sym none) order;
+          whole = subst (λ (x : InHand). is_whole x ≡ merges_next ls) (sym none) (sym (none_merges ls order));
+          ranged = subst (IsRanged (v.at + 1)) (sym none) tt;
+          failed = λ f. absurd (cc (f, runs));
+        }
 
 fills_step : (s : BaseStep) (h : InHand) (c b : BufferState) → Fills s h b → HoldsBuffer h c → b ≡ buffer_step c s
 fills_step base.Buffer h c b f holds = f

@@ -9,6 +9,7 @@ pub mod DbaseSection
 pub mod DbaseProps
 pub mod ScriptLines
 pub mod AppLogs
+pub mod AppHome
 pub mod AppAsks
 pub mod AppPolled
 pub mod AppGoes

@@ -23,6 +23,7 @@ use Rattle.frame_stages.specs.Scripts.{next_step}
 use Rattle.frame_stages.specs.Looks.{SawMark}
 use Rattle.frame_stages.specs.AppTurns.{Tells, Bars, IsMarked}
 use Rattle.frame_stages.specs.AppWorks.{AppWork, IsGiven, AreOwnFrames, merges_in}
+use Rattle.frame_stages.specs.Copies.{HoldsCopies, IsHomeRight, HasHome}
 
 -- What is known of the links and of the sink: what was received and sent, what the other ends sent and received, and the
 -- room of the link.
@@ -201,6 +202,12 @@ pub record Polled (k : ℕ) (result : Result Did StageError) (old new : AppWork)
   pub part : (g : Setup) (stream : List ℕ) → IsGiven g old → AreOwnFrames k after.seen →
       AppKeeps g k old.state before.seen before.ends.taken before.ends.sent stream →
       KeepsOn g k new.state before.ends.sink.bytes after stream
+  -- the lists that go home are those of the packets that came back since its last Sync
+  pub home : (g : Setup) (stream : List ℕ) → IsGiven g old → AreOwnFrames k after.seen →
+      AppKeeps g k old.state before.seen before.ends.taken before.ends.sent stream →
+      HasHome g k old before.seen before.ends.taken → HasHome g k new after.seen after.ends.taken
+  -- the scene's copies stay accounted for, where the lists that go home are right
+  pub counted : HoldsCopies before.told → IsHomeRight old before.told → HoldsCopies after.told
   -- the merges that it waited for stand in the log
   pub waited : old.state.need ≤ merges_in before.seen → new.state.need ≤ merges_in after.seen
   -- only a fault of the sink makes it keep one

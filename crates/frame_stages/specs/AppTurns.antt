@@ -1,8 +1,9 @@
 -- What a turn of the application came to.
-use Rattle.std.specs.Prelude.{◌≡◌, ℕ, true, [], ◌∷◌, ◌++◌, map, length, Option, None, Some, IfSome, MatchOption}
+use Rattle.std.specs.Prelude.{◌≡◌, ℕ, true, List, [], ◌∷◌, ◌++◌, map, length, Option, None, Some, IfSome, MatchOption}
 use Rattle.seat_lock.specs.Log.{Found}
 use Rattle.pf_model.specs.declared.edits.Edit.{Edit}
 use Rattle.pf_model.specs.declared.lines.AppStep.TheVariants as app
+use Rattle.pf_model.specs.Copies.{UpdateList}
 use Rattle.pf_history.specs.declared.commands.Command.{Command}
 use Rattle.pf_history.specs.declared.commands.Command.TheVariants as command
 use Rattle.pf_history.specs.Logs.{Log}
@@ -51,6 +52,12 @@ abbrev pub Comes : ℕ → Command → (Shared → Type 0) → Log → Option Sc
 Comes k c May seen told came.Entered seen' told' = Made k c May seen told seen' told'
 Comes k c May seen told came.NotNow seen' told' = Barred k May seen told seen' told'
 Comes k c May seen told came.NoMemory seen' told' = Wanting k seen told seen' told'
+
+-- of the lists that a Sync was to bring home, none is left where it was entered, and else all are
+abbrev pub LeavesHome : Came → (lists lists' : List UpdateList) → Type 0
+LeavesHome came.Entered lists lists' = lists' ≡ []
+LeavesHome came.NotNow lists lists' = lists' ≡ lists
+LeavesHome came.NoMemory lists lists' = lists' ≡ lists
 
 -- what the turn of the next line's edit came to
 abbrev pub ComesEdit : ℕ → ScriptState → Log → Option SceneState → Came → ScriptState → Log → Option SceneState → Type 0

@@ -3,6 +3,7 @@ use Rattle.std.specs.Prelude.{◌≡◌, ℕ, ◌≤◌, true, false, Bool, ◌|
 use Rattle.std.specs.List.{AllByRecursion}
 use Rattle.fx_math.specs.declared.lenses.Lens.{Lens}
 use Rattle.pf_model.specs.declared.lines.AppLine.{AppLine}
+use Rattle.pf_model.specs.Copies.{UpdateList}
 use Rattle.pf_history.specs.declared.commands.Caller.TheVariants.{App}
 use Rattle.pf_history.specs.Commands.{is_frame, is_merge}
 use Rattle.pf_history.specs.Logs.{Log, how_many}
@@ -14,7 +15,8 @@ use Rattle.stage_parts.specs.States.{Setup, AppState}
 use Rattle.stage_parts.specs.DbaseSteps.{opening_app}
 use Rattle.frame_stages.specs.declared.application.Application.{Application}
 
--- The application's stage: the lines that are left, what else it is given, and its state.
+-- The application's stage: the lines that are left, what else it is given, its state, and the update lists that go home
+-- with the next Sync, in the order in which they came.
 pub record AppWork : Type 0 where
   pub rest : List AppLine
   pub merges : ℕ
@@ -23,6 +25,7 @@ pub record AppWork : Type 0 where
   pub ahead : ℕ
   pub channels : ℕ
   pub state : AppState
+  pub home : List UpdateList
 
 -- the End is held
 abbrev pub holds_end : Option Packet → Bool
@@ -52,6 +55,7 @@ work_of a =
         spare = a.flight.spare;
         stats = a.flight.stats;
       };
+      home = a.flight.home;
     }
 
 -- the same, where this packet is held
@@ -83,6 +87,7 @@ opening_work g loads =
       ahead = g.ahead;
       channels = g.channels;
       state = opening_app loads;
+      home = [];
     }
 
 -- it is over: the End was sent, or a fault cut a picture short

@@ -3,24 +3,26 @@ use Rattle.std.specs.Prelude.{◌≡◌, ℕ, ◌+◌, ◌<◌, ◌≤◌, List,
 use Rattle.std.specs.Io.KnownBytes.{append_known}
 use Rattle.fx_math.specs.declared.lenses.Lens.{Lens}
 use Rattle.pf_io.specs.Causes.{Rose}
+use Rattle.pf_model.specs.Copies.{UpdateList}
 use Rattle.draw_list.specs.declared.stats.Stats.{Stats}
 use Rattle.draw_list.specs.Lists.{Drawables}
 use Rattle.stage_parts.specs.declared.packets.Packet.{Packet}
 use Rattle.stage_parts.specs.Loads.{LoadState, Each, AreImages}
-use Rattle.stage_parts.specs.Packets.{loads_in, bytes_in}
+use Rattle.stage_parts.specs.Packets.{loads_in, bytes_in, updates_in}
 use Rattle.stage_parts.specs.Parts.{cut_short}
 use Rattle.frame_stages.specs.declared.taking_back.Brought.{Brought}
 use Rattle.frame_stages.specs.declared.taking_back.Brought.TheVariants as brought
 use Rattle.frame_stages.specs.Answers.{IsDry}
 
 -- How many frames were begun, how many pictures were wholly written, and how many bytes of the next one before a fault;
--- the loads in hand, the numbers of the frames that came back and for how many there is room, and how many frames may be
--- in flight.
+-- the loads in hand, the update lists that go home with the next Sync, in the order in which they came, the numbers of
+-- the frames that came back and for how many there is room, and how many frames may be in flight.
 pub record FlightState : Type 0 where
   pub frames : ℕ
   pub written : ℕ
   pub fault : Option ℕ
   pub spare : List LoadState
+  pub home : List UpdateList
   pub stats : List Stats
   pub room : ℕ
   pub ahead : ℕ
@@ -30,11 +32,12 @@ abbrev pub HaveFirst : List Drawables → Type 0
 HaveFirst lists = Each (λ d. 0 < length d.joints.lists) lists
 
 -- No more pictures came back than frames were begun, with at most a load each, and there is room for the loads and the
--- numbers of all frames.
-pub record IsInFlight (frames written ahead : ℕ) (fault : Option ℕ) (spare : List LoadState) (hold stats room : ℕ) : Type 0 where
+-- numbers of all frames, and for as many update lists as frames may be in flight.
+pub record IsInFlight (frames written ahead : ℕ) (fault : Option ℕ) (spare : List LoadState) (hold lists stats room : ℕ) : Type 0 where
   pub back : written + cut_short fault ≤ frames
   pub loads : length spare + frames ≤ ahead + (written + cut_short fault)
   pub places : ahead ≤ hold
+  pub homeward : ahead ≤ lists
   pub told : stats ≤ written + cut_short fault
   pub numbers : frames ≤ room
   pub settled : Each (λ l. HaveFirst l.lists) spare
@@ -59,9 +62,11 @@ pub record IsFitFor (lens : Lens) (channels : ℕ) (l : LoadState) : Type 0 wher
   pub lists : length l.lists ≡ channels
   pub images : AreImages lens channels l.images
 
--- What is kept of a packet that came back: the load, and its numbers
+-- What is kept of a packet that came back: the load, its numbers, and its update list, where fewer lists go home than
+-- frames may be in flight.
 pub record IsKeptOf (packet : Packet) (old new : FlightState) : Type 0 where
   pub spare : length new.spare ≡ length old.spare + length (loads_in (packet ∷ []))
+  pub home : length old.home < old.ahead → new.home ≡ old.home ++ updates_in (loads_in (packet ∷ []))
   pub stats : new.stats ≡ old.stats ++ map (λ l. l.stats) (loads_in (packet ∷ []))
 
 -- What is known of the frame sink: the bytes written, the number of its faults, and the bytes written at the last one.
@@ -73,14 +78,14 @@ pub record SinkSide : Type 0 where
 -- A packet came back, and its picture was wholly written.
 pub record CameBack (packet : Packet) (old new : FlightState) (sink sink' : SinkSide) : Type 0 where
   pub kept : IsKeptOf packet old new
-  pub state : new ≡ record old { written = old.written + 1; spare = new.spare; stats = new.stats }
+  pub state : new ≡ record old { written = old.written + 1; spare = new.spare; home = new.home; stats = new.stats }
   pub wrote : sink' ≡ record sink { bytes = append_known sink.bytes (bytes_in packet) }
 
 -- A packet came back, and a fault cut its picture short.
 pub record CameShort (packet : Packet) (old new : FlightState) (sink sink' : SinkSide) : Type 0 where
   pub bytes : ℕ
   pub kept : IsKeptOf packet old new
-  pub state : new ≡ record old { fault = Some bytes; spare = new.spare; stats = new.stats }
+  pub state : new ≡ record old { fault = Some bytes; spare = new.spare; home = new.home; stats = new.stats }
   pub wrote : sink'.bytes ≡ append_known sink.bytes (take bytes (bytes_in packet))
   pub rose : Rose sink.faults sink'.faults
   pub last : sink'.at_fault ≡ sink'.bytes

@@ -12,4 +12,5 @@ pub mod Scripts
 pub mod AppTurns
 pub mod Flights
 pub mod AppWorks
+pub mod Copies
 pub mod AppAnswers

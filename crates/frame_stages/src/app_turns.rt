@@ -1,5 +1,6 @@
 //! The turns that the application takes at the shared scene.
 ghost use Rattle.std.specs.Prelude.{◌≡◌, length};
+ghost use Rattle.std.specs.Vec.{vec_capacity};
 ghost use Rattle.seat_lock.specs.Log.{Found};
 ghost use Rattle.pf_history.specs.declared.commands.Command.TheVariants as command;
 ghost use Rattle.pf_scene.specs.Acts.{MayView, MaySync};
@@ -7,7 +8,8 @@ ghost use Rattle.frame_stages.specs.declared.script.Next.TheVariants as next;
 ghost use Rattle.frame_stages.specs.Scripts.{next_step, IsNext};
 ghost use Rattle.frame_stages.specs.Looks.{Saw};
 ghost use Rattle.frame_stages.specs.AppWorks.{merges_in};
-ghost use Rattle.frame_stages.specs.AppTurns.{Comes, ComesEdit, ComesFrame, Marks};
+ghost use Rattle.frame_stages.specs.Copies.{HoldsCopies, AreHomeward};
+ghost use Rattle.frame_stages.specs.AppTurns.{Comes, ComesEdit, ComesFrame, LeavesHome, Marks};
 
 use crate::looks::sight;
 use crate::script::Script;
@@ -47,6 +49,7 @@ pub(crate) fn look<D: Desk<Scene>>(desk: &mut D) -> Sight
 /// Makes the edit of the next line, which is passed where it was made.
 pub(crate) fn make_edit<D: Desk<Scene>>(desk: &mut D, script: &mut Script) -> Came
     requires next { IsNext next.Edit (next_step script.old.rest) }
+    ensures counted { HoldsCopies (D.told desk.old) → HoldsCopies (D.told desk.new) }
     ensures came { ComesEdit (D.number desk.old) script.old (D.seen desk.old) (D.told desk.old) result
         script.new (D.seen desk.new) (D.told desk.new) }
     ensures number { D.number desk.new ≡ D.number desk.old }
@@ -73,6 +76,7 @@ pub(crate) fn make_edit<D: Desk<Scene>>(desk: &mut D, script: &mut Script) -> Ca
 
 /// Sets the view of a channel.
 pub(crate) fn make_view<D: Desk<Scene>>(desk: &mut D, channel: u8, view: View) -> Came
+    ensures counted { HoldsCopies (D.told desk.old) → HoldsCopies (D.told desk.new) }
     ensures came { Comes (D.number desk.old) (command.View channel view) (λ s. MayView s channel view)
         (D.seen desk.old) (D.told desk.old) result (D.seen desk.new) (D.told desk.new) }
     ensures number { D.number desk.new ≡ D.number desk.old }
@@ -92,6 +96,10 @@ pub(crate) fn make_sync<D: Desk<Scene>>(
     retired: u32,
     lists: &mut Vec<Updates>,
 ) -> Came
+    ensures counted { AreHomeward retired (D.told desk.old) lists.old.items
+        → HoldsCopies (D.told desk.old) → HoldsCopies (D.told desk.new) }
+    ensures home { LeavesHome result lists.old.items lists.new.items }
+    ensures capacity { vec_capacity lists.new ≡ vec_capacity lists.old }
     ensures came { Comes (D.number desk.old) (command.Sync retired) (λ s. MaySync s retired)
         (D.seen desk.old) (D.told desk.old) result (D.seen desk.new) (D.told desk.new) }
     ensures number { D.number desk.new ≡ D.number desk.old }
@@ -123,6 +131,7 @@ pub(crate) fn make_frame<D: Desk<Scene>>(
     ahead: u8,
     load: &mut Load,
 ) -> Came
+    ensures counted { HoldsCopies (D.told desk.old) → HoldsCopies (D.told desk.new) }
     ensures came { ComesFrame (D.number desk.old) ahead load.old (D.seen desk.old) (D.told desk.old) result
         load.new (D.seen desk.new) (D.told desk.new) }
     ensures number { D.number desk.new ≡ D.number desk.old }
@@ -153,6 +162,7 @@ pub(crate) fn make_frame<D: Desk<Scene>>(
 
 /// Sets the stop mark.
 pub(crate) fn stop<D: Desk<Scene>>(desk: &mut D)
+    ensures counted { HoldsCopies (D.told desk.old) → HoldsCopies (D.told desk.new) }
     ensures marks { Marks (D.number desk.old) (D.seen desk.old) (D.told desk.old) (D.seen desk.new) (D.told desk.new) }
     ensures number { D.number desk.new ≡ D.number desk.old }
     ensures stands { D.stands desk.new ≡ D.stands desk.old }

@@ -162,6 +162,7 @@ impl Application {
         requires next { SyncIsNext asked self.old.synced (next_step self.old.script.rest) }
         requires bare { self.old.held ≡ None }
         requires going { self.old.ended ≡ false }
+        requires whole { self.old.flight.fault ≡ None }
         requires waited { self.old.script.need ≤ merges_in (D.seen desk.old) }
         ensures polled { (ends : Ends) → IsBackFrom self.old.flight ends →
             Polled (D.number desk.old) result (work_of self.old) (work_of self.new)
@@ -227,6 +228,7 @@ impl Application {
         requires next { next_step self.old.script.rest ≡ None }
         requires bare { self.old.held ≡ None }
         requires going { self.old.ended ≡ false }
+        requires whole { self.old.flight.fault ≡ None }
         requires waited { self.old.script.need ≤ merges_in (D.seen desk.old) }
         requires merges { merges ≡ merges_in (D.seen desk.old) }
         ensures polled { (ends : Ends) → IsBackFrom self.old.flight ends →

@@ -8,6 +8,7 @@ ghost use Rattle.play_format.specs.Plays.{base_fits, open_after};
 ghost use Rattle.frame_stages.specs.Answers.{is_over};
 ghost use Rattle.frame_stages.specs.DbaseWorks.{opening_work, is_ended, DbaseHolds};
 ghost use Rattle.frame_stages.specs.DbaseLines.{kind_of, next_line};
+ghost use Rattle.frame_stages.specs.Copies.{HoldsCopies};
 ghost use Rattle.frame_stages.specs.DbaseAnswers.{Passes, GivesUp, Tries, IsDbaseAnswer};
 ghost use Rattle.frame_stages.specs.declared.answers.Did.TheVariants as did;
 ghost use Rattle.frame_stages.specs.declared.next_line.NextLine.TheVariants as next;
@@ -147,6 +148,7 @@ impl DbaseStage {
         merges: u32,
     ) -> Result<bool, NoMemory>
         requires next { next_line self.old.rest ≡ next.Merge }
+        ensures counted { HoldsCopies (D.told desk.old) → HoldsCopies (D.told desk.new) }
         ensures tries { Tries (D.number desk.old) result self.old self.new
             (record { seen = D.seen desk.old; told = D.told desk.old })
             (record { seen = D.seen desk.new; told = D.told desk.new }) }
@@ -184,6 +186,7 @@ impl DbaseStage {
     ) -> Result<bool, NoMemory>
         requires left { is_ended self.old.rest ≡ false }
         requires frames { (channels : ℕ) → sight.frames ≡ (state_of channels (D.seen desk.old)).frames }
+        ensures counted { HoldsCopies (D.told desk.old) → HoldsCopies (D.told desk.new) }
         ensures tries { Tries (D.number desk.old) result self.old self.new
             (record { seen = D.seen desk.old; told = D.told desk.old })
             (record { seen = D.seen desk.new; told = D.told desk.new }) }
@@ -211,6 +214,9 @@ impl DbaseStage {
         ensures part { (lines : List BaseLine) (channels : ℕ)
             → DbaseHolds lines channels (D.number desk.old) self.old (D.seen desk.old)
             → DbaseHolds lines channels (D.number desk.old) self.new (D.seen desk.new) }
+
+        // The scene's copies stay accounted for.
+        ensures counted { HoldsCopies (D.told desk.old) → HoldsCopies (D.told desk.new) }
 
         // What its answer says. It is over exactly where no line is left or this look found the stop mark.
         ensures answer { IsDbaseAnswer (D.number desk.old) result self.old self.new

@@ -5,7 +5,8 @@ ghost use Rattle.stage_parts.specs.Loads.{Each, AreImages};
 ghost use Rattle.stage_parts.specs.Parts.{cut_short};
 ghost use Rattle.stage_parts.specs.declared.packets.Packet.TheVariants as packet;
 ghost use Rattle.frame_stages.specs.Answers.{IsDry};
-ghost use Rattle.frame_stages.specs.AppTurns.{Comes};
+ghost use Rattle.frame_stages.specs.AppTurns.{Comes, LeavesHome};
+ghost use Rattle.frame_stages.specs.Copies.{HoldsCopies, AreHomeward};
 ghost use Rattle.pf_history.specs.declared.commands.Command.TheVariants as command;
 ghost use Rattle.pf_scene.specs.Acts.{MaySync};
 ghost use Rattle.frame_stages.specs.Flights.{HaveFirst, begun, IsTaken, IsKeptOf, CameBack, CameShort, Brings};
@@ -61,13 +62,14 @@ impl Model for Flight {
       written = f.written;
       fault = f.fault;
       spare = f.spare.items;
+      home = f.home.items;
       stats = f.stats.items;
       room = vec_capacity f.stats;
       ahead = f.ahead;
     } };
 
     ghost invariant = { λ f. IsInFlight f.frames f.written f.ahead f.fault f.spare.items (vec_capacity f.spare)
-        (vec_len f.stats) (vec_capacity f.stats) };
+        (vec_capacity f.home) (vec_len f.stats) (vec_capacity f.stats) };
 }
 
 /// Whether a draw list has an item, and so a joint.
@@ -137,7 +139,11 @@ fn new_loads(alloc: Global, lens: &Lens, ahead: u8, channels: u8) -> Result<Vec<
 }
 
 /// Keeps an update list that came back, where there is room for it.
-fn bring_home(home: &mut Vec<Updates>, updates: Updates) {
+fn bring_home(home: &mut Vec<Updates>, updates: Updates)
+    ensures kept { length home.old.items < vec_capacity home.old
+        → home.new.items ≡ home.old.items ++ updates ∷ [] }
+    ensures capacity { vec_capacity home.new ≡ vec_capacity home.old }
+{
     if home.len() < home.capacity() {
         home.push_reserved(updates);
     }
@@ -156,6 +162,7 @@ impl Flight {
           written = 0;
           fault = None;
           spare = f.spare;
+          home = [];
           stats = [];
           room = f.room;
           ahead = ahead;
@@ -237,7 +244,7 @@ impl Flight {
             ≤ self.old.ahead + (self.old.written + cut_short self.old.fault) }
         requires stats { length self.old.stats + 1 ≤ self.old.written + cut_short self.old.fault }
         ensures kept { IsKeptOf (packet.Frame load) self.old self.new }
-        ensures same { self.new ≡ record self.old { spare = self.new.spare; stats = self.new.stats } }
+        ensures same { self.new ≡ record self.old { spare = self.new.spare; home = self.new.home; stats = self.new.stats } }
     {
         self.stats.push_reserved(load.stats());
         bring_home(&mut self.home, load.take_updates());
@@ -356,7 +363,10 @@ impl Flight {
 
     /// Retires the frames whose pictures are written, and sends the update lists home that came back.
     pub(crate) fn sync<D: Desk<Scene>>(&mut self, desk: &mut D) -> Came
-        ensures same { self.new ≡ self.old }
+        ensures same { self.new ≡ record self.old { home = self.new.home } }
+        ensures counted { AreHomeward self.old.written (D.told desk.old) self.old.home
+            → HoldsCopies (D.told desk.old) → HoldsCopies (D.told desk.new) }
+        ensures home { LeavesHome result self.old.home self.new.home }
         ensures came { Comes (D.number desk.old) (command.Sync self.old.written) (λ s. MaySync s self.old.written)
             (D.seen desk.old) (D.told desk.old) result (D.seen desk.new) (D.told desk.new) }
         ensures number { D.number desk.new ≡ D.number desk.old }

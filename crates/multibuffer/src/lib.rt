@@ -5,6 +5,3 @@ mod node_table;
 mod stage_copy;
 
 pub use stage_copy::StageCopy;
-
-#[cfg(test)]
-mod tests;

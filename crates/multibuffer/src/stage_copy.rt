@@ -1,9 +1,9 @@
 //! The copy of the scene that a stage keeps.
-ghost use Rattle.std.specs.Prelude.{◌≡◌, ℕ, true, false, [], ◌∷◌, ◌++◌, List, map, IfOk};
+ghost use Rattle.std.specs.Prelude.{◌≡◌, ℕ, ◌≤◌, true, false, [], ◌∷◌, ◌++◌, List, map, IfOk};
 ghost use Rattle.pf_model.specs.Graphs.{Look, node_at};
 ghost use Rattle.pf_model.specs.Limits.{KeepsLimits};
 ghost use Rattle.pf_model.specs.Copies.{UpdateList, updated_by, updates_of, copy_of};
-ghost use Rattle.bound_cache.specs.Caches.{box_at, touched_at, is_geode_at, AreBoxesOf, ChangesAreTouched};
+ghost use Rattle.bound_cache.specs.Caches.{box_at, touched_at, is_geode_at, AreBoxesOf, ChangesAreTouched, StandBelow};
 ghost use Rattle.multibuffer.specs.StageCopies.{is_named, boxes_of, HasRightBoxes};
 
 use crate::node_table::NodeTable;
@@ -29,7 +29,7 @@ impl Model for StageCopy {
 
     ghost Value = { CopyState };
 
-    ghost view = { λ c. record { nodes = c.nodes; boxes = c.cache.boxes } };
+    ghost view = { λ c. record { nodes = c.nodes; boxes = c.cache.boxes; high = c.cache.high } };
 
     ghost invariant = { λ c. (id : ℕ) → touched_at c.cache id ≡ false };
 }
@@ -42,6 +42,8 @@ fn take_all(nodes: &mut NodeTable, cache: &mut BoxCache, updates: &mut Updates)
     ensures updates { updates.new ≡ updates_of (node_at nodes.old) (map (λ e. e.0) updates.old) }
     ensures boxes { (k : ℕ) → box_at cache.new k ≡ box_at cache.old k }
     ensures touched { (k : ℕ) → touched_at cache.new k ≡ is_named k updates.old }
+    ensures higher { cache.old.high ≤ cache.new.high }
+    ensures stand { StandBelow (node_at nodes.old) cache.old.high → StandBelow (node_at nodes.new) cache.new.high }
 {
     for i in 0..updates.len() {
         let id = nodes.take_entry(updates, i);
@@ -52,11 +54,12 @@ fn take_all(nodes: &mut NodeTable, cache: &mut BoxCache, updates: &mut Updates)
 /// Brings the boxes to the nodes.
 fn refresh(cache: &mut BoxCache, nodes: &NodeTable)
     ensures right { (was : Look) → AreBoxesOf was (box_at cache.old)
-        → ChangesAreTouched was (node_at nodes.now) (touched_at cache.old) → KeepsLimits (node_at nodes.now)
-        → AreBoxesOf (node_at nodes.now) (box_at cache.new) }
+        → ChangesAreTouched was (node_at nodes.now) (touched_at cache.old) → StandBelow was cache.old.high
+        → KeepsLimits (node_at nodes.now) → AreBoxesOf (node_at nodes.now) (box_at cache.new) }
     ensures kept { (id : ℕ) → is_geode_at (node_at nodes.now) id ≡ true → touched_at cache.old id ≡ false
         → box_at cache.new id ≡ box_at cache.old id }
     ensures untouched { (id : ℕ) → touched_at cache.new id ≡ false }
+    ensures high { cache.new.high ≡ cache.old.high }
 {
     cache.clean(nodes);
 }
@@ -68,7 +71,7 @@ impl StageCopy {
         ensures right { IfOk result HasRightBoxes }
     {
         let mut nodes = NodeTable::new(alloc)?;
-        let cache = BoxCache::new(alloc)?;
+        let mut cache = BoxCache::new(alloc)?;
         let scene = Node {
             serial: 0,
             born: 0,
@@ -76,6 +79,8 @@ impl StageCopy {
             children: Ids::new(alloc),
         };
         nodes.replace(0, Some(scene));
+        cache.touch(0);
+        refresh(&mut cache, &nodes);
         Ok(StageCopy { nodes, cache })
     }
 

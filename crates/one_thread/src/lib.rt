@@ -7,6 +7,3 @@ mod sequential;
 
 pub use runs::{can_run, run};
 pub use sequential::Sequential;
-
-#[cfg(test)]
-mod tests;

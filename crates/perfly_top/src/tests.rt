@@ -14,6 +14,66 @@ frame 1 shown 0 states 0 visited 1\n";
 const STUCK_PLAY: &str = "perfly 1\nsize 2 2\nlens 1 1 1073741823\nback 10 20 30\napp\n\
 wait 1\nframe\ndbase\nawait 1\nbuffer\nmerge\n";
 
+const MERGE: &str = "perfly 1\nsize 2 2\nlens 1 1 1073741823\nback 10 20 30\napp\n\
+group 1\nadd 0 1\nframe\nwait 1\nframe\ndbase\nawait 1\nbuffer\ngeode 10 0 1\n\
+t -40960 4096 -40960 255 0 0 40960 4096 -40960 255 0 0 0 4096 81920 255 0 0\n\
+badd 1 10\nmerge\n";
+
+const MERGE_REPORT: &str = "app group 1 : ok\napp add 0 1 : ok\napp sync 0 : freed 0\n\
+app frame 1 : ok\ndbase merge 2 0 : ok\napp sync 1 : freed 0\napp frame 2 : ok\n\
+app sync 2 : freed 0\nframe 1 shown 0 states 0 visited 1\nframe 2 shown 1 states 1 visited 3\n";
+
+const REFUSED_MERGE: &str = "perfly 1\nsize 2 2\nlens 1 1 1073741823\nback 10 20 30\napp\n\
+frame\nwait 1\nframe\ndbase\nawait 1\nbuffer\ngeode 10 0 1\n\
+t -40960 4096 -40960 255 0 0 40960 4096 -40960 255 0 0 0 4096 81920 255 0 0\n\
+add 9 9\nbadd 0 10\nbadd 77 10\nmerge\n";
+
+const REFUSED_MERGE_REPORT: &str = "app sync 0 : freed 0\napp frame 1 : ok\n\
+dbase merge 3 1 : at 3 fault Absent 77\napp sync 1 : freed 0\napp frame 2 : ok\n\
+app sync 2 : freed 0\nframe 1 shown 0 states 0 visited 1\nframe 2 shown 0 states 0 visited 1\n";
+
+const DELETION: &str = "perfly 1\nsize 2 2\nlens 1 1 1073741823\nback 10 20 30\napp\n\
+geode 1 0 0\nadd 0 1\nframe\ndelete 1\nremove 0 1\ndelete 1\nframe\n";
+
+const DELETION_REPORT: &str = "app geode 1 0 0 : ok\napp add 0 1 : ok\napp sync 0 : freed 0\n\
+app frame 1 : ok\napp delete 1 : fault InUse 1\napp remove 0 1 : ok\napp delete 1 : ok\n\
+app sync 1 : freed 1 1\napp frame 2 : ok\napp sync 2 : freed 0\nframe 1 ";
+
+const VERTICES: &str = "perfly 1\nsize 2 2\nlens 1 1 1073741823\nback 10 20 30\napp\n\
+geode 1 0 1\n\
+t -40960 4096 -40960 255 0 0 40960 4096 -40960 255 0 0 0 4096 81920 255 0 0\n\
+add 0 1\nframe\nverts 1 1\n\
+t -40960 4096 -40960 0 0 255 40960 4096 -40960 0 0 255 0 4096 81920 0 0 255\n\
+verts 1 2\n\
+t -40960 4096 -40960 0 0 0 40960 4096 -40960 0 0 0 0 4096 81920 0 0 0\n\
+t -40960 4096 -40960 0 0 0 40960 4096 -40960 0 0 0 0 4096 81920 0 0 0\n\
+frame\n";
+
+const VERTICES_REPORT: &str = "app geode 1 0 1 : ok\napp add 0 1 : ok\napp sync 0 : freed 0\n\
+app frame 1 : ok\napp verts 1 1 : ok\napp verts 1 2 : fault Many 2\napp sync 1 : freed 0\n\
+app frame 2 : ok\n";
+
+const CHANNELS: &str = "perfly 2\nsize 2 2\nlens 1 1 1073741823\nback 10 20 30\nchannels 2\n\
+app\ngeode 1 0 1\n\
+t -40960 4096 -40960 255 0 0 40960 4096 -40960 255 0 0 0 4096 81920 255 0 0\n\
+add 0 1\ncview 1 0 0 0 1800 0 0\nframe\n";
+
+const CHANNELS_REPORT: &str = "app geode 1 0 1 : ok\napp add 0 1 : ok\n\
+app cview 1 0 0 0 1800 0 0 : ok\napp sync 0 : freed 0\napp frame 1 : ok\napp sync 1 : freed 0\n\
+frame 1 shown 1 states 1 visited 3\n";
+
+const TWO_BACKGROUNDS: &[u8] = b"P6\n2 2\n255\n\x0a\x14\x1e\x0a\x14\x1e\x0a\x14\x1e\x0a\x14\x1e\
+P6\n2 2\n255\n\x0a\x14\x1e\x0a\x14\x1e\x0a\x14\x1e\x0a\x14\x1e";
+
+const BACKGROUND_AND_RED: &[u8] = b"P6\n2 2\n255\n\x0a\x14\x1e\x0a\x14\x1e\x0a\x14\x1e\x0a\x14\x1e\
+P6\n2 2\n255\n\xff\0\0\xff\0\0\xff\0\0\xff\0\0";
+
+const RED_AND_BACKGROUND: &[u8] = b"P6\n2 2\n255\n\xff\0\0\xff\0\0\xff\0\0\xff\0\0\
+P6\n2 2\n255\n\x0a\x14\x1e\x0a\x14\x1e\x0a\x14\x1e\x0a\x14\x1e";
+
+const RED_AND_BLUE: &[u8] = b"P6\n2 2\n255\n\xff\0\0\xff\0\0\xff\0\0\xff\0\0\
+P6\n2 2\n255\n\0\0\xff\0\0\xff\0\0\xff\0\0\xff";
+
 /// Where the source, the frame sink and the report sink fail.
 #[derive(Clone, Copy)]
 struct Faults {
@@ -76,6 +136,65 @@ fn an_empty_scene_and_one_frame(rt: HostRuntime) -> Result<(), Fail> {
     assert_eq!(rt; left.ended.status, DONE);
     assert_eq!(rt; left.stream.as_slice(), PICTURE);
     assert_eq!(rt; left.report.as_slice(), REPORT.as_bytes());
+    Ok(())
+}
+
+/// Whether a play that is played without words gives this stream, and a report that begins so.
+fn gives<R: Threads + Sync>(
+    alloc: Global,
+    rt: &R,
+    play: &str,
+    stream: &[u8],
+    report: &str,
+) -> Result<bool, Fail> {
+    let left = run(alloc, rt, "", play, NONE)?;
+    let is_done = left.ended.status == DONE;
+    let streams = left.stream.as_slice() == stream;
+    let reports = left.report.as_slice().starts_with(report.as_bytes());
+    Ok(is_done && streams && reports)
+}
+
+#[test]
+fn merges_and_what_they_show(rt: HostRuntime) -> Result<(), Fail> {
+    assert!(rt; gives(rt.alloc(), &rt, MERGE, BACKGROUND_AND_RED, MERGE_REPORT)?);
+    assert!(rt;
+        gives(
+            rt.alloc(),
+            &rt,
+            REFUSED_MERGE,
+            TWO_BACKGROUNDS,
+            REFUSED_MERGE_REPORT
+        )?
+    );
+    Ok(())
+}
+
+#[test]
+fn deletions_and_vertices(rt: HostRuntime) -> Result<(), Fail> {
+    assert!(rt; gives(rt.alloc(), &rt, DELETION, TWO_BACKGROUNDS, DELETION_REPORT)?);
+    assert!(rt; gives(rt.alloc(), &rt, VERTICES, RED_AND_BLUE, VERTICES_REPORT)?);
+    Ok(())
+}
+
+#[test]
+fn two_channels(rt: HostRuntime) -> Result<(), Fail> {
+    assert!(rt;
+        gives(
+            rt.alloc(),
+            &rt,
+            CHANNELS,
+            RED_AND_BACKGROUND,
+            CHANNELS_REPORT
+        )?
+    );
+    let within = Faults {
+        frames: &[30],
+        ..NONE
+    };
+    let left = run(rt.alloc(), &rt, "", CHANNELS, within)?;
+    assert_eq!(rt; left.ended.status, FRAME_FAULT);
+    assert_eq!(rt; left.stream.len(), 30);
+    assert!(rt; RED_AND_BACKGROUND.starts_with(left.stream.as_slice()));
     Ok(())
 }
 

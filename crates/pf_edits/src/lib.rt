@@ -19,6 +19,3 @@ pub(crate) mod work;
 
 pub use errors::EditsError;
 pub use graph::WorkGraph;
-
-#[cfg(test)]
-mod tests;

@@ -20,7 +20,7 @@ use Rattle.pf_history.specs.Cuts.{names, Cutting, cuttings, cut_at}
 use Rattle.pf_history.specs.CutLaws.{CopyLaw}
 
 -- the ids of these nodes rise
-abbrev AreRising : Nodes → Type 0
+abbrev pub AreRising : Nodes → Type 0
 AreRising nodes = IsRising (map (λ e. e.0) nodes)
 
 other_way : (a b : ℕ) → (a == b) ≡ false → (b == a) ≡ false
@@ -28,7 +28,7 @@ other_way a b h = grind (arith, nat_tests)
 
 -- Members of a list of ids
 
-abbrev among : ℕ → List ℕ → Bool
+abbrev pub among : ℕ → List ℕ → Bool
 among id ids = list_any (λ x. x == id) ids
 
 effects_elsewhere : (g : SceneGraph) (es : List Edit) (id : ℕ) → AreRising g.nodes → among id (map named_by es) ≡ false → node_at (fold effect g es).nodes id ≡ node_at g.nodes id
@@ -95,7 +95,7 @@ effects_rising : (es : List Edit) (g : SceneGraph) → AreRising g.nodes → Are
 effects_rising [] g rising = rising
 effects_rising (e ∷ es) g rising = effects_rising es (effect g e) (effect_rising g e rising)
 
-next_rising : (s : FrameState) (c : Command) → AreRising s.graph.nodes → AreRising (next_state s c).graph.nodes
+pub next_rising : (s : FrameState) (c : Command) → AreRising s.graph.nodes → AreRising (next_state s c).graph.nodes
 next_rising s (command.Edit e) rising = by (is_some (fault_of s.graph e))
   where
     by : (t : Bool) → AreRising (cond t s.graph (effect s.graph e)).nodes
@@ -113,7 +113,7 @@ next_rising s command.Frame rising = rising
 -- Copies along a log
 
 -- each Frame's update list makes of the copy the nodes that the Frame found
-abbrev CopiesRight : Nodes → List Cutting → Type 0
+abbrev pub CopiesRight : Nodes → List Cutting → Type 0
 CopiesRight copy [] = Unit {0}
 CopiesRight copy (c ∷ cs) = (updated_by copy (cut_at c) ≡ c.found.graph.nodes) × CopiesRight (updated_by copy (cut_at c)) cs
 
@@ -124,7 +124,7 @@ is_frame_same s (command.View channel v) h = absurd (cc)
 is_frame_same s (command.Sync r) h = absurd (cc)
 is_frame_same s command.Frame h = refl
 
-copies_right : (copy : Nodes) (ids : List ℕ) (s : FrameState) (log : Log) → AreRising copy → AreRising s.graph.nodes → ((id : ℕ) → among id ids ≡ false → node_at copy id ≡ node_at s.graph.nodes id) → CopiesRight copy (cuttings ids s log)
+pub copies_right : (copy : Nodes) (ids : List ℕ) (s : FrameState) (log : Log) → AreRising copy → AreRising s.graph.nodes → ((id : ℕ) → among id ids ≡ false → node_at copy id ≡ node_at s.graph.nodes id) → CopiesRight copy (cuttings ids s log)
 copies_right copy ids s [] rc rg agree = tt
 copies_right copy ids s (e ∷ es) rc rg agree =
     by (is_frame e.1.command) refl

@@ -31,19 +31,19 @@ use Rattle.pf_history.proofs.Counting.{one, one_most}
 -- Serials and births of nodes
 
 -- the serial of each node, and the frame in preparation when it was made
-abbrev Tags : Type 0
+abbrev pub Tags : Type 0
 Tags = List (ℕ × ℕ)
 
-abbrev tags : Nodes → Tags
+abbrev pub tags : Nodes → Tags
 tags nodes = map (λ e. (e.1.serial, e.1.born)) nodes
 
 -- how many nodes have a serial
-abbrev times : ℕ → Tags → ℕ
+abbrev pub times : ℕ → Tags → ℕ
 times x [] = 0
 times x (t ∷ ts) = one (t.0 == x) + times x ts
 
 -- how many graves do
-abbrev graves_of : ℕ → List GraveState → ℕ
+abbrev pub graves_of : ℕ → List GraveState → ℕ
 graves_of x [] = 0
 graves_of x (g ∷ gs) = one (g.serial == x) + graves_of x gs
 
@@ -211,7 +211,7 @@ none_past x (s ∷ xs) = none_past x xs
 
 -- What holds of nodes, graves and the frames found so far
 
-record AreKept (found : List FrameState) (frames : ℕ) (ts : Tags) (time next : ℕ) (graves : List GraveState) : Type 0 where
+pub record AreKept (found : List FrameState) (frames : ℕ) (ts : Tags) (time next : ℕ) (graves : List GraveState) : Type 0 where
   pub preparing : time ≡ frames + 1
   pub many : length found ≡ frames
   -- a node made since the last Frame stood in none
@@ -318,7 +318,7 @@ kept_effects found frames graves [] g h = h
 kept_effects found frames graves (e ∷ es) g h = kept_effects found frames graves es (effect g e) (kept_effect found frames graves g e h)
 
 -- of a state
-record IsKept (found : List FrameState) (s : FrameState) : Type 0 where
+pub record IsKept (found : List FrameState) (s : FrameState) : Type 0 where
   pub kept : AreKept found s.frames (tags s.graph.nodes) s.graph.time s.graph.next_serial s.graves
   pub emptied : s.graph.gone ≡ []
 
@@ -348,10 +348,10 @@ all_graves_lack found s h (g ∷ gs) within k =
     )
 
 -- the frames found, with this one where the command is a Frame
-abbrev noted : List FrameState → FrameState → Command → List FrameState
+abbrev pub noted : List FrameState → FrameState → Command → List FrameState
 noted found s c = cond (is_frame c) (found ++ s ∷ []) found
 
-kept_next : (found : List FrameState) (s : FrameState) (c : Command) → IsKept found s → IsKept (noted found s c) (next_state s c)
+pub kept_next : (found : List FrameState) (s : FrameState) (c : Command) → IsKept found s → IsKept (noted found s c) (next_state s c)
 kept_next found s (command.Edit e) h = record { kept = by (is_some (fault_of s.graph e)); emptied = refl }
   where
     by : (t : Bool) → GraphKept found s.frames s.graves (cond t s.graph (effect s.graph e))
@@ -432,7 +432,7 @@ freed_from found ids s (d ∷ log) h (suc j) e r x at is freed =
     noted_frames found ids s d log (NoneFrom r x)
     (λ more. freed_from (noted found s d.1.command) more (next_state s d.1.command) log (kept_next found s d.1.command h) j e r x at is freed)
 
-opening_kept : (channels : ℕ) → IsKept [] (opening_state channels)
+pub opening_kept : (channels : ℕ) → IsKept [] (opening_state channels)
 opening_kept channels =
     record {
       kept = record {

@@ -8,4 +8,6 @@ pub mod Counting
 pub mod Cutting
 pub mod Props
 pub mod Reach
+pub mod Arrays
+pub mod Away
 mod Rows

@@ -7,3 +7,4 @@ pub mod Cuts
 pub mod Laws
 pub mod FitLaws
 pub mod CutLaws
+pub mod Away

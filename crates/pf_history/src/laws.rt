@@ -2,6 +2,7 @@
 ghost use Rattle.pf_history.specs.Laws.{OwnEntryLaw, LegalEntryLaw, PreparationLaw, CountsLaw, NeverFallLaw, GravesLaw, LimitsLaw};
 ghost use Rattle.pf_history.specs.FitLaws.{FitLaw, SeatLaw, FramesLaw};
 ghost use Rattle.pf_history.specs.CutLaws.{CopyLaw, CutsLaw, CutsStayLaw, FreedLaw};
+ghost use Rattle.pf_history.specs.Away.{AwayLaw};
 
 /// Adding the one-thread object's own entry keeps a legal history legal, and moves its state by one step.
 pub fn own_entries_are_legal()
@@ -76,4 +77,12 @@ pub fn cuts_stay()
 /// that the Sync retires.
 pub fn freed_serials_stand_in_no_later_frame()
     ensures { FreedLaw }
+{}
+
+/// What is away of a geode's triangles, in the copy that the retired frames left and in the update lists of the frames
+/// that are not retired. A Frame adds what its update list holds, and a Sync takes off what comes back of the lists of
+/// the frames that it retires, in place of each list what it replaced. An update list and a copy hold the triangles at
+/// most once each, so in a legal history they are away at most once more than frames are not retired.
+pub fn arrays_are_away_at_most_once_a_frame()
+    ensures { AwayLaw }
 {}

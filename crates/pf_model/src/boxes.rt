@@ -74,26 +74,3 @@ fn squared(size: u64) -> u64
 {
     size * size
 }
-
-#[cfg(test)]
-mod tests {
-    use super::*;
-    use std::test::Fail;
-
-    #[test]
-    fn box_of_a_triangle(rt: HostRuntime) -> Result<(), Fail> {
-        let u = Vec3::new(-4_096, 4_096, 0).ok_or("range")?;
-        let v = Vec3::new(4_096, 8_192, 0).ok_or("range")?;
-        let w = Vec3::new(0, 4_096, 4_096).ok_or("range")?;
-        let tri = Tri {
-            v: [u, v, w],
-            c: [[0; 3]; 3],
-        };
-        let around = box_of_tris(&[tri]).ok_or("no box")?;
-        assert_eq!(rt; around.lo, Vec3::new(-4_096, 4_096, 0).ok_or("range")?);
-        assert_eq!(rt; around.hi, Vec3::new(4_096, 8_192, 4_096).ok_or("range")?);
-        assert_eq!(rt; box_of_tris(&[]), None);
-        assert_eq!(rt; squared_distance(&around), 167_772_160);
-        Ok(())
-    }
-}

@@ -92,38 +92,3 @@ impl View {
         carried_box(b, &self.steps())
     }
 }
-
-#[cfg(test)]
-mod tests {
-    use super::*;
-    use crate::poses::Euler;
-    use fx_math::shift;
-    use std::test::Fail;
-
-    fn quarter_turn() -> Euler {
-        Euler {
-            scale: 65_536,
-            h: 900,
-            p: 0,
-            r: 0,
-            t: Vec3::ORIGIN,
-        }
-    }
-
-    #[test]
-    fn quarter_turn_and_shift(rt: HostRuntime) -> Result<(), Fail> {
-        let ahead = Vec3::new(0, 4_096, 0).ok_or("range")?;
-        let left = Vec3::new(-4_096, 0, 0).ok_or("range")?;
-        let moved = Vec3::new(-4_096, 4_096, 0).ok_or("range")?;
-        let [scaled, rolled, pitched, turned, _] = quarter_turn().steps();
-        let steps = [scaled, rolled, pitched, turned, shift(ahead)];
-        assert_eq!(rt; carried_point(ahead, &steps), moved);
-        assert_eq!(rt; Pose::Euler(quarter_turn()).carry(ahead), left);
-        let b = Box3::new(Vec3::ORIGIN, ahead).ok_or("order")?;
-        let turned = Box3::new(left, Vec3::ORIGIN).ok_or("order")?;
-        assert_eq!(rt; Pose::Euler(quarter_turn()).carry_box(&b), turned);
-        let across = Box3::new(moved, ahead).ok_or("order")?;
-        assert_eq!(rt; carried_box(&b, &steps), across);
-        Ok(())
-    }
-}

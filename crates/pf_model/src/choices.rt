@@ -115,18 +115,3 @@ impl Chosen {
         }
     }
 }
-
-#[cfg(test)]
-mod tests {
-    use super::*;
-    use std::test::Fail;
-
-    #[test]
-    fn places_of_three_children(rt: HostRuntime) -> Result<(), Fail> {
-        assert_eq!(rt; Chosen::All.shown_places(3), 0..3);
-        assert_eq!(rt; Chosen::One(2).shown_places(3), 2..3);
-        assert_eq!(rt; Chosen::One(3).shown_places(3), 0..0);
-        assert_eq!(rt; Chosen::Nothing.shown_places(3), 0..0);
-        Ok(())
-    }
-}

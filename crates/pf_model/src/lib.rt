@@ -32,6 +32,3 @@ pub use poses::{Euler, Pose, View};
 pub use steps::Steps;
 pub use surfaces::Surface;
 pub use views::{Arrays, NodeView, SceneView};
-
-#[cfg(test)]
-mod tests;

@@ -58,33 +58,3 @@ impl Kind {
         }
     }
 }
-
-#[cfg(test)]
-mod tests {
-    use super::*;
-    use crate::lists::Ranges;
-    use std::test::Fail;
-
-    #[test]
-    fn surface_centre_and_decal(rt: HostRuntime) -> Result<(), Fail> {
-        let geom = Geom::new(Vec::new(rt.alloc()))?;
-        let glass = Kind::Glass {
-            state: 7,
-            alpha: 128,
-            geom,
-        };
-        let surface = glass.surface().ok_or("no surface")?;
-        assert_eq!(rt; surface.state, 7);
-        assert_eq!(rt; surface.tint, Some(128));
-        assert_eq!(rt; surface.geom.len(), 0);
-        assert!(rt; Kind::Group.surface().is_none());
-        let centre = Vec3::new(1, 2, 3).ok_or("range")?;
-        let ranges = Ranges::new(rt.alloc());
-        let lod = Kind::Lod { centre, ranges };
-        assert_eq!(rt; lod.centre(), centre);
-        assert_eq!(rt; glass.centre(), Vec3::ORIGIN);
-        assert_eq!(rt; Kind::Layer.decal(), 16);
-        assert_eq!(rt; lod.decal(), 0);
-        Ok(())
-    }
-}

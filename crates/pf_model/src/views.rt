@@ -1,5 +1,5 @@
 //! Views of a scene: what the walk, the boxes and the renderers need of a graph or of a copy of it.
-ghost use Rattle.std.specs.Prelude.{◌≡◌, ◌≢◌, ◌<◌, ◌+◌, ℕ, true, List, Option, Some, is_some, is_ok, OnOk, OnErr};
+ghost use Rattle.std.specs.Prelude.{◌≡◌, ◌≢◌, ◌<◌, ◌≤◌, ◌+◌, ℕ, max, true, List, Option, Some, is_some, is_ok, OnOk, OnErr};
 ghost use Rattle.pf_model.specs.declared.geometry.Tri.{Tri};
 ghost use Rattle.std.specs.Option.{option_copied, option_map};
 ghost use Rattle.fx_math.specs.Plain.{Bounds};
@@ -29,7 +29,8 @@ pub trait SceneView: NodeView {
         ensures { option_map bounds_of result ≡ boxes self.now id };
 }
 
-/// Arrays of vertices by the serial of their geode: the copies that are free, and the content last written.
+/// Arrays of vertices by the serial of their geode: the copies that are free and those that are out, the greatest number
+/// that there have been, and the content last written.
 pub trait Arrays {
     /// The number of free copies under a serial.
     ghost free: { Self → ℕ → ℕ };
@@ -37,13 +38,22 @@ pub trait Arrays {
     /// The written content under a serial, where the serial is there.
     ghost written: { Self → ℕ → Option (List Tri) };
 
-    /// Makes sure that a copy is free under a serial that is there. Where one is free already, nothing changes.
+    /// The number of copies that are out under a serial.
+    ghost out: { Self → ℕ → ℕ };
+
+    /// The greatest number of copies that there have been under one serial.
+    ghost most: { Self → ℕ };
+
+    /// Makes sure that a copy is free under a serial that is there. Where one is free already, nothing changes; else there
+    /// is one copy more than are out.
     fn ready(&mut self, serial: u32) -> Result<(), NoMemory>
         requires { is_some (written self.old serial) ≡ true }
         ensures ready { OnOk result (0 < free self.new serial) }
         ensures was_ready { 0 < free self.old serial → OnOk result (self.new ≡ self.old) × (is_ok result ≡ true) }
         ensures others { (s : ℕ) → s ≢ serial → free self.new s ≡ free self.old s }
         ensures written { (s : ℕ) → written self.new s ≡ written self.old s }
+        ensures out { (s : ℕ) → out self.new s ≡ out self.old s }
+        ensures most { most self.new ≤ max (most self.old) (out self.old serial + 1) }
         ensures unchanged { OnErr result (self.new ≡ self.old) };
 
     /// Takes a free copy under the serial of a geode, equal to its triangles.
@@ -53,5 +63,8 @@ pub trait Arrays {
         ensures equal { result ≡ geom.now }
         ensures less { free self.new serial + 1 ≡ free self.old serial }
         ensures others { (s : ℕ) → s ≢ serial → free self.new s ≡ free self.old s }
-        ensures written { (s : ℕ) → written self.new s ≡ written self.old s };
+        ensures written { (s : ℕ) → written self.new s ≡ written self.old s }
+        ensures out { out self.new serial ≡ out self.old serial + 1 }
+        ensures others_out { (s : ℕ) → s ≢ serial → out self.new s ≡ out self.old s }
+        ensures most { most self.new ≡ most self.old };
 }

@@ -14,8 +14,3 @@ mod walk;
 
 pub use instances::Instance;
 pub use renderer::{draw_instances, draw_plain};
-
-#[cfg(test)]
-mod scenes;
-#[cfg(test)]
-mod tests;

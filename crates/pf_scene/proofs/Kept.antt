@@ -26,6 +26,8 @@ use Rattle.pf_history.proofs.Folds.{state_push, legal_push, own_entry_legal, kep
 use Rattle.pf_history.proofs.Counting.{counts_law}
 use Rattle.pf_history.proofs.Cutting.{cuts_law}
 use Rattle.pf_history.specs.Laws.{own_entry}
+use Rattle.pf_scene.specs.Stock.{Written}
+use Rattle.pf_scene.specs.Counts.{FitHome}
 use Rattle.pf_scene.specs.Scenes.{SceneState, IsKept, IsScene, HasWeight, weight_of, weight_in}
 
 -- Each command weighs what it adds to the numbers of a state
@@ -55,6 +57,31 @@ after_all_serials g es = by (is_some (merge_fault g es))
     by : (t : Bool) → (cond t g (fold effect g es)).next_serial ≤ g.next_serial + length es
     by true = omega arith
     by false = effects_serials g es
+
+-- A graph's next serial never falls
+
+effect_grows : (g : SceneGraph) (e : Edit) → g.next_serial ≤ (effect g e).next_serial
+effect_grows g (edit.Make id kind) = omega arith
+effect_grows g (edit.Delete id) = omega arith
+effect_grows g e = omega arith
+
+effects_grow : (g : SceneGraph) (es : List Edit) → g.next_serial ≤ (fold effect g es).next_serial
+effects_grow g [] = omega arith
+effects_grow g (e ∷ es) = let one = effect_grows g e in let rest = effects_grow (effect g e) es in omega (arith, one, rest)
+
+pub after_grows : (g h : SceneGraph) (e : Edit) → h ≡ emptied (after g e) → g.next_serial ≤ h.next_serial
+after_grows g h e is = subst (λ (k : SceneGraph). g.next_serial ≤ k.next_serial) (sym is) (by (is_some (fault_of g e)))
+  where
+    by : (t : Bool) → g.next_serial ≤ (cond t g (effect g e)).next_serial
+    by true = omega arith
+    by false = effect_grows g e
+
+pub after_all_grows : (g h : SceneGraph) (es : List Edit) → h ≡ emptied (after_all g es) → g.next_serial ≤ h.next_serial
+after_all_grows g h es is = subst (λ (k : SceneGraph). g.next_serial ≤ k.next_serial) (sym is) (by (is_some (merge_fault g es)))
+  where
+    by : (t : Bool) → g.next_serial ≤ (cond t g (fold effect g es)).next_serial
+    by true = omega arith
+    by false = effects_grow g es
 
 -- The numbers of a state are at most so great.
 record AreBelow (s : FrameState) (n : ℕ) : Type 0 where
@@ -178,11 +205,11 @@ cut_is_last channels log e frame =
 
 -- A scene whose parts are those after an entry
 
-pub scene_entered : (ahead channels : ℕ) (log log' : Log) (s s' : FrameState) (marks marks' : List ℕ) (weight weight' seat : ℕ) (c : Command) (e : Entry)
-    → IsScene ahead channels log s marks weight → CanMake s c → weight + weight_of c < 2 ^ 31
+pub scene_entered : (ahead channels : ℕ) (log log' : Log) (s s' : FrameState) (marks marks' : List ℕ) (weight weight' seat : ℕ) (c : Command) (e : Entry) (v w : Written)
+    → IsScene ahead channels log s marks weight v → CanMake s c → weight + weight_of c < 2 ^ 31
     → log' ≡ log ++ (seat, e) ∷ [] → e ≡ entry_of s c → s' ≡ next_state s c → marks' ≡ marks_after marks s c → weight' ≡ weight + weight_of c
-    → IsScene ahead channels log' s' marks' weight'
-scene_entered ahead channels log log' s s' marks marks' weight weight' seat c e scene can light logs entry states marks_same weights = record {
+    → FitHome channels log' s'.graph.next_serial w → IsScene ahead channels log' s' marks' weight' w
+scene_entered ahead channels log log' s s' marks marks' weight weight' seat c e v w scene can light logs entry states marks_same weights home = record {
   few_ahead = scene.few_ahead;
   few_channels = scene.few_channels;
   kept =
@@ -191,7 +218,13 @@ scene_entered ahead channels log log' s s' marks marks' weight weight' seat c e 
       (subst (λ (t : FrameState). IsKept channels log' t (marks_after marks s c) (weight + weight_of c)) (sym states)
       (subst (λ (es : Log). IsKept channels es (next_state s c) (marks_after marks s c) (weight + weight_of c))
       (sym (logs ∙ ap (λ (x : Entry). log ++ (seat, x) ∷ []) entry)) (kept_entered channels log s marks weight seat c scene.kept can light))));
+  home = home;
 }
+
+-- where other cycles fit what came back
+pub scene_recycled : (ahead channels : ℕ) (log : Log) (s : FrameState) (marks : List ℕ) (weight : ℕ) (v w : Written) → IsScene ahead channels log s marks weight v
+    → FitHome channels log s.graph.next_serial w → IsScene ahead channels log s marks weight w
+scene_recycled ahead channels log s marks weight v w scene home = record { few_ahead = scene.few_ahead; few_channels = scene.few_channels; kept = scene.kept; home = home }
 
 pub log_entered : (channels : ℕ) (log log' : Log) (s : FrameState) (seat : ℕ) (c : Command) (e : Entry)
     → state_of channels log ≡ s → log' ≡ log ++ (seat, e) ∷ [] → e ≡ entry_of s c → log' ≡ log ++ own_entry channels log seat c ∷ []
@@ -200,8 +233,8 @@ log_entered channels log log' s seat c e after logs entry =
 
 -- What each command does to a state whose parts are named
 
-pub knows : (ahead channels : ℕ) (log : Log) (s : FrameState) (marks : List ℕ) (weight : ℕ) → IsScene ahead channels log s marks weight → AreKnown channels s marks weight
-knows ahead channels log s marks weight scene = known channels log s marks weight scene.kept
+pub knows : (ahead channels : ℕ) (log : Log) (s : FrameState) (marks : List ℕ) (weight : ℕ) (w : Written) → IsScene ahead channels log s marks weight w → AreKnown channels s marks weight
+knows ahead channels log s marks weight w scene = known channels log s marks weight scene.kept
 
 pub light_enough : (v : SceneState) (log : Log) (weight : ℕ) (c : Command) → v.shared.log ≡ log → weight ≡ weight_in log → HasWeight v.shared c → weight + weight_of c < 2 ^ 31
 light_enough v log weight c same weighs h = let e = ap weight_in same in omega (arith, e, weighs, h)

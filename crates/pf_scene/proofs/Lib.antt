@@ -7,3 +7,9 @@ pub mod Kept
 pub mod Loops
 pub mod Taken
 pub mod Rooms
+pub mod Trimmed
+pub mod Bringing
+pub mod Accounts
+pub mod Homes
+pub mod Refused
+pub mod Seated

@@ -1,9 +1,11 @@
 -- What an act does to the scene that it finds, and what a glance shows of it.
-use Rattle.std.specs.Prelude.{◌≡◌, ℕ, ◌+◌, ◌<◌, ◌≤◌, true, [], length, map}
+use Rattle.std.specs.Prelude.{◌≡◌, ℕ, ◌+◌, ◌<◌, ◌≤◌, true, List, [], length, map}
+use Rattle.std.specs.Vec.{vec_capacity}
 use Rattle.std.specs.List.{list_all}
 use Rattle.pf_model.specs.declared.edits.Edit.{Edit}
 use Rattle.pf_model.specs.Angles.{Viewpoint}
 use Rattle.pf_model.specs.Fits.{fits}
+use Rattle.pf_model.specs.Copies.{UpdateList}
 use Rattle.pf_history.specs.declared.commands.Command.{Command}
 use Rattle.pf_history.specs.declared.commands.Command.TheVariants as command
 use Rattle.pf_history.specs.declared.commands.Merge.{Merge}
@@ -17,7 +19,7 @@ use Rattle.pf_scene.specs.declared.outcomes.Synced.{Synced}
 use Rattle.pf_scene.specs.declared.outcomes.Channels.{Channels}
 use Rattle.pf_scene.specs.declared.outcomes.Framed.{Framed}
 use Rattle.pf_scene.specs.declared.outcomes.Sight.{Sight}
-use Rattle.pf_scene.specs.Scenes.{Shared, SceneState, state_in, entered, weight_in, HasWeight, copies_after}
+use Rattle.pf_scene.specs.Scenes.{Shared, SceneState, KeepsCopies, AreOfRetired, state_in, entered, weight_in, HasWeight, copies_after}
 use Rattle.pf_scene.specs.Frames.{IsCutOf, AllHaveRoom, drawn}
 
 -- a seat is in charge
@@ -56,46 +58,61 @@ pub record MayFrame (s : Shared) (ahead lists : ℕ) : Type 0 where
 
 -- What an act did
 
--- the command was entered under the seat, and the copies are as after it
+-- The command was entered under the seat, the copies are as after it, and those that are out stay accounted for.
 pub record Enters (c : Command) (seat : ℕ) (found left : SceneState) : Type 0 where
   pub shared : left.shared ≡ entered c (seated seat found.shared)
   pub copies : left.copies ≡ copies_after found.shared.ahead (state_in found.shared) c found.copies
+  pub accounted : KeepsCopies found → KeepsCopies left
+
+-- A Sync was entered under the seat, with these lists that came home. Where they are what came back of the frames that
+-- it retires, the copies that are out stay accounted for.
+pub record Syncs (retired : ℕ) (lists : List UpdateList) (seat : ℕ) (found left : SceneState) : Type 0 where
+  pub shared : left.shared ≡ entered (command.Sync retired) (seated seat found.shared)
+  pub copies : left.copies ≡ found.copies
+  pub accounted : AreOfRetired retired found.shared lists → KeepsCopies found → KeepsCopies left
 
 -- an edit was entered where it may be made; it may not be made; or there was no memory
 abbrev pub DoesEdit : Edit → ℕ → SceneState → SceneState → Outcome Reply Edit → Type 0
 DoesEdit e seat found left (outcome.Entered r) =
     MayEdit found.shared e × Enters (command.Edit e) seat found left × (r ≡ reply_of (state_in found.shared) (command.Edit e))
 DoesEdit e seat found left (outcome.NotNow back) = (left ≡ found) × (back ≡ e) × (MayEdit found.shared e → ⊥)
-DoesEdit e seat found left (outcome.NoMemory back) = (left.shared ≡ seated seat found.shared) × (back ≡ e)
+DoesEdit e seat found left (outcome.NoMemory back) =
+    (left.shared ≡ seated seat found.shared) × (back ≡ e) × (KeepsCopies found → KeepsCopies left)
 
 abbrev pub DoesMerge : Merge → ℕ → SceneState → SceneState → Outcome Reply Merge → Type 0
 DoesMerge m seat found left (outcome.Entered r) =
     MayMerge found.shared m × Enters (command.Merge m) seat found left × (r ≡ reply_of (state_in found.shared) (command.Merge m))
 DoesMerge m seat found left (outcome.NotNow back) = (left ≡ found) × (back ≡ m) × (MayMerge found.shared m → ⊥)
-DoesMerge m seat found left (outcome.NoMemory back) = (left.shared ≡ seated seat found.shared) × (back ≡ m)
+DoesMerge m seat found left (outcome.NoMemory back) =
+    (left.shared ≡ seated seat found.shared) × (back ≡ m) × (KeepsCopies found → KeepsCopies left)
 
 abbrev pub DoesView : ℕ → Viewpoint → ℕ → SceneState → SceneState → Outcome Reply (Unit {0}) → Type 0
 DoesView channel v seat found left (outcome.Entered r) =
     MayView found.shared channel v × Enters (command.View channel v) seat found left
     × (r ≡ reply_of (state_in found.shared) (command.View channel v))
 DoesView channel v seat found left (outcome.NotNow back) = (left ≡ found) × (MayView found.shared channel v → ⊥)
-DoesView channel v seat found left (outcome.NoMemory back) = left.shared ≡ seated seat found.shared
+DoesView channel v seat found left (outcome.NoMemory back) =
+    (left.shared ≡ seated seat found.shared) × (KeepsCopies found → KeepsCopies left)
 
--- a Sync that was entered leaves no list to bring home
+-- a Sync that was entered leaves no list to bring home; the room for lists stays whatever the answer
 abbrev pub DoesSync : ℕ → Home → ℕ → SceneState → SceneState → Outcome Synced Home → Type 0
 DoesSync retired home seat found left (outcome.Entered r) =
-    MaySync found.shared retired × Enters (command.Sync retired) seat found left
+    MaySync found.shared retired × Syncs retired home.lists.items seat found left
     × (r.reply ≡ reply_of (state_in found.shared) (command.Sync retired)) × (r.home.lists.items ≡ [])
+    × (vec_capacity r.home.lists ≡ vec_capacity home.lists)
 DoesSync retired home seat found left (outcome.NotNow back) =
     (left ≡ found) × (back ≡ home) × (MaySync found.shared retired → ⊥)
 DoesSync retired home seat found left (outcome.NoMemory back) =
     (left.shared ≡ seated seat found.shared) × (back.lists.items ≡ home.lists.items)
+    × (vec_capacity back.lists ≡ vec_capacity home.lists) × (KeepsCopies found → KeepsCopies left)
 
--- What a Frame that was entered did: its cut is that of the history, and each draw list has room and is as before.
+-- What a Frame that was entered did: its cut is that of the history, each draw list has room and is as before, and the
+-- copies that are out stay accounted for.
 pub record Begins (ahead : ℕ) (channels : Channels) (seat : ℕ) (found left : SceneState) (r : Framed) : Type 0 where
   pub may : MayFrame found.shared ahead (length channels.lists.items)
   pub shared : left.shared ≡ entered command.Frame (seated seat found.shared)
   pub copies : found.copies ≤ left.copies
+  pub accounted : KeepsCopies found → KeepsCopies left
   pub cut : IsCutOf r.cut found.shared
   pub updates : r.cut.updates ≡ cut_of left.shared.channels left.shared.log r.cut.frame
   pub room : AllHaveRoom (state_in found.shared).graph r.channels.lists.items
@@ -107,7 +124,7 @@ DoesFrame ahead channels seat found left (outcome.NotNow back) =
     (left ≡ found) × (back ≡ channels) × (MayFrame found.shared ahead (length channels.lists.items) → ⊥)
 DoesFrame ahead channels seat found left (outcome.NoMemory back) =
     (left.shared ≡ seated seat found.shared) × (found.copies ≤ left.copies)
-    × (map drawn back.lists.items ≡ map drawn channels.lists.items)
+    × (map drawn back.lists.items ≡ map drawn channels.lists.items) × (KeepsCopies found → KeepsCopies left)
 
 -- the stop mark is set, and nothing else changed
 abbrev pub DoesStop : SceneState → SceneState → Type 0

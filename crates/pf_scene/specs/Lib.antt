@@ -1,5 +1,6 @@
 pub mod Scenes
 pub mod Worlds
 pub mod Stock
+pub mod Counts
 pub mod Frames
 pub mod Acts

@@ -1,15 +1,18 @@
 -- What clauses see of the scene, and what its type keeps.
-use Rattle.std.specs.Prelude.{◌≡◌, ℕ, ◌+◌, ◌^◌, ◌<◌, ◌≤◌, max, Bool, if◌then◌else◌, is_some, List, [], ◌∷◌, ◌++◌, length}
+use Rattle.std.specs.Prelude.{◌≡◌, ℕ, ◌+◌, ◌^◌, ◌<◌, ◌≤◌, max, Bool, true, if◌then◌else◌, is_some, List, [], ◌∷◌, ◌++◌, length}
 use Rattle.std.specs.List.{sum_by, list_any}
 use Rattle.pf_model.specs.Edits.{fault_of}
 use Rattle.pf_model.specs.Merges.{merge_fault}
+use Rattle.pf_model.specs.Copies.{UpdateList}
 use Rattle.pf_history.specs.declared.commands.Command.{Command}
 use Rattle.pf_history.specs.declared.commands.Command.TheVariants as command
 use Rattle.pf_history.specs.Objects.{FrameState}
 use Rattle.pf_history.specs.Logs.{Log, state_of, IsLegal}
 use Rattle.pf_history.specs.Laws.{own_entry}
 use Rattle.pf_history.specs.Cuts.{marked}
-use Rattle.pf_scene.specs.Stock.{makes_geode}
+use Rattle.pf_history.specs.Away.{came_back_between}
+use Rattle.pf_scene.specs.Stock.{Written, makes_geode}
+use Rattle.pf_scene.specs.Counts.{FitHome}
 
 -- What the stages share: the log, the number of the seat under which the next entries stand, whether the stop mark is
 -- set, how many frames may be ahead, and how many channels there are.
@@ -20,14 +23,25 @@ pub record Shared : Type 0 where
   pub ahead : ℕ
   pub channels : ℕ
 
--- What clauses see of the scene: what is shared, and the greatest number of copies that a geode's cycle has had.
+-- What clauses see of the scene: what is shared, the greatest number of copies that a geode's cycle has had, and whether
+-- the copies that are out are accounted for (`are_accounted`): no cycle has had more than frames may be ahead and one
+-- more, and of no geode's triangles more are out than are away.
 pub record SceneState : Type 0 where
   pub shared : Shared
   pub copies : ℕ
+  pub accounted : Bool
+
+-- the copies that are out are accounted for, and no cycle has had more copies than frames may be ahead and one more
+abbrev pub KeepsCopies : SceneState → Type 0
+KeepsCopies s = (s.accounted ≡ true) × (s.copies ≤ s.shared.ahead + 1)
 
 -- the state of the one-thread object after the log
 abbrev pub state_in : Shared → FrameState
 state_in s = state_of s.channels s.log
+
+-- these update lists are what came back of the frames that a Sync retires
+abbrev pub AreOfRetired : ℕ → Shared → List UpdateList → Type 0
+AreOfRetired retired s lists = lists ≡ came_back_between s.channels s.log (state_in s).retired retired
 
 -- the one-thread object's own entry for a command stands at the end of the log
 abbrev pub entered : Command → Shared → Shared
@@ -71,8 +85,9 @@ pub record IsKept (channels : ℕ) (log : Log) (state : FrameState) (marks : Lis
   pub weighs : weight ≡ weight_in log
   pub light : weight < 2 ^ 31
 
--- A scene: what it keeps of its history, and its two numbers from 1 to 4.
-pub record IsScene (ahead channels : ℕ) (log : Log) (state : FrameState) (marks : List ℕ) (weight : ℕ) : Type 0 where
+-- A scene: what it keeps of its history and of its cycles, and its two numbers from 1 to 4.
+pub record IsScene (ahead channels : ℕ) (log : Log) (state : FrameState) (marks : List ℕ) (weight : ℕ) (written : Written) : Type 0 where
   pub few_ahead : IsSmall ahead
   pub few_channels : IsSmall channels
   pub kept : IsKept channels log state marks weight
+  pub home : FitHome channels log state.graph.next_serial written

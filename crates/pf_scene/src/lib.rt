@@ -15,8 +15,3 @@ pub use acts::{EditAct, FrameAct, MergeAct, SightGlance, StopAct, SyncAct, ViewA
 pub use outcomes::{Channels, Framed, Home, Outcome, Sight, Synced};
 pub use scene::Scene;
 pub use update_lists::{Cut, Views};
-
-#[cfg(test)]
-mod history_tests;
-#[cfg(test)]
-mod tests;

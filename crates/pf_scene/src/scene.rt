@@ -1,13 +1,14 @@
 //! The scene: the graph, the views, the frames, the graves and the history as one value.
 ghost use Rattle.std.specs.Prelude.{◌≡◌, ◌+◌, ◌^◌, ◌<◌, ◌≤◌, true, false, length, map, OnOk, OnErr, IfOk, IfErr, []};
 ghost use Rattle.std.specs.List.{list_all};
+ghost use Rattle.std.specs.Vec.{vec_capacity};
 ghost use Rattle.pf_model.specs.Limits.{IsGraphWithinLimits};
 ghost use Rattle.pf_model.specs.Fits.{fits};
 ghost use Rattle.pf_history.specs.declared.commands.Command.TheVariants as command;
 ghost use Rattle.pf_history.specs.Objects.{reply_of};
 ghost use Rattle.pf_history.specs.Logs.{IsLegal};
 ghost use Rattle.pf_history.specs.Cuts.{cut_of};
-ghost use Rattle.pf_scene.specs.Scenes.{state_in, entered, weight_in, HasWeight, copies_after, IsSmall};
+ghost use Rattle.pf_scene.specs.Scenes.{KeepsCopies, AreOfRetired, state_in, entered, weight_in, HasWeight, copies_after, IsSmall};
 ghost use Rattle.pf_scene.specs.Frames.{IsCutOf, AllHaveRoom, drawn};
 
 use crate::world::World;
@@ -40,7 +41,9 @@ pub struct Scene {
 }
 
 impl Model for Scene {
+    ghost use Rattle.cycle_buffer.specs.Cycles.{written_at};
     ghost use Rattle.pf_scene.specs.Scenes.{SceneState, IsScene};
+    ghost use Rattle.pf_scene.specs.Counts.{are_accounted};
 
     ghost Value = { SceneState };
 
@@ -53,6 +56,7 @@ impl Model for Scene {
         channels = s.channels;
       };
       copies = s.copies;
+      accounted = are_accounted s.ahead s.channels s.history.entries s.world.cycles;
     } };
 
     ghost invariant = { λ s. IsScene s.ahead s.channels s.history.entries (record {
@@ -62,7 +66,7 @@ impl Model for Scene {
       retired = s.retired;
       merges = s.merges;
       graves = s.world.graves;
-    }) s.world.marks s.weight };
+    }) s.world.marks s.weight (written_at s.world.cycles) };
 }
 
 impl Scene {
@@ -74,6 +78,7 @@ impl Scene {
         ensures { IfOk result (λ s. s ≡ record {
           shared = record { log = []; seat = 0; stopped = false; ahead = ahead; channels = channels };
           copies = 0;
+          accounted = true;
         }) }
     {
         Ok(Scene {
@@ -212,6 +217,7 @@ impl Scene {
         ensures entered { OnOk result (self.new.shared ≡ entered (command.View channel view) self.old.shared) }
         ensures reply { IfOk result (λ r. r ≡ reply_of (state_in self.old.shared) (command.View channel view)) }
         ensures copies { self.new.copies ≡ self.old.copies }
+        ensures accounted { KeepsCopies self.old → KeepsCopies self.new }
         ensures unchanged { OnErr result (self.new ≡ self.old) }
     {
         self.history.reserve(1)?;
@@ -232,8 +238,11 @@ impl Scene {
         ensures reply { IfOk result (λ r. r ≡ reply_of (state_in self.old.shared) (command.Sync retired)) }
         ensures home { OnOk result (home.new.items ≡ []) }
         ensures copies { self.new.copies ≡ self.old.copies }
+        ensures accounted { OnOk result (AreOfRetired retired self.old.shared home.old.items
+            → KeepsCopies self.old → KeepsCopies self.new) }
         ensures unchanged { OnErr result (self.new ≡ self.old) }
         ensures left { OnErr result (home.new.items ≡ home.old.items) }
+        ensures capacity { vec_capacity home.new ≡ vec_capacity home.old }
     {
         self.history.reserve(1)?;
         let graves = self.world.graves();
@@ -257,6 +266,7 @@ impl Scene {
         ensures reply { IfOk result (λ r. r ≡ reply_of (state_in self.old.shared) (command.Edit e)) }
         ensures copies { OnOk result (self.new.copies
             ≡ copies_after self.old.shared.ahead (state_in self.old.shared) (command.Edit e) self.old.copies) }
+        ensures accounted { KeepsCopies self.old → KeepsCopies self.new }
         ensures unchanged { OnErr result (self.new ≡ self.old) }
         ensures back { IfErr result (λ back. back ≡ e) }
     {
@@ -283,6 +293,7 @@ impl Scene {
         ensures reply { IfOk result (λ r. r ≡ reply_of (state_in self.old.shared) (command.Merge m)) }
         ensures copies { OnOk result (self.new.copies
             ≡ copies_after self.old.shared.ahead (state_in self.old.shared) (command.Merge m) self.old.copies) }
+        ensures accounted { KeepsCopies self.old → KeepsCopies self.new }
         ensures unchanged { OnErr result (self.new ≡ self.old) }
         ensures back { IfErr result (λ back. back ≡ m) }
     {
@@ -317,9 +328,11 @@ impl Scene {
         ensures room { OnOk result (AllHaveRoom (state_in self.old.shared).graph lists.new) }
         ensures lists { map drawn lists.new ≡ map drawn lists.old }
         ensures copies { self.old.copies ≤ self.new.copies }
+        ensures accounted { KeepsCopies self.old → KeepsCopies self.new }
         ensures unchanged { OnErr result (self.new.shared ≡ self.old.shared) }
     {
         let _ = ahead;
+        self.world.keeps_limits();
         self.history.reserve(1)?;
         let (size, tris) = (self.world.size(), self.world.tris());
         lists::make_room(lists, size as usize, tris as usize)?;

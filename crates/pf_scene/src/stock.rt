@@ -2,13 +2,16 @@
 ghost use Rattle.std.specs.Prelude.{◌≡◌, ◌≢◌, ℕ, ◌+◌, ◌-◌, ◌^◌, ◌<◌, ◌≤◌, true, false, None, [], map, length, OnOk, OnErr, option_map};
 ghost use Rattle.std.specs.List.{list_all, list_any};
 ghost use Rattle.std.specs.Option.{option_copied};
+ghost use Rattle.std.specs.Vec.{vec_capacity};
 ghost use Rattle.pf_model.specs.Kinds.{geom_of, is_geode};
 ghost use Rattle.pf_model.specs.Graphs.{node_at};
 ghost use Rattle.pf_model.specs.Fits.{fits, kind_fits};
 ghost use Rattle.pf_model.specs.Copies.{named_by};
-ghost use Rattle.cycle_buffer.specs.Cycles.{written_at};
+ghost use Rattle.pf_history.specs.Away.{arrays_of, arrays_in, arrays_in_all};
+ghost use Rattle.cycle_buffer.specs.Cycles.{written_at, out_at, most_of};
 ghost use Rattle.update_lists.specs.Marks.{among};
 ghost use Rattle.update_lists.specs.Taking.{IsWritten, geode_serial};
+ghost use Rattle.pf_scene.specs.Counts.{AreTrimmed, FitsHome, ListFits, ListsFit};
 ghost use Rattle.pf_scene.specs.Stock.{makes_geode, serial_after, serial_behind, HasCycle, HaveCycles, IsSized};
 
 use cycle_buffer::Cycles;
@@ -60,6 +63,8 @@ fn serial_after(serial: u32, e: &Edit) -> u32
 fn drop_cycle(cycles: &mut Cycles, serial: u32)
     ensures none { written_at cycles.new serial ≡ None }
     ensures others { (s : ℕ) → s ≢ serial → written_at cycles.new s ≡ written_at cycles.old s }
+    ensures out { (s : ℕ) → s ≢ serial → out_at cycles.new s ≡ out_at cycles.old s }
+    ensures trimmed { (next : ℕ) → AreTrimmed next cycles.old cycles.new }
 {
     cycles.remove(serial);
 }
@@ -73,6 +78,8 @@ fn add_kind(cycles: &mut Cycles, serial: u32, kind: &Kind) -> Result<(), NoMemor
     ensures others { (s : ℕ) → s ≢ serial → written_at cycles.new s ≡ written_at cycles.old s }
     ensures unchanged { OnErr result (cycles.new ≡ cycles.old) }
     ensures absent { is_geode kind.now ≡ false → cycles.new ≡ cycles.old }
+    ensures out { (s : ℕ) → out_at cycles.new s ≡ out_at cycles.old s }
+    ensures trimmed { AreTrimmed serial cycles.old cycles.new }
 {
     match tris_of(kind) {
         Some(geom) => cycles.add(serial, geom.as_slice()),
@@ -88,6 +95,8 @@ fn add_edit(cycles: &mut Cycles, serial: u32, e: &Edit) -> Result<(), NoMemory>
     ensures others { (s : ℕ) → s ≢ serial → written_at cycles.new s ≡ written_at cycles.old s }
     ensures unchanged { OnErr result (cycles.new ≡ cycles.old) }
     ensures no_make { serial_after serial e.now ≡ serial → cycles.new ≡ cycles.old }
+    ensures out { (s : ℕ) → out_at cycles.new s ≡ out_at cycles.old s }
+    ensures trimmed { AreTrimmed serial cycles.old cycles.new }
 {
     match e {
         Edit::Make { kind, .. } => add_kind(cycles, serial, kind),
@@ -115,6 +124,8 @@ fn prepare(cycles: &mut Cycles, first: u32, edits: &[Edit]) -> Result<(), NoMemo
     ensures made { OnOk result (HaveCycles (written_at cycles.new) first edits.now) }
     ensures below { (s : ℕ) → s < first → written_at cycles.new s ≡ written_at cycles.old s }
     ensures above { (s : ℕ) → serial_behind first edits.now ≤ s → written_at cycles.new s ≡ None }
+    ensures out { (s : ℕ) → out_at cycles.new s ≡ out_at cycles.old s }
+    ensures trimmed { AreTrimmed first cycles.old cycles.new }
 {
     let mut serial = first;
     for e in edits {
@@ -130,6 +141,8 @@ pub(crate) fn withdraw(cycles: &mut Cycles, first: u32, edits: &[Edit])
     requires above { (s : ℕ) → serial_behind first edits.now ≤ s → written_at cycles.old s ≡ None }
     ensures below { (s : ℕ) → s < first → written_at cycles.new s ≡ written_at cycles.old s }
     ensures fresh { (s : ℕ) → first ≤ s → written_at cycles.new s ≡ None }
+    ensures out { (s : ℕ) → s < first → out_at cycles.new s ≡ out_at cycles.old s }
+    ensures trimmed { (n : ℕ) → AreTrimmed n cycles.old cycles.new }
 {
     let next = serial_behind(first, edits);
     for serial in first..next {
@@ -146,6 +159,8 @@ pub(crate) fn open(cycles: &mut Cycles, first: u32, edits: &[Edit]) -> Result<()
     ensures below { (s : ℕ) → s < first → written_at cycles.new s ≡ written_at cycles.old s }
     ensures above { (s : ℕ) → serial_behind first edits.now ≤ s → written_at cycles.new s ≡ None }
     ensures fresh { OnErr result ((s : ℕ) → first ≤ s → written_at cycles.new s ≡ None) }
+    ensures out { (s : ℕ) → s < first → out_at cycles.new s ≡ out_at cycles.old s }
+    ensures trimmed { AreTrimmed first cycles.old cycles.new }
 {
     match prepare(cycles, first, edits) {
         Ok(()) => Ok(()),
@@ -164,6 +179,7 @@ fn settle_node(cycles: &mut Cycles, node: Option<&Node>)
         → written_at cycles.new s ≡ written_at cycles.old s }
     ensures lengths { (s : ℕ) → option_map length (written_at cycles.new s)
         ≡ option_map length (written_at cycles.old s) }
+    ensures trimmed { (next : ℕ) → AreTrimmed next cycles.old cycles.new }
 {
     if let Some(node) = node {
         if let Some(geom) = tris_of(&node.kind) {
@@ -181,6 +197,7 @@ pub(crate) fn settle(cycles: &mut Cycles, graph: &WorkGraph, edits: &[Edit])
         → IsWritten (written_at cycles.new) (node_at graph.now.nodes id) }
     ensures lengths { (s : ℕ) → option_map length (written_at cycles.new s)
         ≡ option_map length (written_at cycles.old s) }
+    ensures trimmed { (next : ℕ) → AreTrimmed next cycles.old cycles.new }
 {
     graph.keeps_limits();
     for e in edits {
@@ -193,40 +210,60 @@ pub(crate) fn forget(cycles: &mut Cycles, gone: &[Gone])
     ensures others { (s : ℕ) → among s (map (λ g. g.serial) gone.now) ≡ false
         → written_at cycles.new s ≡ written_at cycles.old s }
     ensures none { (s : ℕ) → written_at cycles.old s ≡ None → written_at cycles.new s ≡ None }
+    ensures trimmed { (next : ℕ) → AreTrimmed next cycles.old cycles.new }
 {
     for remains in gone {
         drop_cycle(cycles, remains.serial);
     }
 }
 
-/// Takes back the triangles of a geode, or drops them where its cycle does not miss them.
-fn take_home(cycles: &mut Cycles, serial: u32, kind: Kind)
-    ensures { (s : ℕ) → written_at cycles.new s ≡ written_at cycles.old s }
+/// The triangles of a geode, taken out of it.
+fn into_tris(kind: Kind) -> Option<Geom>
+    ensures { result ≡ geom_of kind }
 {
     match kind {
-        Kind::Geode { geom, .. } => cycles.home(serial, geom),
-        Kind::Glass { geom, .. } => cycles.home(serial, geom),
-        _ => {}
+        Kind::Geode { geom, .. } | Kind::Glass { geom, .. } => Some(geom),
+        _ => None,
+    }
+}
+
+/// Takes back the triangles of a node that is a geode, or drops them where its cycle does not miss them.
+fn take_home(cycles: &mut Cycles, node: Option<Node>)
+    ensures written { (s : ℕ) → written_at cycles.new s ≡ written_at cycles.old s }
+    ensures most { most_of cycles.new ≡ most_of cycles.old }
+    ensures out { (next : ℕ) → FitsHome (written_at cycles.old) next node
+        → (s : ℕ) → out_at cycles.new s ≡ out_at cycles.old s - arrays_of s node }
+{
+    if let Some(node) = node {
+        if let Some(geom) = into_tris(node.kind) {
+            cycles.home(node.serial, geom);
+        }
     }
 }
 
 /// Takes back the triangles of the geodes of an update list.
 fn take_list_home(cycles: &mut Cycles, mut updates: Updates)
-    ensures { (s : ℕ) → written_at cycles.new s ≡ written_at cycles.old s }
+    ensures written { (s : ℕ) → written_at cycles.new s ≡ written_at cycles.old s }
+    ensures most { most_of cycles.new ≡ most_of cycles.old }
+    ensures out { (next : ℕ) → ListFits (written_at cycles.old) next updates
+        → (s : ℕ) → out_at cycles.new s ≡ out_at cycles.old s - arrays_in s updates }
 {
     for i in 0..updates.len() {
         let mut place = None;
         updates.swap(i, &mut place);
-        if let Some(node) = place {
-            take_home(cycles, node.serial, node.kind);
-        }
+        take_home(cycles, place);
     }
 }
 
-/// Takes back the triangles of the geodes of update lists, and leaves no list.
+/// Takes back the triangles of the geodes of update lists, and leaves no list. Where each geode is as long as its cycle,
+/// so many fewer copies are out.
 pub(crate) fn take_all_home(cycles: &mut Cycles, home: &mut Vec<Updates>)
     ensures written { (s : ℕ) → written_at cycles.new s ≡ written_at cycles.old s }
+    ensures most { most_of cycles.new ≡ most_of cycles.old }
+    ensures out { (next : ℕ) → ListsFit (written_at cycles.old) next home.old.items
+        → (s : ℕ) → out_at cycles.new s ≡ out_at cycles.old s - arrays_in_all s home.old.items }
     ensures empty { home.new.items ≡ [] }
+    ensures capacity { vec_capacity home.new ≡ vec_capacity home.old }
 {
     while let Some(updates) = home.pop() {
         take_list_home(cycles, updates);

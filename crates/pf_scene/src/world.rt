@@ -1,6 +1,7 @@
 //! The graph with what follows its edits: the graves, the marks and the cycles.
-ghost use Rattle.std.specs.Prelude.{◌≡◌, ◌+◌, ◌-◌, ◌^◌, ◌<◌, ◌≤◌, true, None, [], ◌∷◌, ◌++◌, map, length, if◌then◌else◌, is_some, IfOk, OnOk, OnErr};
+ghost use Rattle.std.specs.Prelude.{◌≡◌, ℕ, ◌+◌, ◌-◌, ◌^◌, ◌<◌, ◌≤◌, true, None, [], ◌∷◌, ◌++◌, map, length, if◌then◌else◌, is_some, IfOk, OnOk, OnErr};
 ghost use Rattle.std.specs.List.{list_all};
+ghost use Rattle.std.specs.Vec.{vec_capacity};
 ghost use Rattle.pf_model.specs.Graphs.{node_at, size_of, empty_scene};
 ghost use Rattle.pf_model.specs.Limits.{IsRising, IsGraphWithinLimits};
 ghost use Rattle.pf_model.specs.Totals.{triangle_count};
@@ -9,7 +10,10 @@ ghost use Rattle.pf_model.specs.Edits.{fault_of, after};
 ghost use Rattle.pf_model.specs.Merges.{merge_fault, after_all};
 ghost use Rattle.pf_model.specs.Copies.{grave_of, named_by, put_all, updates_of, freed_by, graves_kept};
 ghost use Rattle.pf_history.specs.Objects.{emptied};
-ghost use Rattle.cycle_buffer.specs.Cycles.{written_at};
+ghost use Rattle.pf_history.specs.Away.{arrays_in_all};
+ghost use Rattle.cycle_buffer.specs.Cycles.{written_at, out_at, most_of};
+ghost use Rattle.update_lists.specs.Taking.{geode_serials, times_in};
+ghost use Rattle.pf_scene.specs.Counts.{AreTrimmed, ListsFit};
 ghost use Rattle.pf_scene.specs.Stock.{IsStocked, IsOpen};
 
 use crate::{burial, stock};
@@ -39,7 +43,7 @@ impl Model for World {
 
     ghost Value = { WorldState };
 
-    ghost view = { λ w. record { graph = w.graph; graves = w.graves.graves; marks = w.dirty } };
+    ghost view = { λ w. record { graph = w.graph; graves = w.graves.graves; marks = w.dirty; cycles = w.cycles } };
 
     ghost invariant = { λ w. IsStocked (written_at w.cycles) w.graph };
 }
@@ -47,7 +51,12 @@ impl Model for World {
 impl World {
     /// The scene alone, without graves and marks; the cycle of a geode gets so many copies.
     pub(crate) fn new(alloc: Global, copies: u8) -> Result<World, NoMemory>
-        ensures { IfOk result (λ w. w ≡ record { graph = empty_scene; graves = []; marks = [] }) }
+        ensures { IfOk result (λ w. w ≡ record {
+          graph = empty_scene;
+          graves = [];
+          marks = [];
+          cycles = record { cycles = []; copies = copies; most = 0 };
+        }) }
     {
         Ok(World {
             graph: WorkGraph::new(alloc)?,
@@ -57,9 +66,10 @@ impl World {
         })
     }
 
-    /// Does nothing: tells that the graph is within the limits.
+    /// Does nothing: tells that the graph is within the limits, and that its geodes have their cycles.
     pub(crate) fn keeps_limits(&self)
-        ensures { IsGraphWithinLimits self.now.graph }
+        ensures limits { IsGraphWithinLimits self.now.graph }
+        ensures stocked { IsStocked (written_at self.now.cycles) self.now.graph }
     {
         self.graph.keeps_limits();
     }
@@ -86,7 +96,9 @@ impl World {
     }
 
     /// The greatest number of copies that the cycles told so far.
-    pub(crate) fn most_copies(&self) -> u32 {
+    pub(crate) fn most_copies(&self) -> u32
+        ensures { result ≡ self.now.cycles.most }
+    {
         self.cycles.most()
     }
 
@@ -101,7 +113,9 @@ impl World {
             ≡ self.old.graves ++ map (grave_of frames) (after self.old.graph e.now).gone) }
         ensures marks { OnOk result (self.new.marks ≡ put_all
             (if is_some (fault_of self.old.graph e.now) then [] else named_by e.now ∷ []) self.old.marks) }
-        ensures unchanged { OnErr result (self.new ≡ self.old) }
+        ensures trimmed { AreTrimmed self.old.graph.next_serial self.old.cycles self.new.cycles }
+        ensures unchanged { OnErr result (self.new ≡ record self.old { cycles = self.new.cycles }) }
+        ensures out { OnErr result ((s : ℕ) → out_at self.new.cycles s ≡ out_at self.old.cycles s) }
     {
         let edits = slice::from_ref(e);
         self.graves.reserve(1)?;
@@ -146,7 +160,9 @@ impl World {
             ≡ self.old.graves ++ map (grave_of frames) (after_all self.old.graph list.now).gone) }
         ensures marks { OnOk result (self.new.marks ≡ put_all
             (if is_some (merge_fault self.old.graph list.now) then [] else map named_by list.now) self.old.marks) }
-        ensures unchanged { OnErr result (self.new ≡ self.old) }
+        ensures trimmed { AreTrimmed self.old.graph.next_serial self.old.cycles self.new.cycles }
+        ensures unchanged { OnErr result (self.new ≡ record self.old { cycles = self.new.cycles }) }
+        ensures out { OnErr result ((s : ℕ) → out_at self.new.cycles s ≡ out_at self.old.cycles s) }
     {
         let edits = list.as_slice();
         self.graves.reserve(edits.len())?;
@@ -185,6 +201,11 @@ impl World {
         ensures marks { self.new.marks ≡ self.old.marks }
         ensures freed { out.new.items ≡ out.old.items ++ freed_by retired self.old.graves }
         ensures home { home.new.items ≡ [] }
+        ensures capacity { vec_capacity home.new ≡ vec_capacity home.old }
+        ensures written { (s : ℕ) → written_at self.new.cycles s ≡ written_at self.old.cycles s }
+        ensures most { most_of self.new.cycles ≡ most_of self.old.cycles }
+        ensures out { (next : ℕ) → ListsFit (written_at self.old.cycles) next home.old.items
+            → (s : ℕ) → out_at self.new.cycles s ≡ out_at self.old.cycles s - arrays_in_all s home.old.items }
     {
         stock::take_all_home(&mut self.cycles, home);
         self.graves.sweep(retired, out);
@@ -198,6 +219,12 @@ impl World {
         ensures graph { self.new.graph ≡ self.old.graph }
         ensures graves { self.new.graves ≡ self.old.graves }
         ensures unchanged { OnErr result (self.new.marks ≡ self.old.marks) }
+        ensures written { (s : ℕ) → written_at self.new.cycles s ≡ written_at self.old.cycles s }
+        ensures out { OnOk result ((s : ℕ) → out_at self.new.cycles s ≡ out_at self.old.cycles s
+            + times_in s (geode_serials (node_at self.old.graph.nodes) self.old.marks)) }
+        ensures none_out { OnErr result ((s : ℕ) → out_at self.new.cycles s ≡ out_at self.old.cycles s) }
+        ensures most { (b : ℕ) → most_of self.old.cycles ≤ b → ((s : ℕ) → out_at self.old.cycles s < b)
+            → most_of self.new.cycles ≤ b }
     {
         self.graph.keeps_limits();
         self.dirty.cut(&self.graph, &mut self.cycles)
@@ -209,6 +236,7 @@ impl World {
         ensures graph { self.new.graph ≡ record self.old.graph { time = self.old.graph.time + 1 } }
         ensures graves { self.new.graves ≡ self.old.graves }
         ensures marks { self.new.marks ≡ self.old.marks }
+        ensures cycles { self.new.cycles ≡ self.old.cycles }
     {
         self.graph.next_frame();
     }
@@ -228,6 +256,7 @@ fn follow(
     ensures graph { graph.new ≡ emptied graph.old }
     ensures graves { graves.new.graves ≡ graves.old.graves ++ map (grave_of frames) graph.old.gone }
     ensures stocked { IsStocked (written_at cycles.new) graph.new }
+    ensures trimmed { (next : ℕ) → AreTrimmed next cycles.old cycles.new }
 {
     stock::settle(cycles, graph, edits);
     let gone = graph.take_gone();

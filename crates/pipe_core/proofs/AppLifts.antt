@@ -53,6 +53,7 @@ use Rattle.pipe_core.specs.Pipes.{PipeWork, core_of, PipeKeeps, Answers, AddsAtM
 use Rattle.pipe_core.proofs.Sides.{never_both}
 use Rattle.pipe_core.proofs.Lifting.{opened, not_over}
 use Rattle.pipe_core.proofs.BaseLifts.{grown_entries}
+use Rattle.pipe_core.proofs.CameBack.{brings_home}
 
 -- The log
 
@@ -240,6 +241,8 @@ app_kept play ahead p w scene sent taken sink sink' result keeps legal link_a li
         cull = keeps.cull;
         dbase = record { keeps = holds; awaited = omega (arith, keeps.dbase.awaited, later, longer); stands = keeps.dbase.stands };
         failed = λ fails. grown.stops (keeps.failed fails);
+        home = polled.home g (core_of play p).pipe.stream keeps.stages.app own old.app keeps.home;
+        copies = polled.counted keeps.copies (λ whole. brings_home play ahead p keeps whole);
       };
       adds = grown.adds;
       wrote = record { more = on.more; stream = sym stream; wrote = on.wrote };

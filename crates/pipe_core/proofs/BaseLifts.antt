@@ -13,17 +13,22 @@ use Rattle.pf_history.specs.declared.commands.Command.TheVariants as command
 use Rattle.pf_history.specs.declared.commands.Entry.{Entry}
 use Rattle.pf_history.specs.declared.commands.Merge.{Merge}
 use Rattle.pf_history.specs.Logs.{Log, state_of, IsLegal, is_by}
-use Rattle.pf_history.specs.Asks.{is_at, merge_of}
+use Rattle.pf_history.specs.Asks.{Turn, is_at, merge_of}
+use Rattle.pf_history.specs.Fits.{turns_at}
 use Rattle.pf_history.specs.Laws.{own_entry}
 use Rattle.pf_history.proofs.Counting.{never_fall_law}
 use Rattle.pf_history.proofs.Lists.{all_append}
 use Rattle.play_format.specs.Plays.{Script}
-use Rattle.pf_scene.specs.Scenes.{Shared, SceneState, entered, weight_of}
+use Rattle.pf_scene.specs.Scenes.{Shared, SceneState, KeepsCopies, entered, weight_of}
 use Rattle.pf_scene.specs.Acts.{seated}
+use Rattle.stage_parts.specs.declared.packets.Packet.{Packet}
 use Rattle.stage_parts.specs.Loads.{Each}
+use Rattle.stage_parts.specs.Packets.{loads_in, updates_in}
+use Rattle.stage_parts.specs.Frames.{last_sync}
 use Rattle.stage_parts.specs.Parts.{AppKeeps}
 use Rattle.stage_parts.proofs.Gathering.{gathering_law}
 use Rattle.stage_parts.proofs.AppSteps.{app_law}
+use Rattle.stage_parts.proofs.SeatSteps.{seat_frames_law}
 use Rattle.stage_parts.proofs.Places.{each_all}
 use Rattle.frame_stages.specs.declared.answers.Did.{Did}
 use Rattle.frame_stages.specs.declared.answers.Did.TheVariants as did
@@ -32,6 +37,8 @@ use Rattle.frame_stages.specs.declared.answers.StageError.TheVariants as error
 use Rattle.frame_stages.specs.declared.in_hand.InHand.{InHand}
 use Rattle.frame_stages.specs.declared.in_hand.InHand.TheVariants as hand
 use Rattle.frame_stages.specs.Answers.{is_over}
+use Rattle.frame_stages.specs.AppWorks.{AppWork}
+use Rattle.frame_stages.specs.Copies.{HasHome}
 use Rattle.frame_stages.specs.DbaseWorks.{DbaseWork, StandsIn, DbaseHolds, HoldsBuffer, is_ended, buffer_at}
 use Rattle.frame_stages.specs.DbaseAnswers.{Known, HasToWaitBefore, HasToWait, AddsNone, EntersMerge, DoesAt, Passes, IsDbaseAnswer}
 use Rattle.pipe_core.specs.declared.events.Event.TheVariants as event
@@ -103,13 +110,24 @@ base_core play ahead p d scene fits legal grows holds within mark =
       marked = λ n fault. mark (fits.marked n fault);
     }
 
+-- other callers' entries leave the lists that APP is to bring home
+home_beside : (play : Script) (ahead : ℕ) (w : AppWork) (before after : Log) (taken : List Packet) → GrowsBeside before after →
+    HasHome (setup_of play ahead) 0 w before taken → HasHome (setup_of play ahead) 0 w after taken
+home_beside play ahead w before after taken grows home =
+    let turns : turns_at play.channels 0 App after ≡ turns_at play.channels 0 App before =
+    ap (turns_at play.channels 0 App) grows.is ∙ (seat_frames_law play.channels 0 before).turns grows.more grows.app in
+    record {
+      lists = home.lists ∙ ap (λ (ts : List Turn). updates_in (loads_in (drop (last_sync ts) taken))) (sym turns);
+      few = subst (λ (ts : List Turn). w.state.frames ≤ last_sync ts + ahead) (sym turns) home.few;
+    }
+
 base_keeps : (play : Script) (ahead : ℕ) (p : PipeWork) (d : DbaseWork) (scene : SceneState) → PipeKeeps play ahead p →
     IsLegal play.channels scene.shared.log → GrowsBeside p.scene.shared.log scene.shared.log →
     DbaseHolds play.dbase play.channels 0 d scene.shared.log → d.at ≤ length play.dbase →
     (p.scene.shared.stopped ≡ true → scene.shared.stopped ≡ true) → scene.shared.ahead ≡ p.scene.shared.ahead →
     scene.shared.channels ≡ p.scene.shared.channels → (d.failed ≡ true → scene.shared.stopped ≡ true) →
-    PipeKeeps play ahead (based p d scene)
-base_keeps play ahead p d scene keeps legal grows holds within mark same_ahead same_channels failed =
+    KeepsCopies scene → PipeKeeps play ahead (based p d scene)
+base_keeps play ahead p d scene keeps legal grows holds within mark same_ahead same_channels failed copies =
     let later = (never_fall_law play.channels p.scene.shared.log grows.more).merges in
     let longer = ap (λ (log : Log). (state_of play.channels log).merges) grows.is in
     record {
@@ -127,6 +145,8 @@ base_keeps play ahead p d scene keeps legal grows holds within mark same_ahead s
       cull = keeps.cull;
       dbase = holds;
       failed = failed;
+      home = home_beside play ahead p.app p.scene.shared.log scene.shared.log p.c.line.taken grows keeps.home;
+      copies = copies;
     }
 
 -- Over
@@ -256,14 +276,14 @@ stepped old new (base.Ask e) held does = stays_put old new (same_scene old new d
 base_passes : (play : Script) (ahead : ℕ) (p : PipeWork) (d : DbaseWork) (scene : SceneState) → PipeKeeps play ahead p →
     IsLegal play.channels scene.shared.log → DbaseHolds play.dbase play.channels 0 d scene.shared.log →
     (l : BaseLine) → Passes l p.dbase d → DoesAt 0 l.step p.dbase.hand (known p.scene) (known scene) →
-    (IsOver play event.Dbase (core_of play p) → ⊥) → Lifted play ahead event.Dbase (Ok did.Did) p (based p d scene)
-base_passes play ahead p d scene keeps legal holds l passes does alive =
+    (IsOver play event.Dbase (core_of play p) → ⊥) → KeepsCopies scene → Lifted play ahead event.Dbase (Ok did.Did) p (based p d scene)
+base_passes play ahead p d scene keeps legal holds l passes does alive copies =
     let step = stepped p.scene scene l.step p.dbase.hand does in
     let there = get_drop play.dbase p.dbase.at l d.rest ((keeps.dbase.stands passes.running).rest ∙ passes.line) in
     let within = slice_get_within play.dbase p.dbase.at l there in
     record {
       keeps = base_keeps play ahead p d scene keeps legal step.grows holds (omega (arith, within, passes.at)) (λ set. step.stopped ∙ set)
-          step.ahead step.channels (λ fails. absurd (let clash : true ≡ false = sym fails ∙ passes.runs in cc));
+          step.ahead step.channels (λ fails. absurd (let clash : true ≡ false = sym fails ∙ passes.runs in cc)) copies;
       adds = step.adds;
       answer = record { alive = alive; moves = omega (arith, step.longer, passes.at); mark = step.stopped };
     }
@@ -277,8 +297,9 @@ pub base_lifts : (play : Script) (ahead : ℕ) (p : PipeWork) (d : DbaseWork) (s
     ((lines : List BaseLine) (channels : ℕ) → DbaseHolds lines channels 0 p.dbase p.scene.shared.log → DbaseHolds lines channels 0 d scene.shared.log) →
     IsDbaseAnswer 0 result p.dbase d (known p.scene) (known scene) →
     (is_ended p.dbase.rest ≡ true → result ≡ Ok did.Over) →
-    (is_ended p.dbase.rest ≡ false → is_over result ≡ p.scene.shared.stopped) → Lifted play ahead event.Dbase result p (based p d scene)
-base_lifts play ahead p d scene result keeps legal part answer ended looked =
+    (is_ended p.dbase.rest ≡ false → is_over result ≡ p.scene.shared.stopped) → (KeepsCopies p.scene → KeepsCopies scene) →
+    Lifted play ahead event.Dbase result p (based p d scene)
+base_lifts play ahead p d scene result keeps legal part answer ended looked counted =
     by result answer (base_over play ahead p result keeps ended looked) (base_is_over play ahead p result keeps looked)
   where
     holds : DbaseHolds play.dbase play.channels 0 d scene.shared.log
@@ -301,7 +322,7 @@ base_lifts play ahead p d scene result keeps legal part answer ended looked =
         Lifted play ahead event.Dbase result p (based p d scene)
     by (Ok did.Did) (l, passes, does) over is =
         base_passes play ahead p d scene keeps (legal_at (stepped p.scene scene l.step p.dbase.hand does).channels) holds l passes does
-        (not_over (Ok did.Did) (IsOver play event.Dbase (core_of play p)) over refl)
+        (not_over (Ok did.Did) (IsOver play event.Dbase (core_of play p)) over refl) (counted keeps.copies)
     by (Ok did.NotYet) (same, adds, waits) over is =
         let alive = not_over (Ok did.NotYet) (IsOver play event.Dbase (core_of play p)) over refl in
         let still = same_scene p.scene scene adds in
@@ -320,7 +341,7 @@ base_lifts play ahead p d scene result keeps legal part answer ended looked =
         record {
           keeps = base_keeps play ahead p d scene keeps (legal_at channels) (no_growth p.scene.shared.log scene.shared.log log) holds
               (let within = keeps.core.dbase_lines in omega (arith, within, gives.at)) (λ was. set)
-              (ap (λ (x : Shared). x.ahead) shared) channels (λ fails. set);
+              (ap (λ (x : Shared). x.ahead) shared) channels (λ fails. set) (counted keeps.copies);
           adds = inl log;
           answer = (not_over (Err error.NoMemory) (IsOver play event.Dbase (core_of play p)) over refl, tt, log, set);
         }

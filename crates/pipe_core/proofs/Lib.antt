@@ -1,3 +1,4 @@
+mod CameBack
 mod Rounds
 mod Weights
 mod Counts

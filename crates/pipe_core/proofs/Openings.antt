@@ -87,6 +87,8 @@ opening_keeps play ahead loads cull all lens keeps holds =
       cull = keeps;
       dbase = holds;
       failed = λ fails. absurd (let clash : false ≡ true = fails in cc);
+      home = record { lists = refl; few = omega arith };
+      copies = (refl, omega arith);
     }
 
 -- a fact of what was made

@@ -97,6 +97,8 @@ draw_lifts play ahead p d taken sent result keeps link_b link_c part answer ende
         cull = keeps.cull;
         dbase = keeps.dbase;
         failed = keeps.failed;
+        home = keeps.home;
+        copies = keeps.copies;
       };
       adds = inl refl;
       answer = passes_answer play ahead event.Draw (core_of play p) (core_of play (drawn p d taken sent)) result before after
@@ -178,6 +180,8 @@ cull_lifts play ahead p w taken sent result keeps link_a link_b lens part answer
         cull = new;
         dbase = keeps.dbase;
         failed = keeps.failed;
+        home = keeps.home;
+        copies = keeps.copies;
       };
       adds = inl refl;
       answer = passes_answer play ahead event.Cull (core_of play p) (core_of play (culled p w taken sent)) result before after

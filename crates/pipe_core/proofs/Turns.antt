@@ -6,7 +6,7 @@ use Rattle.seat_lock.specs.Desk.{Looked}
 use Rattle.pf_model.specs.declared.lines.BaseLine.{BaseLine}
 use Rattle.pf_history.specs.Logs.{Log, IsLegal}
 use Rattle.play_format.specs.Plays.{Script}
-use Rattle.pf_scene.specs.Scenes.{SceneState}
+use Rattle.pf_scene.specs.Scenes.{SceneState, KeepsCopies}
 use Rattle.stage_parts.specs.declared.packets.Packet.{Packet}
 use Rattle.stage_parts.specs.Packets.{LinkPart}
 use Rattle.frame_stages.specs.declared.answers.Did.{Did}
@@ -115,6 +115,7 @@ pub record BasePolls (p q : PipeWork) (result : Result Did StageError) : Type 0 
   pub answer : IsDbaseAnswer 0 result p.dbase q.dbase (known p.scene) (known q.scene)
   pub ended : is_ended p.dbase.rest ≡ true → result ≡ Ok did.Over
   pub looked : is_ended p.dbase.rest ≡ false → is_over result ≡ p.scene.shared.stopped
+  pub counted : KeepsCopies p.scene → KeepsCopies q.scene
 
 pub base_polls : (play : Script) (ahead : ℕ) (p q : PipeWork) (result : Result Did StageError) → BasePolls p q result → PipeKeeps play ahead p →
     Lifted play ahead event.Dbase result p q
@@ -132,4 +133,4 @@ base_polls play ahead p q result polls keeps =
       c = (sym polls.back) i;
     } in
     subst (Lifted play ahead event.Dbase result p) path
-    (base_lifts play ahead p q.dbase q.scene result keeps polls.legal.legal polls.part polls.answer polls.ended polls.looked)
+    (base_lifts play ahead p q.dbase q.scene result keeps polls.legal.legal polls.part polls.answer polls.ended polls.looked polls.counted)

@@ -6,7 +6,7 @@ use Rattle.pf_history.specs.declared.commands.Caller.TheVariants.{App, Dbase}
 use Rattle.pf_history.specs.declared.commands.Entry.{Entry}
 use Rattle.pf_history.specs.Logs.{Log, state_of}
 use Rattle.play_format.specs.Plays.{Script}
-use Rattle.pf_scene.specs.Scenes.{SceneState}
+use Rattle.pf_scene.specs.Scenes.{SceneState, KeepsCopies}
 use Rattle.frame_link.specs.declared.list_link.ListLink.{ListLink}
 use Rattle.frame_link.specs.Ends.{list_room, list_sent, list_taken}
 use Rattle.stage_parts.specs.declared.packets.Packet.{Packet}
@@ -18,6 +18,7 @@ use Rattle.frame_stages.specs.declared.answers.Did.TheVariants as did
 use Rattle.frame_stages.specs.declared.answers.StageError.{StageError}
 use Rattle.frame_stages.specs.declared.answers.StageError.TheVariants as error
 use Rattle.frame_stages.specs.AppWorks.{AppWork, IsGiven}
+use Rattle.frame_stages.specs.Copies.{HasHome}
 use Rattle.frame_stages.specs.CullWorks.{CullWork, CullKeeps, cull_state}
 use Rattle.frame_stages.specs.Works.{DrawWork}
 use Rattle.frame_stages.specs.DbaseWorks.{DbaseWork, DbaseHolds, dbase_state}
@@ -75,7 +76,11 @@ opening_link ahead = record { room = ahead + 1; line = record { sent = []; taken
 -- the scene before the first command
 abbrev pub opening_scene : (ahead channels : ℕ) → SceneState
 opening_scene ahead channels =
-    record { shared = record { log = []; seat = 0; stopped = false; ahead = ahead; channels = channels }; copies = 0 }
+    record {
+      shared = record { log = []; seat = 0; stopped = false; ahead = ahead; channels = channels };
+      copies = 0;
+      accounted = true;
+    }
 
 -- The stages are those of a play: each has what it is given.
 pub record AreOf (play : Script) (ahead : ℕ) (p : PipeWork) : Type 0 where
@@ -88,7 +93,8 @@ pub record AreOf (play : Script) (ahead : ℕ) (p : PipeWork) : Type 0 where
 
 -- A pipe of a play keeps: it is a core that fits the play, its stages and links are as they were made, the waits passed
 -- have their merges in the history, CULL's boxes are right where they can be, and DBASE holds to its section, unless it
--- wanted memory and set the stop mark.
+-- wanted memory and set the stop mark. The update lists that APP is to bring home are those that came back since its last
+-- Sync, and the copies that are out of the scene's cycles are accounted for.
 pub record PipeKeeps (play : Script) (ahead : ℕ) (p : PipeWork) : Type 0 where
   pub core : CoreFits play ahead (core_of play p)
   pub stages : AreOf play ahead p
@@ -97,6 +103,8 @@ pub record PipeKeeps (play : Script) (ahead : ℕ) (p : PipeWork) : Type 0 where
   pub cull : CullKeeps p.cull p.a.line.taken p.b.line.sent
   pub dbase : DbaseHolds play.dbase play.channels 0 p.dbase p.scene.shared.log
   pub failed : p.dbase.failed ≡ true → p.scene.shared.stopped ≡ true
+  pub home : HasHome (setup_of play ahead) 0 p.app p.scene.shared.log p.c.line.taken
+  pub copies : KeepsCopies p.scene
 
 -- The error may come from the stage that the event polls: APP meets faults of the frame sink and may want memory, DBASE
 -- may want memory, CULL and DRAW never fail.

@@ -1,5 +1,5 @@
 //! The pipe on one thread.
-ghost use Rattle.std.specs.Prelude.{◌≡◌, ℕ, ◌≤◌, false, [], length, Err, IfOk, OnOk, IfErr};
+ghost use Rattle.std.specs.Prelude.{◌≡◌, ℕ, ◌+◌, ◌≤◌, false, [], length, Err, IfOk, OnOk, IfErr};
 ghost use Rattle.pf_io.specs.Causes.{Rose, Calm};
 ghost use Rattle.pf_history.specs.Asks.{asked_dbase};
 ghost use Rattle.play_format.specs.Plays.{Script};
@@ -127,7 +127,10 @@ impl Pipe {
 
     /// The greatest number of copies that a geode's cycle has had, and 0 before the first cycle was made.
     pub fn copies(&self) -> u32
-        ensures { result ≡ self.now.scene.copies }
+        ensures value { result ≡ self.now.scene.copies }
+
+        // In a play with so many frames in flight no geode's cycle has more copies than these and one more.
+        ensures bound { (play : Script) (ahead : ℕ) → PipeKeeps play ahead self.now → result ≤ ahead + 1 }
     {
         self.desk.value().copies()
     }

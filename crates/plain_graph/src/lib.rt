@@ -7,6 +7,3 @@ pub(crate) mod links;
 pub(crate) mod survey;
 
 pub use graph::Graph;
-
-#[cfg(test)]
-mod tests;

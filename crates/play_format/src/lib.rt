@@ -20,6 +20,3 @@ pub use parser::{one_reading, parse};
 pub use play::Play;
 pub use refusal::{ParseError, Refusal, Why};
 pub use spelling::append_edit;
-
-#[cfg(test)]
-mod tests;

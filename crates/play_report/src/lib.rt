@@ -8,6 +8,3 @@ mod numbers;
 mod reports;
 
 pub use reports::{append_report, append_stats, append_summary};
-
-#[cfg(test)]
-mod tests;

@@ -7,6 +7,3 @@ mod packets;
 
 pub use loads::Load;
 pub use packets::Packet;
-
-#[cfg(test)]
-mod tests;

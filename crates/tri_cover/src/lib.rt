@@ -26,8 +26,3 @@ pub use hit::Hit;
 pub use linear::Linear;
 pub use ready::{Ready, face_of};
 pub use stepper::Stepper;
-
-#[cfg(test)]
-mod face_tests;
-#[cfg(test)]
-mod tests;

@@ -47,6 +47,13 @@ front_without look ids k s h =
     by true t = t
     by false t = refl
 
+-- a serial that stands in a front stands in the whole list
+pub front_with : (look : Look) (ids : List ℕ) (k s : ℕ) → among s (geode_serials look (take k ids)) ≡ true → among s (geode_serials look ids) ≡ true
+front_with look ids k s h =
+    let whole = ap (geode_serials look) (sym (take-append-drop k ids)) ∙ serials_append look (take k ids) (drop k ids) in
+    ap (among s) whole ∙ list_any-append (nat_eq s) (geode_serials look (take k ids)) (geode_serials look (drop k ids))
+    ∙ ap (λ a. a || among s (geode_serials look (drop k ids))) h
+
 times_append : (s : ℕ) (xs ys : List ℕ) → times_in s (xs ++ ys) ≡ times_in s xs + times_in s ys
 times_append s [] ys = omega arith
 times_append s (x ∷ xs) ys = by (nat_eq s x) (times_append s xs ys)
@@ -160,6 +167,14 @@ free_more look ids i first before after l h k s =
     let more = ap (times_in s) (serials_more look ids i l) ∙ times_append s (geode_serials look (take i ids)) (geode_serial (look (get_or ids i 0))) in
     omega (arith, more, h s, k s)
 
+pub out_more : (look : Look) (ids : List ℕ) (i : ℕ) (first before after : ℕ → ℕ) → i < length ids →
+    ((s : ℕ) → before s ≡ first s + times_in s (geode_serials look (take i ids))) →
+    ((s : ℕ) → after s ≡ before s + times_in s (geode_serial (look (get_or ids i 0)))) →
+    (s : ℕ) → after s ≡ first s + times_in s (geode_serials look (take (i + 1) ids))
+out_more look ids i first before after l h k s =
+    let more = ap (times_in s) (serials_more look ids i l) ∙ times_append s (geode_serials look (take i ids)) (geode_serial (look (get_or ids i 0))) in
+    omega (arith, more, h s, k s)
+
 pub room_now : (look : Look) (ids : List ℕ) (i : ℕ) (free : ℕ → ℕ) → i < length ids →
     ((s : ℕ) → times_in s (geode_serials look (drop i ids)) ≤ free s) → (s : ℕ) → times_in s (geode_serial (look (get_or ids i 0))) ≤ free s
 room_now look ids i free l h s =
@@ -201,6 +216,24 @@ others_more look ids i first before after l h k s e =
     by false false ea eb t = k s eb ∙ h s ea
     by true b ea eb t = absurd (false≢true (sym t))
     by false true ea eb t = absurd (false≢true (sym t))
+
+or_right : (a b : Bool) → b ≡ true → (a || b) ≡ true
+or_right true b h = refl
+or_right false b h = h
+
+-- the greatest number stays within each bound that is above what is out
+pub most_more : (look : Look) (ids : List ℕ) (i : ℕ) (first before : ℕ → ℕ) (first_most before_most after_most : ℕ) → i < length ids →
+    ((s : ℕ) → before s ≡ first s) →
+    ((b : ℕ) → first_most ≤ b → ((s : ℕ) → among s (geode_serials look (take i ids)) ≡ true → first s < b) → before_most ≤ b) →
+    ((b : ℕ) → before_most ≤ b → ((s : ℕ) → among s (geode_serial (look (get_or ids i 0))) ≡ true → before s < b) → after_most ≤ b) →
+    (b : ℕ) → first_most ≤ b → ((s : ℕ) → among s (geode_serials look (take (i + 1) ids)) ≡ true → first s < b) → after_most ≤ b
+most_more look ids i first before first_most before_most after_most l same h k b low below =
+    let front : ℕ → Bool = λ s. among s (geode_serials look (take i ids)) in
+    let last : ℕ → Bool = λ s. among s (geode_serial (look (get_or ids i 0))) in
+    let among_more : (s : ℕ) → among s (geode_serials look (take (i + 1) ids)) ≡ (front s || last s) =
+    λ s. ap (among s) (serials_more look ids i l) ∙ list_any-append (nat_eq s) (geode_serials look (take i ids)) (geode_serial (look (get_or ids i 0))) in
+    k b (h b low (λ s e. below s (among_more s ∙ ap (λ a. a || last s) e)))
+    (λ s e. omega (arith, same s, below s (among_more s ∙ or_right (front s) (last s) e)))
 
 -- An entry's node exchanged
 

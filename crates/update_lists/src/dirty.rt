@@ -1,8 +1,8 @@
 //! The ids that changed since the last cut.
-ghost use Rattle.std.specs.Prelude.{◌≡◌, ◌≤◌, ◌+◌, ℕ, [], false, IfOk, OnOk, OnErr};
+ghost use Rattle.std.specs.Prelude.{◌≡◌, ◌≤◌, ◌<◌, ◌+◌, ℕ, [], true, false, IfOk, OnOk, OnErr};
 ghost use Rattle.pf_model.specs.Copies.{put_in, updates_of};
 ghost use Rattle.update_lists.specs.Marks.{among};
-ghost use Rattle.update_lists.specs.Taking.{CanTake, geode_serials};
+ghost use Rattle.update_lists.specs.Taking.{CanTake, geode_serials, times_in};
 
 use crate::updates::Updates;
 use crate::{marks, taking};
@@ -66,6 +66,12 @@ impl Dirty {
         ensures written { (s : ℕ) → A.written arrays.new s ≡ A.written arrays.old s }
         ensures unchanged { OnErr result (self.new ≡ self.old) }
         ensures free { OnErr result ((s : ℕ) → A.free arrays.old s ≤ A.free arrays.new s) }
+        ensures out { OnOk result ((s : ℕ) → A.out arrays.new s
+            ≡ A.out arrays.old s + times_in s (geode_serials (V.look scene.now) self.old)) }
+        ensures none_out { OnErr result ((s : ℕ) → A.out arrays.new s ≡ A.out arrays.old s) }
+        ensures most { (b : ℕ) → A.most arrays.old ≤ b
+            → ((s : ℕ) → among s (geode_serials (V.look scene.now) self.old) ≡ true → A.out arrays.old s < b)
+            → A.most arrays.new ≤ b }
     {
         marks::sort(&mut self.ids);
         let updates = taking::take(self.ids.as_slice(), scene, arrays, *self.ids.allocator())?;

@@ -10,6 +10,3 @@ mod updates;
 pub use cuts::{Cut, Views};
 pub use dirty::Dirty;
 pub use updates::Updates;
-
-#[cfg(test)]
-mod tests;

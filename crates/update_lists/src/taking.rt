@@ -1,5 +1,5 @@
 //! The nodes of an update list, with their triangles.
-ghost use Rattle.std.specs.Prelude.{◌≡◌, ◌≢◌, ℕ, [], ◌≤◌, ◌<◌, ◌+◌, true, false, length, map, Some, is_some, IfOk, OnOk, OnErr};
+ghost use Rattle.std.specs.Prelude.{◌≡◌, ◌≢◌, ℕ, [], ◌≤◌, ◌<◌, ◌+◌, max, true, false, length, map, Some, is_some, IfOk, OnOk, OnErr};
 ghost use Rattle.std.specs.List.{All};
 ghost use Rattle.std.specs.Option.{option_copied, option_map};
 ghost use Rattle.pf_model.specs.Kinds.{geom_of};
@@ -79,6 +79,8 @@ fn ready_serial<A: Arrays>(arrays: &mut A, serial: u32) -> Result<(), NoMemory>
     ensures more { (s : ℕ) → A.free arrays.old s ≤ A.free arrays.new s }
     ensures others { (s : ℕ) → s ≢ serial → A.free arrays.new s ≡ A.free arrays.old s }
     ensures written { (s : ℕ) → A.written arrays.new s ≡ A.written arrays.old s }
+    ensures out { (s : ℕ) → A.out arrays.new s ≡ A.out arrays.old s }
+    ensures most { A.most arrays.new ≤ max (A.most arrays.old) (A.out arrays.old serial + 1) }
 {
     arrays.ready(serial)
 }
@@ -92,6 +94,10 @@ fn ready_node<A: Arrays>(arrays: &mut A, node: Option<&Node>) -> Result<(), NoMe
     ensures others { (s : ℕ) → among s (geode_serial (option_copied node.entry)) ≡ false
         → A.free arrays.new s ≡ A.free arrays.old s }
     ensures written { (s : ℕ) → A.written arrays.new s ≡ A.written arrays.old s }
+    ensures out { (s : ℕ) → A.out arrays.new s ≡ A.out arrays.old s }
+    ensures most { (b : ℕ) → A.most arrays.old ≤ b
+        → ((s : ℕ) → among s (geode_serial (option_copied node.entry)) ≡ true → A.out arrays.old s < b)
+        → A.most arrays.new ≤ b }
 {
     match node {
         Some(node) => {
@@ -117,6 +123,10 @@ fn ready_nodes<V: NodeView, A: Arrays>(
     ensures others { (s : ℕ) → among s (geode_serials (V.look scene.now) ids.now) ≡ false
         → A.free arrays.new s ≡ A.free arrays.old s }
     ensures written { (s : ℕ) → A.written arrays.new s ≡ A.written arrays.old s }
+    ensures out { (s : ℕ) → A.out arrays.new s ≡ A.out arrays.old s }
+    ensures most { (b : ℕ) → A.most arrays.old ≤ b
+        → ((s : ℕ) → among s (geode_serials (V.look scene.now) ids.now) ≡ true → A.out arrays.old s < b)
+        → A.most arrays.new ≤ b }
 {
     for id in ids {
         ready_node(arrays, scene.node(*id))?;
@@ -153,6 +163,9 @@ fn fill_node<A: Arrays>(latest: Option<&Node>, arrays: &mut A, node: &mut Option
     ensures free { (s : ℕ) → A.free arrays.new s + times_in s (geode_serial (option_copied latest.entry))
         ≡ A.free arrays.old s }
     ensures written { (s : ℕ) → A.written arrays.new s ≡ A.written arrays.old s }
+    ensures out { (s : ℕ) → A.out arrays.new s
+        ≡ A.out arrays.old s + times_in s (geode_serial (option_copied latest.entry)) }
+    ensures most { A.most arrays.new ≡ A.most arrays.old }
 {
     if let Some(latest) = latest {
         if let Some(geom) = tris_of(&latest.kind) {
@@ -176,6 +189,9 @@ fn fill_nodes<V: NodeView, A: Arrays>(
     ensures free { (s : ℕ) → A.free arrays.new s + times_in s (geode_serials (V.look scene.now) ids.now)
         ≡ A.free arrays.old s }
     ensures written { (s : ℕ) → A.written arrays.new s ≡ A.written arrays.old s }
+    ensures out { (s : ℕ) → A.out arrays.new s
+        ≡ A.out arrays.old s + times_in s (geode_serials (V.look scene.now) ids.now) }
+    ensures most { A.most arrays.new ≡ A.most arrays.old }
 {
     for place in 0..ids.len() {
         fill_node(scene.node(ids[place]), arrays, &mut entries[place].1);
@@ -197,6 +213,12 @@ pub(crate) fn take<V: NodeView, A: Arrays>(
         → A.free arrays.new s ≡ A.free arrays.old s }
     ensures written { (s : ℕ) → A.written arrays.new s ≡ A.written arrays.old s }
     ensures free { OnErr result ((s : ℕ) → A.free arrays.old s ≤ A.free arrays.new s) }
+    ensures out { OnOk result ((s : ℕ) → A.out arrays.new s
+        ≡ A.out arrays.old s + times_in s (geode_serials (V.look scene.now) ids.now)) }
+    ensures none_out { OnErr result ((s : ℕ) → A.out arrays.new s ≡ A.out arrays.old s) }
+    ensures most { (b : ℕ) → A.most arrays.old ≤ b
+        → ((s : ℕ) → among s (geode_serials (V.look scene.now) ids.now) ≡ true → A.out arrays.old s < b)
+        → A.most arrays.new ≤ b }
 {
     let mut entries = copied_nodes(ids, scene, alloc)?;
     ready_nodes(ids, scene, arrays)?;

@@ -1,6 +1,5 @@
-use Rattle.std.proofs.Common.{◌≡◌, ℕ, ◌<◌, get_or}
-use Rattle.bound_cache.specs.declared.marks.Mark.TheVariants.{Clean}
+use Rattle.bound_cache.proofs.Fills.{ClearedBelow}
 use Rattle.bound_cache.proofs.table.clear.Given as goal
 
-abbrev pub invariant-loop-mark : goal.invariant-loop-mark
-invariant-loop-mark l = (k : ℕ) → k < l.mark-index → get_or l.mark-items k Clean ≡ Clean
+abbrev pub invariant-loop-place : goal.invariant-loop-place
+invariant-loop-place l = ClearedBelow l.count l.place l.initial.marks.items l.marks.items

@@ -1,17 +1,20 @@
 use Rattle.std.proofs.Common.{List, sym, ◌∙◌, subst}
+use Rattle.std.specs.List.{All}
 use Rattle.depth_raster.specs.Canvas.{IsOpen}
-use Rattle.depth_raster.specs.Slots.{AreSlotsOf}
+use Rattle.depth_raster.specs.Pieces.{IsPieceOf}
+use Rattle.depth_raster.specs.Shares.{AreSharesOf}
 use Rattle.depth_raster.specs.Strips.{StripsRelate}
 use Rattle.depth_raster.specs.Tiles.{IsDrawn}
 use Rattle.depth_raster.specs.declared.pieces.Piece.{Piece}
-use Rattle.depth_raster.specs.declared.slots.Slot.{Slot}
+use Rattle.depth_raster.specs.declared.share.Share.{Share}
 use Rattle.depth_raster.proofs.Flushed.{flushed_seen, flushed_open, flushed_blank}
 use Rattle.depth_raster.proofs.opaque.flush.Goals as goal
 
-pub draw_strips-requires-clause-slots : goal.draw_strips-requires-clause-slots
-draw_strips-requires-clause-slots g c = λ κs live.
-    subst (λ (ps : List Piece). AreSlotsOf c.args.lens.now ps c.deref-3.result.now) (sym c.deref-2.ensures.value)
-    (subst (λ (ss : List Slot). AreSlotsOf c.args.lens.now c.order.new.self.pieces.items ss) (sym c.deref-3.ensures.value) (c.order.ensures.slots c.args.lens.now))
+pub draw_strips-requires-clause-shares : goal.draw_strips-requires-clause-shares
+draw_strips-requires-clause-shares g c = λ κs live.
+    let ready = subst (λ (ps : List Piece). All (IsPieceOf c.args.lens.now) ps) (sym c.order.ensures.pieces) c.requires.sound.ready in
+    subst (λ (ps : List Piece). AreSharesOf c.args.lens.now ps c.deref-3.result.now) (sym c.deref-2.ensures.value)
+    (subst (λ (ss : List Share). AreSharesOf c.args.lens.now c.order.new.self.pieces.items ss) (sym c.deref-3.ensures.value) (c.order.ensures.shares c.args.lens.now ready))
 
 pub returns : goal.returns
 returns g c =

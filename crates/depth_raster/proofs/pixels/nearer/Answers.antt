@@ -1,15 +1,32 @@
-use Rattle.std.proofs.Common.{Option, option_map, ap, sym, ◌∙◌}
+use Rattle.std.proofs.Common.{ℕ, [], Option, option_map, ap, sym, ◌∙◌, subst, arith}
+use Rattle.tri_cover.specs.Hits.{hit}
 use Rattle.tri_cover.specs.declared.hit.Hit.{Hit}
-use Rattle.depth_raster.specs.Marks.{mark_of, mark_with, mark_over}
+use Rattle.depth_raster.specs.Looks.{Looks}
+use Rattle.depth_raster.specs.Marks.{lesser, mark_of, mark_with, mark_over}
+use Rattle.depth_raster.proofs.Deep.{with_deep}
 use Rattle.depth_raster.proofs.Readied.{face_hits, face_boxed}
 use Rattle.depth_raster.proofs.pixels.nearer.Goals as goal
 
-pub returns-in-Face : goal.returns-in-Face
+pub returns-in-Some : goal.returns-in-Some
 unfolding mark_over
-returns-in-Face c =
+returns-in-Some c = λ lens px py column row ready inside are.
     let a = c.args in
-    c.nearer_face.ensures
-    ∙ ap (λ (o : Option Hit). mark_with a.mark (option_map (mark_of a.piece.now.face) o)) (sym (face_hits a.lens.now a.piece.now c.in-Face.face c.requires.ready c.in-Face.is a.px a.py c.requires.x c.requires.y))
+    let p = a.piece.now in
+    let f = a.face.now in
+    let boxed = face_boxed lens p f ready c.requires.face px py inside in
+    let looks = subst (λ (o : Option ℕ). Looks f px py c.limit.result o) c.in-Some.is (c.look_by.ensures px py are boxed) in
+    let hits = face_hits lens p f ready c.requires.face px py column row ∙ looks.0 in
+    c.lesser.ensures
+    ∙ ap (lesser a.mark) c.mark.ensures
+    ∙ sym (ap (λ (o : Option Hit). mark_with a.mark (option_map (mark_of p.face) o)) hits)
 
-pub nearer_face-requires-clause-inside : goal.nearer_face-requires-clause-inside
-nearer_face-requires-clause-inside c = face_boxed c.args.lens.now c.args.piece.now c.in-Face.face c.requires.ready c.in-Face.is c.args.px c.args.py c.requires.inside
+pub returns-in-None : goal.returns-in-None
+unfolding mark_over
+returns-in-None c = λ lens px py column row ready inside are.
+    let a = c.args in
+    let p = a.piece.now in
+    let f = a.face.now in
+    let boxed = face_boxed lens p f ready c.requires.face px py inside in
+    let looks = subst (λ (o : Option ℕ). Looks f px py c.limit.result o) c.in-None.is (c.look_by.ensures px py are boxed) in
+    let same = face_hits lens p f ready c.requires.face px py column row in
+    sym (with_deep p.face a.mark (hit lens px py [] p.face.tri) (λ h hits. omega (arith, looks h (sym same ∙ hits), c.limit.ensures)))

@@ -1,7 +1,9 @@
 use Rattle.std.proofs.Common.{get_or, arith}
 use Rattle.depth_raster.specs.Slots.{slots_over}
 use Rattle.depth_raster.proofs.Drawn.{tile_drawn_over}
+use Rattle.depth_raster.proofs.Shared.{tile_over}
 use Rattle.depth_raster.proofs.Slotted.{marked_tiles_kept}
+use Rattle.depth_raster.proofs.Tiling.{tile_within}
 use Rattle.depth_raster.proofs.strips.draw_tiles.Goals as goal
 
 pub paint_tiles-requires-clause-tiles : goal.paint_tiles-requires-clause-tiles
@@ -12,5 +14,6 @@ paint_tiles-requires-clause-tiles c =
 pub returns : goal.returns
 returns c = λ j d below.
     let a = c.args in
+    let over = tile_over a.lens.now a.pieces.now a.band.now a.slots.now j (get_or a.tiles.now j d) c.requires.slots (c.requires.tiles.blocks j d below) (tile_within a.lens.now a.band.now a.tiles.now j d c.requires.tiles c.requires.band below) in
     tile_drawn_over a.lens.now a.back a.pieces.now a.slots.now (get_or a.tiles.now j d) (get_or c.draw_slots.new.tiles j d) (get_or c.paint_tiles.new.tiles j d)
-    c.requires.slots c.requires.ranks (c.draw_slots.ensures j d below) (c.paint_tiles.ensures j d (omega (arith, below, c.draw_slots.auto.tiles)))
+    over c.requires.ranks (c.draw_slots.ensures j d below) (c.paint_tiles.ensures j d (omega (arith, below, c.draw_slots.auto.tiles)))

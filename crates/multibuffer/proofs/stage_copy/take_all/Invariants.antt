@@ -3,4 +3,4 @@ use Rattle.multibuffer.proofs.Taking.{TakenSome}
 use Rattle.multibuffer.proofs.stage_copy.take_all.Given as goal
 
 abbrev pub invariant-loop-i : goal.invariant-loop-i
-invariant-loop-i l = TakenSome l.initial.updates l.initial.nodes (box_at l.initial.cache) l.i l.updates l.nodes (box_at l.cache) (touched_at l.cache)
+invariant-loop-i l = TakenSome l.initial.updates l.initial.nodes (box_at l.initial.cache) l.initial.cache.high l.i l.updates l.nodes (box_at l.cache) (touched_at l.cache) l.cache.high

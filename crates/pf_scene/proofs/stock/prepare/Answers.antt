@@ -7,4 +7,4 @@ use Rattle.pf_scene.proofs.stock.prepare.Goals as goal
 pub returns-in_err-add_edit-clause-above : goal.returns-in_err-add_edit-clause-above
 returns-in_err-add_edit-clause-above c = λ s l.
     ap (λ (k : CyclesState). written_at k s) c.in_err-add_edit.ensures.unchanged
-    ∙ preparing_above _ _ _ _ _ _ c.loop-e.invariant s l
+    ∙ preparing_above _ _ _ _ _ _ c.loop-e.invariant.preparing s l

@@ -1,9 +1,9 @@
-use Rattle.std.proofs.Common.{◌≡◌, ℕ, length}
-use Rattle.cycle_buffer.specs.Cycles.{written_at}
+use Rattle.std.proofs.Common.{◌≡◌, length, drop}
+use Rattle.pf_scene.proofs.Bringing.{nodes_in, IsBringingNodes}
 use Rattle.pf_scene.proofs.stock.take_list_home.Given as goal
 
 abbrev pub invariant-loop-i : goal.invariant-loop-i
 invariant-loop-i l = record {
-  written : (s : ℕ) → written_at l.cycles s ≡ written_at l.initial.cycles s;
+  bringing : IsBringingNodes l.initial.cycles l.cycles l.initial.updates (drop l.i (nodes_in l.updates));
   long : length l.updates ≡ length l.initial.updates;
 }

@@ -9,4 +9,6 @@ invariant-loop-place g l = record {
   room : (s : ℕ) → times_in s (geode_serials (g.V.NodeView.look l.scene) (drop l.place l.ids)) ≤ g.A.Arrays.free l.arrays s;
   taken : (s : ℕ) → g.A.Arrays.free l.arrays s + times_in s (geode_serials (g.V.NodeView.look l.scene) (take l.place l.ids)) ≡ g.A.Arrays.free l.initial.arrays s;
   written : (s : ℕ) → g.A.Arrays.written l.arrays s ≡ g.A.Arrays.written l.initial.arrays s;
+  out : (s : ℕ) → g.A.Arrays.out l.arrays s ≡ g.A.Arrays.out l.initial.arrays s + times_in s (geode_serials (g.V.NodeView.look l.scene) (take l.place l.ids));
+  most : g.A.Arrays.most l.arrays ≡ g.A.Arrays.most l.initial.arrays;
 }

@@ -9,4 +9,6 @@ invariant-loop-id g l = record {
   more : (s : ℕ) → g.A.Arrays.free l.initial.arrays s ≤ g.A.Arrays.free l.arrays s;
   others : (s : ℕ) → among s (geode_serials (g.V.NodeView.look l.scene) (take l.id-index l.ids)) ≡ false → g.A.Arrays.free l.arrays s ≡ g.A.Arrays.free l.initial.arrays s;
   written : (s : ℕ) → g.A.Arrays.written l.arrays s ≡ g.A.Arrays.written l.initial.arrays s;
+  out : (s : ℕ) → g.A.Arrays.out l.arrays s ≡ g.A.Arrays.out l.initial.arrays s;
+  most : (b : ℕ) → g.A.Arrays.most l.initial.arrays ≤ b → ((s : ℕ) → among s (geode_serials (g.V.NodeView.look l.scene) (take l.id-index l.ids)) ≡ true → g.A.Arrays.out l.initial.arrays s < b) → g.A.Arrays.most l.arrays ≤ b;
 }

@@ -1,5 +1,5 @@
-use Rattle.std.proofs.Common.{arith}
-use Rattle.update_lists.specs.Taking.{geode_serials}
+use Rattle.std.proofs.Common.{◌+◌, ◌∙◌, ap, arith}
+use Rattle.update_lists.specs.Taking.{geode_serials, times_in}
 use Rattle.update_lists.proofs.Copying.{times_ready, times_once, times_none, updates_ids}
 use Rattle.update_lists.proofs.taking.take.Goals as goal
 
@@ -20,3 +20,11 @@ pub returns-clause-others : goal.returns-clause-others
 returns-clause-others g c = λ s e.
     let none = times_none s (geode_serials (g.V.NodeView.look c.args.scene.now) c.args.ids.now) e in
     omega (arith, none, c.fill_nodes.ensures.free s, c.ready_nodes.ensures.others s e)
+
+pub returns-clause-out : goal.returns-clause-out
+returns-clause-out g c = λ s.
+    c.fill_nodes.ensures.out s
+    ∙ ap (λ n. n + times_in s (geode_serials (g.V.NodeView.look c.args.scene.now) c.args.ids.now)) (c.ready_nodes.ensures.out s)
+
+pub returns-clause-most : goal.returns-clause-most
+returns-clause-most g c = λ b low below. rw c.fill_nodes.ensures.most (c.ready_nodes.ensures.most b low below)

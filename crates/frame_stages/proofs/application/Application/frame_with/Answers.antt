@@ -10,7 +10,7 @@ use Rattle.frame_stages.proofs.application.Application.frame_with.Goals as goal
 pub returns-in-Entered-clause-polled : goal.returns-in-Entered-clause-polled
 returns-in-Entered-clause-polled g c = λ ends.
     frame_begun (g.D.Desk.number c.args.desk.now) c.ahead.result c.args.self.now c.begin.new.self c.args.load c.args.load c.make_frame.new.load (g.D.Desk.seen c.args.desk.now) (g.D.Desk.seen c.make_frame.new.desk) (g.D.Desk.told c.args.desk.now) (g.D.Desk.told c.make_frame.new.desk) ends c.requires.bare c.requires.going c.requires.synced c.requires.next c.requires.waited
-    c.requires.ready c.begin.ensures c.ahead.ensures c.in-Entered.ensures.came
+    c.requires.ready c.begin.ensures c.ahead.ensures c.in-Entered.ensures.came c.make_frame.ensures.counted
 
 pub returns-in-NotNow-clause-polled : goal.returns-in-NotNow-clause-polled
 returns-in-NotNow-clause-polled g c = λ ends.
@@ -24,6 +24,7 @@ returns-in-NoMemory-clause-polled g c = λ ends.
     out (g.D.Desk.number c.args.desk.now) (with_load c.args.load (work_of c.args.self.now)) (work_of (record c.args.self.now { flight = c.put_back-in-NoMemory.new.self })) (g.D.Desk.seen c.args.desk.now) (g.D.Desk.seen c.stop.new.desk) (g.D.Desk.told c.args.desk.now) (g.D.Desk.told c.stop.new.desk) ends
     (marks_later (g.D.Desk.number c.args.desk.now) (g.D.Desk.seen c.args.desk.now) (g.D.Desk.seen c.make_frame.new.desk) (g.D.Desk.seen c.stop.new.desk) (g.D.Desk.told c.args.desk.now) (g.D.Desk.told c.make_frame.new.desk) (g.D.Desk.told c.stop.new.desk) t.2
     (subst (λ k. Marks k (g.D.Desk.seen c.make_frame.new.desk) (g.D.Desk.told c.make_frame.new.desk) (g.D.Desk.seen c.stop.new.desk) (g.D.Desk.told c.stop.new.desk)) c.make_frame.ensures.number c.stop.ensures.marks))
+    (λ holds right. c.stop.ensures.counted (c.make_frame.ensures.counted holds))
     (put_again c.args.self.now c.put_back-in-NoMemory.new.self c.args.load c.make_frame.new.load c.put_back-in-NoMemory.ensures)
 
 pub put_back-requires-in-NoMemory-clause-first : goal.put_back-requires-in-NoMemory-clause-first

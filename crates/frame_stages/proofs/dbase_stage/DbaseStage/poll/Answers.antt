@@ -1,5 +1,6 @@
 use Rattle.std.proofs.Common.{sym, ◌∙◌, subst, Ok, Err}
 use Rattle.seat_lock.specs.Log.{Found}
+use Rattle.frame_stages.specs.Copies.{HoldsCopies}
 use Rattle.frame_stages.specs.DbaseAnswers.{Known, Tries, IsDbaseAnswer}
 use Rattle.frame_stages.specs.declared.answers.StageError.TheVariants as error
 use Rattle.frame_stages.proofs.DbaseTurns.{saw_frames, tried, wanted}
@@ -57,3 +58,13 @@ returns-in-Err-clause-part g c lines channels holds =
     (record { seen = g.D.Desk.seen c.args.desk.now; told = g.D.Desk.told c.args.desk.now })
     (record { seen = g.D.Desk.seen c.set_mark.new.desk; told = g.D.Desk.told c.set_mark.new.desk })
     (returns-in-Err-clause-answer g c) holds
+
+pub returns-then-sight-clause-counted : goal.returns-then-sight-clause-counted
+returns-then-sight-clause-counted g c holds = subst HoldsCopies (sym c.sight-sight.ensures.told) holds
+
+pub returns-in-Ok-clause-counted : goal.returns-in-Ok-clause-counted
+returns-in-Ok-clause-counted g c holds = c.go.ensures.counted (subst HoldsCopies (sym c.sight-sight.ensures.told) holds)
+
+pub returns-in-Err-clause-counted : goal.returns-in-Err-clause-counted
+returns-in-Err-clause-counted g c holds =
+    c.set_mark.ensures.counted (c.go.ensures.counted (subst HoldsCopies (sym c.sight-sight.ensures.told) holds))

@@ -11,9 +11,9 @@ invariant_of-self c =
     let i = c.self.inside in
     let number = subst (λ (f : FlightState). length f.stats + 1 ≤ f.written + cut_short f.fault) (sym c.self.view_is) c.requires.stats in
     let long = i.stats.ok.0 in
-    load_kept i.frames i.written i.ahead i.fault i.spare.items (vec_capacity i.spare) (vec_len i.stats) (vec_capacity i.stats)
-    c.settle.new.load c.push_reserved-2.new.self.items (vec_capacity c.push_reserved-2.new.self) (vec_len c.push_reserved.new.self)
+    load_kept i.frames i.written i.ahead i.fault i.spare.items (vec_capacity i.spare) (vec_capacity i.home) (vec_len i.stats) (vec_capacity i.stats)
+    c.settle.new.load c.push_reserved-2.new.self.items (vec_capacity c.push_reserved-2.new.self) (vec_capacity c.bring_home.new.home) (vec_len c.push_reserved.new.self)
     (vec_capacity c.push_reserved.new.self) c.self.invariant
     (subst (λ (f : FlightState). length f.spare + 1 + f.frames ≤ f.ahead + (f.written + cut_short f.fault)) (sym c.self.view_is) c.requires.loads)
     (omega (arith, number, long))
-    c.settle.ensures.first c.push_reserved-2.ensures.items c.push_reserved-2.ensures.capacity c.push_reserved.ensures.len c.push_reserved.ensures.capacity
+    c.settle.ensures.first c.push_reserved-2.ensures.items c.push_reserved-2.ensures.capacity c.bring_home.ensures.capacity c.push_reserved.ensures.len c.push_reserved.ensures.capacity

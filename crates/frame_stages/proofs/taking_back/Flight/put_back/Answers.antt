@@ -20,6 +20,7 @@ invariant_of-self c =
       back = inv.back;
       loads = omega (arith, loads, long);
       places = omega (arith, places, capacity);
+      homeward = inv.homeward;
       told = inv.told;
       numbers = inv.numbers;
       settled = subst (λ (xs : List LoadState). Each (λ (l : LoadState). HaveFirst l.lists) xs) (sym items)

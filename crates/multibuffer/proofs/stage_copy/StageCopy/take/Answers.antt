@@ -2,9 +2,9 @@ use Rattle.std.proofs.Common.{ℕ, map, Option, sym, ◌∙◌, ap, subst}
 use Rattle.pf_model.specs.declared.nodes.Node.{Node}
 use Rattle.pf_model.specs.Graphs.{node_at}
 use Rattle.pf_model.specs.Copies.{updated_by, updates_of}
-use Rattle.bound_cache.specs.Caches.{box_at, touched_at}
+use Rattle.bound_cache.specs.Caches.{touched_at}
 use Rattle.multibuffer.specs.StageCopies.{CopyState, boxes_of, HasRightBoxes}
-use Rattle.multibuffer.proofs.Taking.{copy_more, changes_named, boxes_still}
+use Rattle.multibuffer.proofs.Taking.{copy_more, changes_named, boxes_after}
 use Rattle.multibuffer.proofs.stage_copy.StageCopy.take.Goals as goal
 
 pub returns-clause-nodes : goal.returns-clause-nodes
@@ -20,12 +20,9 @@ returns-clause-stood c =
 
 pub returns-clause-right : goal.returns-clause-right
 returns-clause-right c =
-    let was = c.self.inside.nodes in
-    let kept = box_at c.self.inside.cache in
-    λ right limits. c.refresh.ensures.right (node_at was)
-    (boxes_still was kept (box_at c.take_all.new.cache) (subst HasRightBoxes (sym c.self.view_is) right) c.take_all.ensures.boxes)
-    (changes_named c.args.updates was c.take_all.new.nodes (touched_at c.take_all.new.cache) c.take_all.ensures.looks c.take_all.ensures.touched)
-    limits
+    λ right limits. boxes_after c.self.inside.nodes c.take_all.new.nodes c.self.inside.cache c.take_all.new.cache c.refresh.new.cache (subst HasRightBoxes (sym c.self.view_is) right) c.take_all.ensures.boxes
+    (changes_named c.args.updates c.self.inside.nodes c.take_all.new.nodes (touched_at c.take_all.new.cache) c.take_all.ensures.looks c.take_all.ensures.touched)
+    c.take_all.ensures.higher c.take_all.ensures.stand (λ boxes told stand. c.refresh.ensures.right (node_at c.self.inside.nodes) boxes told stand limits) c.refresh.ensures.high
 
 pub returns-clause-kept : goal.returns-clause-kept
 returns-clause-kept c =

@@ -1,7 +1,7 @@
 use Rattle.std.proofs.Common.{◌≡◌, refl, sym, ap, ◌∙◌, subst}
 use Rattle.std.proofs.lemmas.Option.{same_Some}
 use Rattle.pf_model.specs.declared.lines.BaseLine.{BaseLine}
-use Rattle.pf_scene.specs.Scenes.{SceneState}
+use Rattle.pf_scene.specs.Scenes.{SceneState, KeepsCopies}
 use Rattle.frame_stages.specs.DbaseWorks.{DbaseHolds}
 use Rattle.frame_stages.specs.DbaseAnswers.{IsDbaseAnswer}
 use Rattle.pipe_core.specs.Pipes.{PipeWork, core_of, PipeKeeps, Lifted, link_work}
@@ -44,6 +44,7 @@ returns-clause-lifted g c =
       answer = subst (λ (scene : SceneState). IsDbaseAnswer 0 c.poll-result.result d.dbase c.poll-result.new.self (known p.scene) (known scene)) (sym still) poll.answer;
       ended = poll.ended;
       looked = poll.looked;
+      counted = λ holds. subst KeepsCopies (sym still) (poll.counted holds);
     })
     (subst (PipeKeeps play ahead) (sym c.self.view_is) keeps))
 

@@ -1,0 +1,6 @@
+-- What a refusal leaves of the cycles.
+use Rattle.pf_scene.proofs.Trimmed.{trimmed_then}
+use Rattle.pf_scene.proofs.stock.open.Goals as goal
+
+pub returns-in-Err-clause-trimmed : goal.returns-in-Err-clause-trimmed
+returns-in-Err-clause-trimmed c = trimmed_then c.args.first c.args.cycles.now c.prepare.new.cycles c.withdraw.new.cycles c.prepare.ensures.trimmed (c.withdraw.ensures.trimmed c.args.first)
