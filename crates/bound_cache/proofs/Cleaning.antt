@@ -91,6 +91,12 @@ untouched_above : (b : Bool) (id high : ℕ) → (b ≡ true → id < high) → 
 untouched_above true id high below l = absurd (let s : id < high = below refl in omega arith)
 untouched_above false id high below l = refl
 
+-- where each change is touched, the nodes stand below as before
+pub stands_on : (was look : Look) (any : Bool) (high : ℕ) (t : TableState) (touched : ℕ → Bool) → IsAtRest t any high → ((id : ℕ) → touched id ≡ is_touched (t.marks id))
+    → ChangesAreTouched was look touched → StandBelow was high → StandBelow look high
+stands_on was look any high t touched rest shown told stand =
+    λ id l. told.same id (shown id ∙ untouched_above (is_touched (t.marks id)) id high (rest.below id) l) ∙ stand id l
+
 -- without going there the clean has come to an id above all that were touched
 reached_above : (was look : Look) (any : Bool) (high : ℕ) (t u : TableState) (touched : ℕ → Bool) → IsAtRest t any high → ((id : ℕ) → touched id ≡ is_touched (t.marks id)) → Proceeds look t u
     → ChangesAreTouched was look touched → StandBelow was high → (id : ℕ) → high ≤ id → IsReached look id (u.marks id)

@@ -72,11 +72,14 @@ impl BoxCache {
     /// Brings the boxes to those of a scene. Where the boxes were those of the scene as it was, each id whose node has
     /// changed since was touched, the nodes of the scene as it was stood under ids up to the greatest that was ever
     /// touched, and the scene is within the limits, all boxes are then those from scratch. On every scene it goes at
-    /// most 32 nodes deep, and an untouched geode keeps its box.
+    /// most 32 nodes deep, and an untouched geode keeps its box. From the empty scene of `new` on the nodes stand where that is
+    /// asked, as long as each change is touched.
     pub fn clean<V: NodeView>(&mut self, scene: &V)
         ensures right { (was : Look) → AreBoxesOf was (box_at self.old)
             → ChangesAreTouched was (V.look scene.now) (touched_at self.old) → StandBelow was self.old.high
             → KeepsLimits (V.look scene.now) → AreBoxesOf (V.look scene.now) (box_at self.new) }
+        ensures stand { (was : Look) → ChangesAreTouched was (V.look scene.now) (touched_at self.old)
+            → StandBelow was self.old.high → StandBelow (V.look scene.now) self.new.high }
         ensures kept { (id : ℕ) → is_geode_at (V.look scene.now) id ≡ true → touched_at self.old id ≡ false
             → box_at self.new id ≡ box_at self.old id }
         ensures untouched { (id : ℕ) → touched_at self.new id ≡ false }

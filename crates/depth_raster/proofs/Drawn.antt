@@ -1,19 +1,22 @@
 -- Pieces over a tile: what is seen.
-use Rattle.std.proofs.Common.{◌≡◌, ℕ, ◌+◌, ◌<◌, List, ap, sym, ◌∙◌, subst}
+use Rattle.std.proofs.Common.{◌≡◌, ℕ, ◌+◌, ◌/◌, ◌<◌, Bool, true, false, List, get_or, refl, ap, sym, ◌∙◌, subst, arith}
 use Rattle.std.specs.Prelude.{fold}
 use Rattle.fx_math.specs.declared.lenses.Lens.{Lens}
 use Rattle.tri_cover.specs.Picture.{nearer}
-use Rattle.depth_raster.specs.Blocks.{colour_in}
+use Rattle.depth_raster.specs.Blocks.{IsBlockOf, colour_in}
 use Rattle.depth_raster.specs.Marks.{seen_as}
 use Rattle.depth_raster.specs.Pieces.{AreRanked, fragments_by, pieces_over, IsColoured, settled}
 use Rattle.depth_raster.specs.Slots.{slots_over}
-use Rattle.depth_raster.specs.Tiles.{mark_in, MarksFollow, IsPainted, IsAt, IsDrawn}
+use Rattle.depth_raster.specs.Strips.{AreTilesOf, TilesRelate, IsStripOf, StripRelates}
+use Rattle.depth_raster.specs.Tiles.{mark_in, MarksFollow, IsPainted, IsAt, IsBegun, IsDrawn, IsDrawnFrom}
 use Rattle.depth_raster.specs.declared.blocks.Block.{Block}
 use Rattle.depth_raster.specs.declared.marks.Mark.{Mark}
 use Rattle.depth_raster.specs.declared.pieces.Piece.{Piece}
 use Rattle.depth_raster.specs.declared.slots.Slot.{Slot}
+use Rattle.depth_raster.specs.declared.strip.Strip.{Strip}
 use Rattle.depth_raster.specs.declared.tile.Tile.{Tile}
 use Rattle.depth_raster.proofs.Settling.{pieces_seen, pieces_blank}
+use Rattle.depth_raster.proofs.Slotted.{tiles_kept}
 
 -- at the pixels of the tile the slots make the same of marks as the pieces
 abbrev pub AreOver : Lens → List Piece → List Slot → Tile → Type 0
@@ -72,4 +75,30 @@ tile_drawn_over lens back ps ss a b c slots ranks h k = record {
       let is = pixel_drawn lens back ps ss a b c slots h k q r at in
       pieces_blank lens px py ps m (colour_in a.block a.colours.items q r) none back (colour_in c.block c.colours.items q r) ranks is.coloured
       (sym (pixel_seen lens px py back ps m (mark_in c.block c.marks.items q r) (colour_in a.block a.colours.items q r) (colour_in c.block c.colours.items q r) ranks none is) ∙ blank);
+}
+
+-- ---- a drawing and how it starts
+begun_block : (first : Bool) (t start : Tile) → IsBegun first t start → start.block ≡ t.block
+begun_block true t start begun = (begun.cleared refl).block
+begun_block false t start begun = ap (λ (u : Tile). u.block) (begun.kept refl)
+
+pub drawn_block : (lens : Lens) (back : List ℕ) (ps : List Piece) (first : Bool) (before after : Tile) → IsDrawnFrom lens back ps first before after → after.block ≡ before.block
+drawn_block lens back ps first before after h = h.drawn.block ∙ begun_block first before h.start h.begun
+
+-- a strip stays a strip
+pub strip_begun : (lens : Lens) (first : Bool) (s t : Strip) → IsStripOf lens s → StripRelates (IsBegun first) s t → IsStripOf lens t
+strip_begun lens first s t is begun = record {
+  band = subst (λ (b : Block). IsBlockOf lens b) (sym begun.band) is.band;
+  begins = subst (λ (b : Block). b.first < lens.h) (sym begun.band) is.begins;
+  share = subst (λ (b : Block). (r : ℕ) → r < b.rows → (b.first + r) / 64 ≡ b.first / 64) (sym begun.band) is.share;
+  tiles = subst (λ (b : Block). AreTilesOf b t.tiles.items) (sym begun.band)
+      (tiles_kept s.band s.tiles.items t.tiles.items is.tiles begun.count
+      (λ j d below. begun_block first (get_or s.tiles.items j d) (get_or t.tiles.items j d) (begun.tiles j d below)));
+}
+
+pub tiles_drawn_from : (lens : Lens) (back : List ℕ) (ps : List Piece) (first : Bool) (s t : Strip) (after : List Tile) → StripRelates (IsBegun first) s t → TilesRelate (IsDrawn lens back ps) t.tiles.items after → TilesRelate (IsDrawnFrom lens back ps first) s.tiles.items after
+tiles_drawn_from lens back ps first s t after begun drawn j d below = record {
+  start = get_or t.tiles.items j d;
+  begun = begun.tiles j d below;
+  drawn = drawn j d (omega (arith, below, begun.count));
 }

@@ -1,55 +1,31 @@
 -- The picture at a pixel, from what is drawn there.
-use Rattle.std.proofs.Common.{◌≡◌, ℕ, ◌%◌, ◌<◌, Bool, true, false, cond, List, [], ◌∷◌, length, Option, Some, None, refl, ap, sym, ◌∙◌}
+use Rattle.std.proofs.Common.{◌≡◌, ℕ, ◌%◌, ◌<◌, Bool, true, false, cond, List, [], ◌∷◌, Option, Some, None, refl, ap, sym, ◌∙◌}
 use Rattle.std.specs.Prelude.{fold, filter, nat_lt}
-use Rattle.std.proofs.lemmas.List.Elements.{All-nil}
 use Rattle.fx_math.specs.declared.lenses.Lens.{Lens}
 use Rattle.pf_model.specs.Walks.{Instance}
 use Rattle.tri_cover.specs.Glass.{is_glass, is_drawn_before, alpha_of}
 use Rattle.tri_cover.specs.Sorting.{sorted}
 use Rattle.tri_cover.specs.Picture.{Fragment, fragments, glazed, glazed_by, nearest_opaque, colour_under, picture}
 use Rattle.depth_raster.specs.Blocks.{colour_in}
-use Rattle.depth_raster.specs.Canvas.{seen_at, mark_at, colour_at, IsOpen}
+use Rattle.depth_raster.specs.Canvas.{seen_at, mark_at, colour_at}
 use Rattle.depth_raster.specs.Drawing.{opaque_over, glass_glazes}
-use Rattle.depth_raster.specs.Marks.{nothing, seen_as, behind_as}
-use Rattle.depth_raster.specs.Pieces.{IsPieceOf}
-use Rattle.depth_raster.specs.Strips.{AreStrips, StripsRelate}
-use Rattle.depth_raster.specs.Tiles.{mark_in, IsCleared}
-use Rattle.depth_raster.specs.declared.blocks.Block.{Block}
+use Rattle.depth_raster.specs.Marks.{seen_as, behind_as}
+use Rattle.depth_raster.specs.Strips.{AreStrips}
 use Rattle.depth_raster.specs.declared.marks.Mark.{Mark}
 use Rattle.depth_raster.specs.declared.strip.Strip.{Strip}
 use Rattle.depth_raster.specs.declared.tile.Tile.{Tile}
 use Rattle.depth_raster.proofs.Depths.{glazed_colourless}
 use Rattle.depth_raster.proofs.Flushed.{seen_is, mark_is, colour_is}
-use Rattle.depth_raster.proofs.PixelTiles.{AreTilesAt, tiles_at, strips_kept}
+use Rattle.depth_raster.proofs.PixelTiles.{AreTilesAt, tiles_at}
 
--- ---- strips that are cleared
-cleared_mark : (lens : Lens) (before after : List Strip) → AreStrips lens before → length after ≡ length before → StripsRelate IsCleared before after → (px py : ℕ) → px < lens.w → py < lens.h → mark_at after px py ≡ nothing
-cleared_mark lens before after are long each px py column row =
-    let at = tiles_at IsCleared lens before after are long each px py column row in
-    mark_is after px py at.new at.is
-    ∙ ap (λ (d : Block). mark_in d at.new.marks.items (px % 16) (py % 16)) at.related.block
-    ∙ at.related.marks (px % 16) (py % 16) at.stands.at.column at.stands.at.row
-
-pub cleared_open : (lens : Lens) (before after : List Strip) → AreStrips lens before → length after ≡ length before → StripsRelate IsCleared before after → IsOpen lens after []
-cleared_open lens before after are long each = record {
-  parts = strips_kept IsCleared lens before after (λ s t h. h.block) are long each;
-  unranked = λ px py column row. ap (λ (m : Mark). m.rank) (cleared_mark lens before after are long each px py column row);
-  ready = All-nil (IsPieceOf lens);
-}
-
--- what is seen is of the mark and the colour
+-- ---- what is seen
+-- of the mark and the colour
 seen_of : (P : Tile → Tile → Type 0) (before after : List Strip) (px py : ℕ) → AreTilesAt P before after px py → seen_at after px py ≡ seen_as (mark_at after px py) (colour_at after px py)
 seen_of P before after px py at =
     let t = at.new in
     seen_is after px py t at.is
     ∙ ap (λ (m : Mark). seen_as m (colour_in t.block t.colours.items (px % 16) (py % 16))) (sym (mark_is after px py t at.is))
     ∙ ap (seen_as (mark_at after px py)) (sym (colour_is after px py t at.is))
-
-pub cleared_seen : (lens : Lens) (before after : List Strip) → AreStrips lens before → length after ≡ length before → StripsRelate IsCleared before after → (px py : ℕ) → px < lens.w → py < lens.h → seen_at after px py ≡ None
-cleared_seen lens before after are long each px py column row =
-    let at = tiles_at IsCleared lens before after are long each px py column row in
-    seen_of IsCleared before after px py at
-    ∙ ap (λ (m : Mark). seen_as m (colour_at after px py)) (cleared_mark lens before after are long each px py column row)
 
 -- where strips stand, what is seen in them is of marks and colours
 same_tiles : Tile → Tile → Type 0

@@ -1,26 +1,29 @@
 -- A batch drawn in all strips: what is seen at each pixel.
-use Rattle.std.proofs.Common.{◌≡◌, ℕ, ◌+◌, ◌%◌, ◌<◌, List, [], ◌∷◌, length, Option, Some, None, refl, ap, sym, ◌∙◌, subst}
+use Rattle.std.proofs.Common.{◌≡◌, ℕ, ◌+◌, ◌%◌, ◌<◌, Bool, true, false, List, [], ◌∷◌, length, Option, Some, None, refl, ap, sym, ◌∙◌, subst}
 use Rattle.std.specs.Prelude.{fold}
 use Rattle.std.specs.Option.{option_map_or}
-use Rattle.std.specs.List.{All, cons_option}
-use Rattle.std.proofs.lemmas.List.Elements.{All-nil, All-push, filter_map-append}
+use Rattle.std.specs.List.{cons_option}
+use Rattle.std.proofs.lemmas.Bool.{false≢true}
+use Rattle.std.proofs.lemmas.List.Elements.{filter_map-append}
 use Rattle.std.proofs.lemmas.List.Sums.{fold-append}
 use Rattle.fx_math.specs.declared.lenses.Lens.{Lens}
 use Rattle.tri_cover.specs.Picture.{Fragment, nearer}
 use Rattle.depth_raster.specs.Batches.{IsWithFace}
 use Rattle.depth_raster.specs.Blocks.{colour_in}
-use Rattle.depth_raster.specs.Canvas.{tile_at, seen_at, mark_at, colour_at, IsOpen, drawn_with, Draws, face_drawn}
+use Rattle.depth_raster.specs.Canvas.{tile_at, seen_at, seen_from, mark_at, colour_at, IsOpen, IsUnderway, drawn_with, Draws, face_drawn}
 use Rattle.depth_raster.specs.Faces.{fragment_by, over}
-use Rattle.depth_raster.specs.Marks.{no_mark}
-use Rattle.depth_raster.specs.Pieces.{IsPieceOf, fragments_by}
-use Rattle.depth_raster.specs.Strips.{StripsRelate}
-use Rattle.depth_raster.specs.Tiles.{mark_in, seen_in, IsDrawn}
+use Rattle.depth_raster.specs.Marks.{nothing, no_mark, seen_as}
+use Rattle.depth_raster.specs.Pieces.{fragments_by}
+use Rattle.depth_raster.specs.Strips.{StripsRelate, AreStrips}
+use Rattle.depth_raster.specs.Tiles.{mark_in, seen_in, IsAt, IsCleared, IsBegun, IsDrawn, IsDrawnFrom}
+use Rattle.depth_raster.specs.declared.blocks.Block.{Block}
 use Rattle.depth_raster.specs.declared.faces.Face.{Face}
 use Rattle.depth_raster.specs.declared.marks.Mark.{Mark}
 use Rattle.depth_raster.specs.declared.pieces.Piece.{Piece}
 use Rattle.depth_raster.specs.declared.strip.Strip.{Strip}
 use Rattle.depth_raster.specs.declared.tile.Tile.{Tile}
-use Rattle.depth_raster.proofs.PixelTiles.{IsTileAt, AreTilesAt, tiles_at, strips_kept}
+use Rattle.depth_raster.proofs.Drawn.{drawn_block}
+use Rattle.depth_raster.proofs.PixelTiles.{IsTileAt, tiles_at, strips_kept}
 
 -- ---- what lies at the pixel of a tile
 pub seen_is : (strips : List Strip) (px py : ℕ) (t : Tile) → tile_at strips px py ≡ Some t → seen_at strips px py ≡ seen_in t (px % 16) (py % 16)
@@ -36,58 +39,117 @@ unfolding colour_at
 colour_is strips px py t is = ap (λ (o : Option Tile). option_map_or (λ t. colour_in t.block t.colours.items (px % 16) (py % 16)) o []) is
 
 -- ---- opaque pieces
-drawn_at : (lens : Lens) (back : List ℕ) (ps : List Piece) (before after : List Strip) → IsOpen lens before ps → length after ≡ length before → StripsRelate (IsDrawn lens back ps) before after → (px py : ℕ) → px < lens.w → py < lens.h → AreTilesAt (IsDrawn lens back ps) before after px py
-drawn_at lens back ps before after opened long each = tiles_at (IsDrawn lens back ps) lens before after opened.parts long each
+-- the tile of a pixel as its drawing starts
+record StartsAt (first : Bool) (before : List Strip) (px py : ℕ) (t start : Tile) : Type 0 where
+  block : start.block ≡ t.block
+  unranked : (mark_in start.block start.marks.items (px % 16) (py % 16)).rank ≡ 0
+  seen : seen_in start (px % 16) (py % 16) ≡ seen_from first before px py
 
-unranked_in : (lens : Lens) (ps : List Piece) (before : List Strip) (px py : ℕ) (t : Tile) → IsOpen lens before ps → px < lens.w → py < lens.h → IsTileAt before px py t → (mark_in t.block t.marks.items (px % 16) (py % 16)).rank ≡ 0
-unranked_in lens ps before px py t opened column row at = ap (λ (m : Mark). m.rank) (sym (mark_is before px py t at.is)) ∙ opened.unranked px py column row
+cleared_mark : (t start : Tile) (q r : ℕ) → IsCleared t start → IsAt t q r → mark_in start.block start.marks.items q r ≡ nothing
+cleared_mark t start q r is at = ap (λ (d : Block). mark_in d start.marks.items q r) is.block ∙ is.marks q r at.column at.row
 
-pub flushed_seen : (lens : Lens) (back : List ℕ) (ps : List Piece) (before after : List Strip) → IsOpen lens before ps → length after ≡ length before → StripsRelate (IsDrawn lens back ps) before after → (px py : ℕ) → px < lens.w → py < lens.h → seen_at after px py ≡ drawn_with lens before ps px py
-flushed_seen lens back ps before after opened long each px py column row =
-    let at = drawn_at lens back ps before after opened long each px py column row in
+starts_at : (lens : Lens) (before : List Strip) (px py : ℕ) (first : Bool) (t start : Tile) → IsUnderway lens first before → px < lens.w → py < lens.h → IsTileAt before px py t → IsBegun first t start → StartsAt first before px py t start
+starts_at lens before px py true t start opened column row at begun =
+    let is = begun.cleared refl in
+    let mark = cleared_mark t start (px % 16) (py % 16) is at.at in
+    record {
+      block = is.block;
+      unranked = ap (λ (m : Mark). m.rank) mark;
+      seen = ap (λ (m : Mark). seen_as m (colour_in start.block start.colours.items (px % 16) (py % 16))) mark;
+    }
+starts_at lens before px py false t start opened column row at begun =
+    let is = begun.kept refl in
+    record {
+      block = ap (λ (u : Tile). u.block) is;
+      unranked = ap (λ (u : Tile). (mark_in u.block u.marks.items (px % 16) (py % 16)).rank) is ∙ ap (λ (m : Mark). m.rank) (sym (mark_is before px py t at.is)) ∙ opened.unranked refl px py column row;
+      seen = ap (λ (u : Tile). seen_in u (px % 16) (py % 16)) is ∙ sym (seen_is before px py t at.is);
+    }
+
+-- a pixel before and after a drawing: its tile as the drawing starts, and then
+record IsDrawnAt (lens : Lens) (back : List ℕ) (ps : List Piece) (first : Bool) (before after : List Strip) (px py : ℕ) : Type 0 where
+  start : Tile
+  new : Tile
+  at : IsAt start (px % 16) (py % 16)
+  left : start.block.left + px % 16 ≡ px
+  top : start.block.first + py % 16 ≡ py
+  unranked : (mark_in start.block start.marks.items (px % 16) (py % 16)).rank ≡ 0
+  seen : seen_in start (px % 16) (py % 16) ≡ seen_from first before px py
+  is : tile_at after px py ≡ Some new
+  drawn : IsDrawn lens back ps start new
+
+drawn_at : (lens : Lens) (back : List ℕ) (ps : List Piece) (first : Bool) (before after : List Strip) → IsUnderway lens first before → length after ≡ length before → StripsRelate (IsDrawnFrom lens back ps first) before after → (px py : ℕ) → px < lens.w → py < lens.h → IsDrawnAt lens back ps first before after px py
+drawn_at lens back ps first before after opened long each px py column row =
+    let at = tiles_at (IsDrawnFrom lens back ps first) lens before after opened.parts long each px py column row in
+    let h = at.related in
+    let starts = starts_at lens before px py first at.old h.start opened column row at.stands h.begun in
+    record {
+      start = h.start;
+      new = at.new;
+      at = record {
+        column = subst (λ (d : Block). px % 16 < d.width) (sym starts.block) at.stands.at.column;
+        row = subst (λ (d : Block). py % 16 < d.rows) (sym starts.block) at.stands.at.row;
+      };
+      left = ap (λ (d : Block). d.left + px % 16) starts.block ∙ at.stands.left;
+      top = ap (λ (d : Block). d.first + py % 16) starts.block ∙ at.stands.first;
+      unranked = starts.unranked;
+      seen = starts.seen;
+      is = at.is;
+      drawn = h.drawn;
+    }
+
+pub flushed_seen : (lens : Lens) (back : List ℕ) (ps : List Piece) (first : Bool) (before after : List Strip) → IsUnderway lens first before → length after ≡ length before → StripsRelate (IsDrawnFrom lens back ps first) before after → (px py : ℕ) → px < lens.w → py < lens.h → seen_at after px py ≡ drawn_with lens first before ps px py
+flushed_seen lens back ps first before after opened long each px py column row =
+    let at = drawn_at lens back ps first before after opened long each px py column row in
     let q = px % 16 in
     let r = py % 16 in
     seen_is after px py at.new at.is
-    ∙ at.related.seen q r at.stands.at (unranked_in lens ps before px py at.old opened column row at.stands)
-    ∙ ap (λ (o : Option Fragment). fold nearer o (fragments_by lens (at.old.block.left + q) (at.old.block.first + r) ps)) (sym (seen_is before px py at.old at.stands.is))
-    ∙ ap (λ (x : ℕ). fold nearer (seen_at before px py) (fragments_by lens x (at.old.block.first + r) ps)) at.stands.left
-    ∙ ap (λ (y : ℕ). fold nearer (seen_at before px py) (fragments_by lens px y ps)) at.stands.first
+    ∙ at.drawn.seen q r at.at at.unranked
+    ∙ ap (λ (o : Option Fragment). fold nearer o (fragments_by lens (at.start.block.left + q) (at.start.block.first + r) ps)) at.seen
+    ∙ ap (λ (x : ℕ). fold nearer (seen_from first before px py) (fragments_by lens x (at.start.block.first + r) ps)) at.left
+    ∙ ap (λ (y : ℕ). fold nearer (seen_from first before px py) (fragments_by lens px y ps)) at.top
 
-pub flushed_open : (lens : Lens) (back : List ℕ) (ps : List Piece) (before after : List Strip) → IsOpen lens before ps → length after ≡ length before → StripsRelate (IsDrawn lens back ps) before after → IsOpen lens after []
-flushed_open lens back ps before after opened long each = record {
-  parts = strips_kept (IsDrawn lens back ps) lens before after (λ s t h. h.block) opened.parts long each;
+pub flushed_open : (lens : Lens) (back : List ℕ) (ps : List Piece) (first : Bool) (before after : List Strip) → IsUnderway lens first before → length after ≡ length before → StripsRelate (IsDrawnFrom lens back ps first) before after → IsOpen lens after
+flushed_open lens back ps first before after opened long each = record {
+  parts = strips_kept (IsDrawnFrom lens back ps first) lens before after (λ s t h. drawn_block lens back ps first s t h) opened.parts long each;
   unranked = λ px py column row.
-      let at = drawn_at lens back ps before after opened long each px py column row in
-      ap (λ (m : Mark). m.rank) (mark_is after px py at.new at.is) ∙ at.related.settled (px % 16) (py % 16) at.stands.at;
-  ready = All-nil (IsPieceOf lens);
+      let at = drawn_at lens back ps first before after opened long each px py column row in
+      ap (λ (m : Mark). m.rank) (mark_is after px py at.new at.is) ∙ at.drawn.settled (px % 16) (py % 16) at.at;
 }
 
-pub flushed_blank : (lens : Lens) (back : List ℕ) (ps : List Piece) (before after : List Strip) → IsOpen lens before ps → length after ≡ length before → StripsRelate (IsDrawn lens back ps) before after → (px py : ℕ) → px < lens.w → py < lens.h → seen_at after px py ≡ None → colour_at after px py ≡ back
-flushed_blank lens back ps before after opened long each px py column row none =
-    let at = drawn_at lens back ps before after opened long each px py column row in
+pub flushed_blank : (lens : Lens) (back : List ℕ) (ps : List Piece) (first : Bool) (before after : List Strip) → IsUnderway lens first before → length after ≡ length before → StripsRelate (IsDrawnFrom lens back ps first) before after → (px py : ℕ) → px < lens.w → py < lens.h → seen_at after px py ≡ None → colour_at after px py ≡ back
+flushed_blank lens back ps first before after opened long each px py column row none =
+    let at = drawn_at lens back ps first before after opened long each px py column row in
     colour_is after px py at.new at.is
-    ∙ at.related.blank (px % 16) (py % 16) at.stands.at (unranked_in lens ps before px py at.old opened column row at.stands) (sym (seen_is after px py at.new at.is) ∙ none)
+    ∙ at.drawn.blank (px % 16) (py % 16) at.at at.unranked (sym (seen_is after px py at.new at.is) ∙ none)
+
+-- before the first drawing nothing is seen, and afterwards the marks count
+pub underway_first : (lens : Lens) (first : Bool) (strips : List Strip) → first ≡ true → AreStrips lens strips → IsUnderway lens first strips
+underway_first lens first strips is are = record {
+  parts = are;
+  unranked = λ later. absurd (false≢true (sym later ∙ is));
+}
+
+pub underway_later : (lens : Lens) (first : Bool) (strips : List Strip) → IsOpen lens strips → IsUnderway lens first strips
+underway_later lens first strips opened = record { parts = opened.parts; unranked = λ later. opened.unranked }
+
+pub first_seen : (lens : Lens) (first : Bool) (strips : List Strip) (ps : List Piece) (px py : ℕ) → first ≡ true → ps ≡ [] → drawn_with lens first strips ps px py ≡ None
+first_seen lens first strips ps px py is empty =
+    ap (λ (b : Bool). drawn_with lens b strips ps px py) is ∙ ap (λ (qs : List Piece). drawn_with lens true strips qs px py) empty
+
+pub later_seen : (lens : Lens) (first : Bool) (strips : List Strip) (ps : List Piece) (px py : ℕ) → first ≡ false → ps ≡ [] → drawn_with lens first strips ps px py ≡ seen_at strips px py
+later_seen lens first strips ps px py is empty =
+    ap (λ (b : Bool). drawn_with lens b strips ps px py) is ∙ ap (λ (qs : List Piece). drawn_with lens false strips qs px py) empty
 
 -- ---- a face more
-pub none_to_draw : (lens : Lens) (strips : List Strip) (px py : ℕ) → drawn_with lens strips [] px py ≡ seen_at strips px py
-none_to_draw lens strips px py = refl
-
 over_last : (drawn : Option Fragment) (o : Option Fragment) → fold nearer drawn (cons_option o []) ≡ option_map_or (nearer drawn) o drawn
 over_last drawn None = refl
 over_last drawn (Some f) = refl
 
-pub face_more : (lens : Lens) (strips : List Strip) (f : Face) (before after : List Piece) → IsWithFace lens f before after → Draws lens strips before strips after (face_drawn lens f)
+pub face_more : (lens : Lens) (first : Bool) (strips : List Strip) (f : Face) (before after : List Piece) → IsWithFace f before after → Draws lens first strips before first strips after (face_drawn lens f)
 unfolding over fragment_by
-face_more lens strips f before after is px py column row =
-    ap (λ (ps : List Piece). drawn_with lens strips ps px py) is.pieces
-    ∙ ap (fold nearer (seen_at strips px py)) (filter_map-append (λ (p : Piece). fragment_by lens px py p.face) before (is.piece ∷ []))
-    ∙ fold-append nearer (seen_at strips px py) (fragments_by lens px py before) (fragments_by lens px py (is.piece ∷ []))
-    ∙ over_last (drawn_with lens strips before px py) (fragment_by lens px py is.piece.face)
-    ∙ ap (λ (g : Face). over lens px py g (drawn_with lens strips before px py)) is.face
-
-pub face_open : (lens : Lens) (strips : List Strip) (f : Face) (before after : List Piece) → IsWithFace lens f before after → IsOpen lens strips before → IsOpen lens strips after
-face_open lens strips f before after is opened = record {
-  parts = opened.parts;
-  unranked = opened.unranked;
-  ready = subst (All (IsPieceOf lens)) (sym is.pieces) (All-push (IsPieceOf lens) before is.piece opened.ready is.ready);
-}
+face_more lens first strips f before after is px py column row =
+    ap (λ (ps : List Piece). drawn_with lens first strips ps px py) is.pieces
+    ∙ ap (fold nearer (seen_from first strips px py)) (filter_map-append (λ (p : Piece). fragment_by lens px py p.face) before (is.piece ∷ []))
+    ∙ fold-append nearer (seen_from first strips px py) (fragments_by lens px py before) (fragments_by lens px py (is.piece ∷ []))
+    ∙ over_last (drawn_with lens first strips before px py) (fragment_by lens px py is.piece.face)
+    ∙ ap (λ (g : Face). over lens px py g (drawn_with lens first strips before px py)) is.face

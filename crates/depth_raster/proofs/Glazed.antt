@@ -2,7 +2,6 @@
 use Rattle.std.proofs.Common.{◌≡◌, ℕ, ◌+◌, ◌%◌, ◌<◌, List, [], ◌∷◌, length, take, get_or, Option, refl, ap, sym, ◌∙◌, subst, arith}
 use Rattle.std.specs.Prelude.{fold}
 use Rattle.std.proofs.lemmas.List.{take_more}
-use Rattle.std.proofs.lemmas.List.Elements.{All-nil}
 use Rattle.std.proofs.lemmas.List.Sums.{fold-append}
 use Rattle.fx_math.specs.declared.lenses.Lens.{Lens}
 use Rattle.tri_cover.specs.Picture.{Fragment}
@@ -11,7 +10,6 @@ use Rattle.depth_raster.specs.Blocks.{colour_in}
 use Rattle.depth_raster.specs.Canvas.{mark_at, colour_at, behind_at, IsOpen, glazed_with, Glazes, face_glazed}
 use Rattle.depth_raster.specs.Faces.{fragment_by, glazed_by_face}
 use Rattle.depth_raster.specs.Marks.{behind_as}
-use Rattle.depth_raster.specs.Pieces.{IsPieceOf}
 use Rattle.depth_raster.specs.Strips.{AreTilesOf, TilesRelate, StripsRelate, AreStrips}
 use Rattle.depth_raster.specs.Tiles.{mark_in, face_glazes, pieces_glazes, ColoursFollow}
 use Rattle.depth_raster.specs.declared.blocks.Block.{Block}
@@ -101,18 +99,17 @@ flushed_glass lens ps before after are long each = record {
       ∙ ap (pieces_glazes lens ps px py (mark_at before px py)) (sym (colour_is before px py at.old at.stands.is));
 }
 
-pub flushed_glass_open : (lens : Lens) (ps : List Piece) (before after : List Strip) → IsOpen lens before ps → length after ≡ length before → StripsRelate (ColoursFollow (pieces_glazes lens ps)) before after → IsOpen lens after []
+pub flushed_glass_open : (lens : Lens) (ps : List Piece) (before after : List Strip) → IsOpen lens before → length after ≡ length before → StripsRelate (ColoursFollow (pieces_glazes lens ps)) before after → IsOpen lens after
 flushed_glass_open lens ps before after opened long each = record {
   parts = strips_kept (ColoursFollow (pieces_glazes lens ps)) lens before after (λ s t h. h.block) opened.parts long each;
   unranked = λ px py column row. ap (λ (m : Mark). m.rank) (marks_stay lens ps before after opened.parts long each px py column row) ∙ opened.unranked px py column row;
-  ready = All-nil (IsPieceOf lens);
 }
 
 pub nothing_glazed : (lens : Lens) (strips : List Strip) (ps : List Piece) → Glazes lens strips ps strips ps kept
 nothing_glazed lens strips ps = record { behind = λ px py column row. refl; colours = λ px py column row. refl }
 
 -- a face more
-pub pane_more : (lens : Lens) (strips : List Strip) (f : Face) (before after : List Piece) → IsWithFace lens f before after → Glazes lens strips before strips after (face_glazed lens f)
+pub pane_more : (lens : Lens) (strips : List Strip) (f : Face) (before after : List Piece) → IsWithFace f before after → Glazes lens strips before strips after (face_glazed lens f)
 unfolding glazed_by_face fragment_by
 pane_more lens strips f before after is = record {
   behind = λ px py column row. refl;

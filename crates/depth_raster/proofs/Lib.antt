@@ -9,12 +9,14 @@ pub mod Edged
 pub mod Finals
 pub mod Flushed
 pub mod Folding
+pub mod Foremost
 pub mod Following
 pub mod Glazed
 pub mod Halves
 pub mod Items
 pub mod Listed
 pub mod Looking
+pub mod MadeReady
 pub mod MarkOrder
 pub mod Mixed
 pub mod NextPane
@@ -32,3 +34,4 @@ pub mod Slotted
 pub mod Sorting
 pub mod Stepped
 pub mod Tiling
+pub mod Topped

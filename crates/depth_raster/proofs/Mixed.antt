@@ -1,11 +1,12 @@
 -- Sums along a row: how large they are, what a step makes of them, and the colour that they give.
-use Rattle.std.proofs.Common.{◌≡◌, ℕ, ◌+◌, ◌*◌, ◌<◌, ◌≤◌, ◌^◌, List, Option, Some, None, refl, ap, sym, ◌∙◌, subst, arith, lit≤}
-use Rattle.std.specs.Prelude.{ℤ, pos, ◌+ℤ◌, ◌*ℤ◌, ◌≤ℤ◌, unsigned_abs}
+use Rattle.std.proofs.Common.{◌≡◌, ℕ, ◌+◌, ◌*◌, ◌/◌, ◌<◌, ◌≤◌, ◌^◌, List, [], ◌∷◌, Option, Some, None, refl, ap, sym, ◌∙◌, subst, arith, lit≤}
+use Rattle.std.specs.Prelude.{ℤ, pos, ◌+ℤ◌, ◌*ℤ◌, ◌≤ℤ◌, ◌<ℤ◌, unsigned_abs}
 use Rattle.std.specs.Option.{IfSome}
-use Rattle.std.proofs.lemmas.Int.{ints}
+use Rattle.std.proofs.lemmas.Int.{ints, by_lt_z}
+use Rattle.std.proofs.Math.Nat.{lt-div-mul-add, div-mul-le_self}
 use Rattle.fx_math.specs.Limits.{size_limit}
 use Rattle.fx_math.specs.Within.{IsWithin}
-use Rattle.fx_math.proofs.Ring.{order, mul-add, times_one}
+use Rattle.fx_math.proofs.Ring.{expand, linear, order, mul-add, mul_left_comm, times_one, times_le, times_lt}
 use Rattle.fx_math.proofs.Size.{within_add, within_mul, within_more}
 use Rattle.tri_cover.specs.Faces.{face_hit}
 use Rattle.tri_cover.specs.Hits.{channel}
@@ -13,9 +14,9 @@ use Rattle.tri_cover.specs.Linears.{value_at, weight_at, IsNarrow}
 use Rattle.tri_cover.specs.declared.face.Face.{Face}
 use Rattle.tri_cover.specs.declared.hit.Hit.{Hit}
 use Rattle.tri_cover.specs.declared.linear.Linear.{Linear}
-use Rattle.depth_raster.specs.Mixing.{mix, mix_of, AreBytes, AreColours, AreSumsAt, AreStepsOf, DoFit, IsSumOf, AreMeansBy}
+use Rattle.depth_raster.specs.Mixing.{mix, mix_of, AreBytes, AreColours, AreSumsAt, AreStepsOf, DoFit, IsSumOf, AreMeansBy, AreWhole, IsMean, HasMeans}
 use Rattle.depth_raster.specs.declared.mixing.Sums.{Sums}
-use Rattle.depth_raster.proofs.Looking.{hit_parts, covered_parts}
+use Rattle.depth_raster.proofs.Looking.{hit_parts, covered_parts, quotient_is}
 
 -- ---- how large they are
 place_within : (n : ℕ) → n ≤ size_limit → IsWithin (2 ^ 10) (pos n)
@@ -103,8 +104,12 @@ mix_whole x y z a b c p q r =
 abbrev top : Face → (px py i : ℕ) → ℕ
 top f px py i = channel f.colours 0 i * weight_at f.edges.e0 px py + channel f.colours 1 i * weight_at f.edges.e1 px py + channel f.colours 2 i * weight_at f.edges.e2 px py
 
-pub mixed_shade : (f : Face) (px py : ℕ) (s : Sums) (c : List ℕ) → AreSumsAt f px py s → AreMeansBy s c → IfSome (face_hit f px py) (λ h. c ≡ h.colour)
-mixed_shade f px py s c are means = by (face_hit f px py) refl
+-- the colour at a pixel is this, if it is so by all numbers that the sums there can be
+shade_by : (f : Face) (px py : ℕ) (c : List ℕ)
+    → ((red green blue weight : ℕ) → mix_at f px py 0 ≡ pos red → mix_at f px py 1 ≡ pos green → mix_at f px py 2 ≡ pos blue → value_at f.edges.sum px py ≡ pos weight
+    → c ≡ red / weight ∷ green / weight ∷ blue / weight ∷ [])
+    → IfSome (face_hit f px py) (λ h. c ≡ h.colour)
+shade_by f px py c means = by (face_hit f px py) refl
   where
     by : (o : Option Hit) → face_hit f px py ≡ o → IfSome o (λ h. c ≡ h.colour)
     by None e = tt
@@ -112,7 +117,153 @@ mixed_shade f px py s c are means = by (face_hit f px py) refl
         let parts = hit_parts f px py h e in
         let at = covered_parts f px py parts.covered in
         let above : pos 0 ≤ℤ value_at f.edges.sum px py = omega (arith, ints, at.sum) in
-        let mix_is : (i : ℕ) → mix_at f px py i ≡ pos (top f px py i) = λ i. mix_whole (channel f.colours 0 i) (channel f.colours 1 i) (channel f.colours 2 i) (value_at f.edges.e0 px py) (value_at f.edges.e1 px py) (value_at f.edges.e2 px py) at.first at.second at.third in
-        means (top f px py 0) (top f px py 1) (top f px py 2) (weight_at f.edges.sum px py)
-        (are.red_is ∙ mix_is 0) (are.green_is ∙ mix_is 1) (are.blue_is ∙ mix_is 2) (are.weight_is ∙ whole (value_at f.edges.sum px py) above)
+        let mix_is : (k : ℕ) → mix_at f px py k ≡ pos (top f px py k) = λ k. mix_whole (channel f.colours 0 k) (channel f.colours 1 k) (channel f.colours 2 k) (value_at f.edges.e0 px py) (value_at f.edges.e1 px py) (value_at f.edges.e2 px py) at.first at.second at.third in
+        means (top f px py 0) (top f px py 1) (top f px py 2) (weight_at f.edges.sum px py) (mix_is 0) (mix_is 1) (mix_is 2) (whole (value_at f.edges.sum px py) above)
         ∙ sym parts.colour
+
+pub mixed_shade : (f : Face) (px py : ℕ) (s : Sums) (c : List ℕ) → AreSumsAt f px py s → AreMeansBy s c → IfSome (face_hit f px py) (λ h. c ≡ h.colour)
+mixed_shade f px py s c are means =
+    shade_by f px py c (λ red green blue weight r g b w. means red green blue weight (are.red_is ∙ r) (are.green_is ∙ g) (are.blue_is ∙ b) (are.weight_is ∙ w))
+
+-- ---- the colour between two pixels of a row: the sums there are means of those at the two
+line_between : (a x v c i j : ℤ) → (i +ℤ j) *ℤ (a *ℤ (x +ℤ i) +ℤ v +ℤ c) ≡ j *ℤ (a *ℤ x +ℤ v +ℤ c) +ℤ i *ℤ (a *ℤ (x +ℤ (i +ℤ j)) +ℤ v +ℤ c)
+line_between a x v c i j = simp expand (omega (arith, linear))
+
+value_between : (g : Linear) (px py i j : ℕ) → pos (i + j) *ℤ value_at g (px + i) py ≡ pos j *ℤ value_at g px py +ℤ pos i *ℤ value_at g (px + (i + j)) py
+value_between g px py i j = line_between g.a (pos px) (g.b *ℤ pos py) g.c (pos i) (pos j)
+
+product_between : (n i j p a x y : ℤ) → n *ℤ a ≡ j *ℤ x +ℤ i *ℤ y → n *ℤ (p *ℤ a) ≡ j *ℤ (p *ℤ x) +ℤ i *ℤ (p *ℤ y)
+product_between n i j p a x y e =
+    mul_left_comm n p a ∙ ap (λ (z : ℤ). p *ℤ z) e ∙ mul-add p (j *ℤ x) (i *ℤ y)
+    ∙ ap (λ (z : ℤ). z +ℤ p *ℤ (i *ℤ y)) (mul_left_comm p j x) ∙ ap (λ (z : ℤ). j *ℤ (p *ℤ x) +ℤ z) (mul_left_comm p i y)
+
+sum_between : (n i j a b c a0 b0 c0 a1 b1 c1 : ℤ) → n *ℤ a ≡ j *ℤ a0 +ℤ i *ℤ a1 → n *ℤ b ≡ j *ℤ b0 +ℤ i *ℤ b1 → n *ℤ c ≡ j *ℤ c0 +ℤ i *ℤ c1
+    → n *ℤ (a +ℤ b +ℤ c) ≡ j *ℤ (a0 +ℤ b0 +ℤ c0) +ℤ i *ℤ (a1 +ℤ b1 +ℤ c1)
+sum_between n i j a b c a0 b0 c0 a1 b1 c1 d e f =
+    omega (arith, order, d, e, f, mul-add n (a +ℤ b) c, mul-add n a b, mul-add j (a0 +ℤ b0) c0, mul-add j a0 b0, mul-add i (a1 +ℤ b1) c1, mul-add i a1 b1)
+
+mix_between : (f : Face) (px py k i j : ℕ) → pos (i + j) *ℤ mix_at f (px + i) py k ≡ pos j *ℤ mix_at f px py k +ℤ pos i *ℤ mix_at f (px + (i + j)) py k
+mix_between f px py k i j =
+    let part : (v : ℕ) (g : Linear) → pos (i + j) *ℤ (pos v *ℤ value_at g (px + i) py) ≡ pos j *ℤ (pos v *ℤ value_at g px py) +ℤ pos i *ℤ (pos v *ℤ value_at g (px + (i + j)) py) =
+    λ v g. product_between (pos (i + j)) (pos i) (pos j) (pos v) (value_at g (px + i) py) (value_at g px py) (value_at g (px + (i + j)) py) (value_between g px py i j) in
+    let x = channel f.colours 0 k in
+    let y = channel f.colours 1 k in
+    let z = channel f.colours 2 k in
+    let e = f.edges in
+    sum_between (pos (i + j)) (pos i) (pos j)
+    (pos x *ℤ value_at e.e0 (px + i) py) (pos y *ℤ value_at e.e1 (px + i) py) (pos z *ℤ value_at e.e2 (px + i) py)
+    (pos x *ℤ value_at e.e0 px py) (pos y *ℤ value_at e.e1 px py) (pos z *ℤ value_at e.e2 px py)
+    (pos x *ℤ value_at e.e0 (px + (i + j)) py) (pos y *ℤ value_at e.e1 (px + (i + j)) py) (pos z *ℤ value_at e.e2 (px + (i + j)) py)
+    (part x e.e0) (part y e.e1) (part z e.e2)
+
+-- what is in order at two places is in order between them
+order_between : (k i j x y x0 y0 x1 y1 : ℤ) → pos 0 ≤ℤ i → pos 0 ≤ℤ j → pos 0 <ℤ k → k *ℤ x ≡ j *ℤ x0 +ℤ i *ℤ x1 → k *ℤ y ≡ j *ℤ y0 +ℤ i *ℤ y1 → x0 ≤ℤ y0 → x1 ≤ℤ y1 → x ≤ℤ y
+order_between k i j x y x0 y0 x1 y1 p q some d e l m =
+    by_lt_z y x
+    (λ below. absurd (omega (arith, order, d, e, times_lt k y x some below, times_le j x0 y0 q l, times_le i x1 y1 p m)))
+    (λ above. above)
+
+strict_between : (k i j x y x0 y0 x1 y1 : ℤ) → pos 0 ≤ℤ i → pos 0 ≤ℤ j → pos 0 <ℤ k → k ≡ i +ℤ j → k *ℤ x ≡ j *ℤ x0 +ℤ i *ℤ x1 → k *ℤ y ≡ j *ℤ y0 +ℤ i *ℤ y1 → x0 <ℤ y0 → x1 <ℤ y1 → x <ℤ y
+strict_between k i j x y x0 y0 x1 y1 p q some is d e l m =
+    let first : (x0 +ℤ pos 1) ≤ℤ y0 = omega (arith, ints, l) in
+    let last : (x1 +ℤ pos 1) ≤ℤ y1 = omega (arith, ints, m) in
+    let wide : pos 0 ≤ℤ k = omega (arith, ints, some) in
+    by_lt_z x y
+    (λ below. below)
+    (λ above. absurd (omega (
+      arith,
+      order,
+      some,
+      is,
+      d,
+      e,
+      times_le k y x wide above,
+      times_le j (x0 +ℤ pos 1) y0 q first,
+      mul-add j x0 (pos 1),
+      times_one j,
+      times_le i (x1 +ℤ pos 1) y1 p last,
+      mul-add i x1 (pos 1),
+      times_one i,
+    )))
+
+mean_between : (k i j n w n0 w0 n1 w1 : ℤ) (g : ℕ) → pos 0 ≤ℤ i → pos 0 ≤ℤ j → pos 0 <ℤ k → k ≡ i +ℤ j → k *ℤ n ≡ j *ℤ n0 +ℤ i *ℤ n1 → k *ℤ w ≡ j *ℤ w0 +ℤ i *ℤ w1 → IsMean n0 w0 g → IsMean n1 w1 g → IsMean n w g
+mean_between k i j n w n0 w0 n1 w1 g p q some is d e first last =
+    let low = product_between k i j (pos g) w w0 w1 e in
+    let high : k *ℤ (pos g *ℤ w +ℤ w) ≡ j *ℤ (pos g *ℤ w0 +ℤ w0) +ℤ i *ℤ (pos g *ℤ w1 +ℤ w1) =
+    omega (arith, order, low, e, mul-add k (pos g *ℤ w) w, mul-add j (pos g *ℤ w0) w0, mul-add i (pos g *ℤ w1) w1) in
+    record {
+      least = order_between k i j (pos g *ℤ w) n (pos g *ℤ w0) n0 (pos g *ℤ w1) n1 p q some low d first.least last.least;
+      most = strict_between k i j n (pos g *ℤ w +ℤ w) n0 (pos g *ℤ w0 +ℤ w0) n1 (pos g *ℤ w1 +ℤ w1) p q some is d high first.most last.most;
+    }
+
+mean_is : (n w g : ℕ) → IsMean (pos n) (pos w) g → g ≡ n / w
+mean_is n w g mean =
+    let low : g * w ≤ n = omega (arith, ints, mean.least) in
+    let high : n < g * w + w = omega (arith, ints, mean.most) in
+    quotient_is n w g (omega (arith, low, high)) low high
+
+quotient_mean : (n w : ℕ) → 0 < w → IsMean (pos n) (pos w) (n / w)
+quotient_mean n w some = record {
+  least = omega (arith, ints, div-mul-le_self n w);
+  most = omega (arith, ints, lt-div-mul-add {a = n} {b = w} some);
+}
+
+-- the mean of a channel between two pixels at which it is the same
+channel_between : (f : Face) (px py k i j : ℕ) (n0 w0 n1 w1 : ℤ) (n w g : ℕ) → 0 < i + j → n0 ≡ mix_at f px py k → w0 ≡ value_at f.edges.sum px py → n1 ≡ mix_at f (px + (i + j)) py k → w1 ≡ value_at f.edges.sum (px + (i + j)) py
+    → mix_at f (px + i) py k ≡ pos n → value_at f.edges.sum (px + i) py ≡ pos w → IsMean n0 w0 g → IsMean n1 w1 g → g ≡ n / w
+channel_between f px py k i j n0 w0 n1 w1 n w g some a b c d e h first last =
+    mean_is n w g (mean_between (pos (i + j)) (pos i) (pos j) (pos n) (pos w) n0 w0 n1 w1 g (omega (arith, ints)) (omega (arith, ints)) (omega (arith, ints, some)) refl number weight first last)
+  where
+    number : pos (i + j) *ℤ pos n ≡ pos j *ℤ n0 +ℤ pos i *ℤ n1
+    number =
+        ap (λ (z : ℤ). pos (i + j) *ℤ z) (sym e) ∙ mix_between f px py k i j
+        ∙ ap (λ (z : ℤ). pos j *ℤ z +ℤ pos i *ℤ mix_at f (px + (i + j)) py k) (sym a) ∙ ap (λ (z : ℤ). pos j *ℤ n0 +ℤ pos i *ℤ z) (sym c)
+
+    weight : pos (i + j) *ℤ pos w ≡ pos j *ℤ w0 +ℤ pos i *ℤ w1
+    weight =
+        ap (λ (z : ℤ). pos (i + j) *ℤ z) (sym h) ∙ value_between f.edges.sum px py i j
+        ∙ ap (λ (z : ℤ). pos j *ℤ z +ℤ pos i *ℤ value_at f.edges.sum (px + (i + j)) py) (sym b) ∙ ap (λ (z : ℤ). pos j *ℤ w0 +ℤ pos i *ℤ z) (sym d)
+
+pub shade_between : (f : Face) (px py i j : ℕ) (first last : Sums) (c : List ℕ) → 0 < i + j → AreSumsAt f px py first → AreSumsAt f (px + (i + j)) py last → AreWhole first → AreMeansBy first c → HasMeans last c
+    → IfSome (face_hit f (px + i) py) (λ h. c ≡ h.colour)
+shade_between f px py i j first last c some are others are_whole means has =
+    shade_by f (px + i) py c (λ red green blue weight r g b w.
+    is
+    ∙ ap (λ (v : ℕ). v ∷ green0 / weight0 ∷ blue0 / weight0 ∷ []) (channel_between f px py 0 i j first.red first.weight last.red last.weight red weight (red0 / weight0) some are.red_is are.weight_is others.red_is others.weight_is r w (mean red0 first.red red_is) there.red)
+    ∙ ap (λ (v : ℕ). red / weight ∷ v ∷ blue0 / weight0 ∷ []) (channel_between f px py 1 i j first.green first.weight last.green last.weight green weight (green0 / weight0) some are.green_is are.weight_is others.green_is others.weight_is g w (mean green0 first.green green_is) there.green)
+    ∙ ap (λ (v : ℕ). red / weight ∷ green / weight ∷ v ∷ []) (channel_between f px py 2 i j first.blue first.weight last.blue last.weight blue weight (blue0 / weight0) some are.blue_is are.weight_is others.blue_is others.weight_is b w (mean blue0 first.blue blue_is) there.blue))
+  where
+    red0 : ℕ
+    red0 = unsigned_abs first.red
+
+    green0 : ℕ
+    green0 = unsigned_abs first.green
+
+    blue0 : ℕ
+    blue0 = unsigned_abs first.blue
+
+    weight0 : ℕ
+    weight0 = unsigned_abs first.weight
+
+    red_is : first.red ≡ pos red0
+    red_is = whole first.red are_whole.red
+
+    green_is : first.green ≡ pos green0
+    green_is = whole first.green are_whole.green
+
+    blue_is : first.blue ≡ pos blue0
+    blue_is = whole first.blue are_whole.blue
+
+    weight_is : first.weight ≡ pos weight0
+    weight_is = whole first.weight (omega (arith, ints, are_whole.weight))
+
+    is : c ≡ red0 / weight0 ∷ green0 / weight0 ∷ blue0 / weight0 ∷ []
+    is = means red0 green0 blue0 weight0 red_is green_is blue_is weight_is
+
+    mean : (n : ℕ) (z : ℤ) → z ≡ pos n → IsMean z first.weight (n / weight0)
+    mean n z e =
+        subst (λ (y : ℤ). IsMean z y (n / weight0)) (sym weight_is)
+        (subst (λ (y : ℤ). IsMean y (pos weight0) (n / weight0)) (sym e) (quotient_mean n weight0 (omega (arith, ints, are_whole.weight))))
+
+    there : HasMeans last (red0 / weight0 ∷ green0 / weight0 ∷ blue0 / weight0 ∷ [])
+    there = subst (λ (v : List ℕ). HasMeans last v) is has

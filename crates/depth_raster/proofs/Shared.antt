@@ -1,6 +1,5 @@
 -- Slots given to the shares whose rows they reach.
 use Rattle.std.proofs.Common.{◌≡◌, ℕ, ◌+◌, ◌*◌, ◌/◌, ◌<◌, ◌≤◌, Bool, true, false, cond, List, [], ◌∷◌, ◌++◌, length, take, drop, set, get_or, get_or-set_same, get_or-set_other, Option, Some, None, refl, ap, sym, ◌∙◌, subst, arith, ⊎_elim, inl, inr, ◌⊎◌}
-use Rattle.std.specs.Prelude.{nat_lt, ◌&&◌}
 use Rattle.std.specs.List.{All, slice_get, filter}
 use Rattle.std.specs.Int.{div_ceil}
 use Rattle.std.proofs.lemmas.Grind.{div_ceil_times}
@@ -124,10 +123,10 @@ slot_unmet lens ps s i px py m ready is column row at misses = by (slice_get ps 
     by : (o : Option Piece) → slice_get ps s.index ≡ o → (s.bottom ≤ 64 * i) ⊎ (64 * i + 64 ≤ s.top) → slot_over lens ps s px py m ≡ m
     by None e out = sym (slot_none lens ps s e px py m)
     by (Some p) e (inl h) =
-        let unhit = (ready_piece lens ps s ready p e).extent.below px py column row (omega (arith, (is p e).1, h, at)) in
+        let unhit = (ready_piece lens ps s ready p e).extent.below px py column row (omega (arith, (is p e).bottom, h, at)) in
         sym (slot_is lens ps s p e px py m) ∙ mark_missed lens px py p.face m unhit
     by (Some p) e (inr h) =
-        let unhit = (ready_piece lens ps s ready p e).extent.above px py column row (omega (arith, (is p e).0, h, at)) in
+        let unhit = (ready_piece lens ps s ready p e).extent.above px py column row (omega (arith, (is p e).top, h, at)) in
         sym (slot_is lens ps s p e px py m) ∙ mark_missed lens px py p.face m unhit
 
 share_step : (lens : Lens) (ps : List Piece) (i px py : ℕ) (s : Slot) (ss : List Slot) (m : Mark) → ((n : Mark) → slots_over lens ps (filter (meets i) ss) px py n ≡ slots_over lens ps ss px py n) → (meets i s ≡ false → slot_over lens ps s px py m ≡ m)

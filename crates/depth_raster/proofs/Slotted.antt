@@ -1,6 +1,6 @@
 -- Pieces drawn over tiles in the order of slots.
 use Rattle.std.proofs.Common.{◌≡◌, ℕ, zero, suc, ◌+◌, ◌<◌, ◌≤◌, List, [], ◌∷◌, length, take, get_or, Option, Some, None, refl, ap, sym, ◌∙◌, subst, arith, inl, inr, ◌⊎◌}
-use Rattle.std.specs.Prelude.{fold, option_and_then, pos}
+use Rattle.std.specs.Prelude.{fold, option_and_then}
 use Rattle.std.specs.List.{All, slice_get}
 use Rattle.std.proofs.lemmas.List.{take_more}
 use Rattle.std.proofs.lemmas.List.Elements.{All-get_or}
@@ -56,7 +56,7 @@ marked_tiles_kept f band before after are long h = tiles_kept band before after 
 -- ---- one slot
 -- a slot of zeros, in place of one that a list lacks
 abbrev pub no_slot : Slot
-no_slot = record { nearest = pos 0; top = 0; bottom = 0; index = 0 }
+no_slot = record { least = 0; left = 0; right = 0; top = 0; bottom = 0; index = 0 }
 
 pub nothing_at : {X : Type 0} (xs : List X) (i : ℕ) → length xs ≤ i → slice_get xs i ≡ None
 nothing_at [] i h = refl
@@ -97,8 +97,8 @@ slot_outside lens ps s band tiles are within ready is outside j d below = by (sl
 
     by : (o : Option Piece) → slice_get ps s.index ≡ o → (s.bottom ≤ band.first) ⊎ (band.first + band.rows ≤ s.top) → MarksFollow (slot_over lens ps s) t t
     by None e out = slot_absent lens ps s tiles e j d below
-    by (Some p) e (inl h) = unmet_slot lens ps s p t e (unmet_below lens p band j t (ready p e) (are.blocks j d below) (tile_within lens band tiles j d are within below) (omega (arith, (is p e).1, h)))
-    by (Some p) e (inr h) = unmet_slot lens ps s p t e (unmet_above lens p band j t (ready p e) (are.blocks j d below) (tile_within lens band tiles j d are within below) (omega (arith, (is p e).0, h)))
+    by (Some p) e (inl h) = unmet_slot lens ps s p t e (unmet_below lens p band j t (ready p e) (are.blocks j d below) (tile_within lens band tiles j d are within below) (omega (arith, (is p e).bottom, h)))
+    by (Some p) e (inr h) = unmet_slot lens ps s p t e (unmet_above lens p band j t (ready p e) (are.blocks j d below) (tile_within lens band tiles j d are within below) (omega (arith, (is p e).top, h)))
 
 -- ---- slot after slot
 pub slots_none : (lens : Lens) (ps : List Piece) (tiles : List Tile) → TilesRelate (MarksFollow (slots_over lens ps [])) tiles tiles

@@ -1,5 +1,5 @@
 -- The slots of pieces, as they are made and sorted.
-use Rattle.std.proofs.Common.{◌≡◌, ℕ, ◌+◌, ◌<◌, ◌≤◌, List, [], ◌∷◌, ◌++◌, length, take, get_or, Option, Some, refl, ap, sym, ◌∙◌}
+use Rattle.std.proofs.Common.{◌≡◌, ℕ, ◌+◌, ◌<◌, ◌≤◌, List, [], ◌∷◌, ◌++◌, length, take, get_or, Option, Some, refl, ap, sym, ◌∙◌, subst}
 use Rattle.std.specs.Prelude.{option_and_then}
 use Rattle.std.specs.List.{All, slice_get}
 use Rattle.std.specs.List.Sorted.{IsPermutation}
@@ -11,7 +11,7 @@ use Rattle.std.proofs.lemmas.Option.{slice_get-get_or, get_or_from_slice_get}
 use Rattle.fx_math.specs.declared.lenses.Lens.{Lens}
 use Rattle.depth_raster.specs.Marks.{mark_by, mark_with, mark_over}
 use Rattle.depth_raster.specs.Pieces.{pieces_over}
-use Rattle.depth_raster.specs.Slots.{mark_in_slot, slot_over, slots_over, IsSlotOf, AreSlotsOf}
+use Rattle.depth_raster.specs.Slots.{mark_in_slot, slot_over, slots_over, IsSlotFor, IsSlotOf, AreSlotsOf}
 use Rattle.depth_raster.specs.declared.marks.Mark.{Mark}
 use Rattle.depth_raster.specs.declared.pieces.Piece.{Piece}
 use Rattle.depth_raster.specs.declared.slots.Slot.{Slot}
@@ -25,10 +25,10 @@ pub record SlotsSoFar (ps : List Piece) (ss : List Slot) (n : ℕ) : Type 0 wher
 pub slots_begun : (ps : List Piece) → SlotsSoFar ps [] 0
 slots_begun ps = record { rows = All-nil (IsSlotOf ps); over = λ lens px py m. refl }
 
-pub slot_more : (ps : List Piece) (ss : List Slot) (n : ℕ) (p : Piece) (s : Slot) → SlotsSoFar ps ss n → n < length ps → p ≡ get_or ps n p → s.index ≡ n → s.top ≡ p.extent.top → s.bottom ≡ p.extent.bottom → SlotsSoFar ps (ss ++ s ∷ []) (n + 1)
+pub slot_more : (ps : List Piece) (ss : List Slot) (n : ℕ) (p : Piece) (s : Slot) → SlotsSoFar ps ss n → n < length ps → p ≡ get_or ps n p → s.index ≡ n → IsSlotFor p s → SlotsSoFar ps (ss ++ s ∷ []) (n + 1)
 unfolding mark_over
-slot_more ps ss n p s so_far below is index top bottom = record {
-  rows = All-push (IsSlotOf ps) ss s so_far.rows (λ q h. let same = same_piece q h in (top ∙ ap (λ (r : Piece). r.extent.top) same, bottom ∙ ap (λ (r : Piece). r.extent.bottom) same));
+slot_more ps ss n p s so_far below is index slot = record {
+  rows = All-push (IsSlotOf ps) ss s so_far.rows (λ q h. subst (λ (r : Piece). IsSlotFor r s) (same_piece q h) slot);
   over = λ lens px py m.
       fold-append (λ (k : Mark) (t : Slot). slot_over lens ps t px py k) m ss (s ∷ [])
       ∙ ap (λ (k : Mark). slot_over lens ps s px py k) (so_far.over lens px py m)

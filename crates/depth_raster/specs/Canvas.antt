@@ -1,7 +1,6 @@
 -- A picture in strips, pixel by pixel, and what is still to be drawn in it.
-use Rattle.std.specs.Prelude.{◌≡◌, ℕ, ◌/◌, ◌%◌, ◌<◌, List, [], fold, Option, None, option_and_then, slice_get}
+use Rattle.std.specs.Prelude.{◌≡◌, ℕ, ◌/◌, ◌%◌, ◌<◌, Bool, false, if◌then◌else◌, List, [], fold, Option, None, option_and_then, slice_get}
 use Rattle.std.specs.Option.{option_map_or}
-use Rattle.std.specs.List.{All}
 use Rattle.fx_math.specs.declared.lenses.Lens.{Lens}
 use Rattle.tri_cover.specs.Picture.{Fragment, nearer}
 use Rattle.depth_raster.specs.Blocks.{colour_in}
@@ -10,7 +9,7 @@ use Rattle.depth_raster.specs.Drawing.{instance_glazes, glass_glazes}
 use Rattle.depth_raster.specs.Faces.{over, glazed_by_face}
 use Rattle.depth_raster.specs.Following.{Follows}
 use Rattle.depth_raster.specs.Marks.{no_mark, behind_as}
-use Rattle.depth_raster.specs.Pieces.{IsPieceOf, fragments_by, pieces_glaze}
+use Rattle.depth_raster.specs.Pieces.{fragments_by, pieces_glaze}
 use Rattle.depth_raster.specs.Strips.{AreStrips}
 use Rattle.depth_raster.specs.Tiles.{mark_in, seen_in}
 use Rattle.depth_raster.specs.declared.faces.Face.{Face}
@@ -27,6 +26,10 @@ tile_at strips px py = option_and_then (λ s. slice_get s.tiles.items (px / 16))
 unfoldable pub seen_at : List Strip → (px py : ℕ) → Option Fragment
 seen_at strips px py = option_map_or (λ t. seen_in t (px % 16) (py % 16)) (tile_at strips px py) None
 
+-- the same, where nothing is drawn before the first drawing
+abbrev pub seen_from : (first : Bool) → List Strip → (px py : ℕ) → Option Fragment
+seen_from first strips px py = if first then None else seen_at strips px py
+
 -- its mark
 unfoldable pub mark_at : List Strip → (px py : ℕ) → Mark
 mark_at strips px py = option_map_or (λ t. mark_in t.block t.marks.items (px % 16) (py % 16)) (tile_at strips px py) no_mark
@@ -39,24 +42,29 @@ colour_at strips px py = option_map_or (λ t. colour_in t.block t.colours.items 
 abbrev pub behind_at : List Strip → (px py : ℕ) → Option Fragment
 behind_at strips px py = behind_as (mark_at strips px py)
 
--- The strips are those of the lens's picture, no mark has a rank, and the pieces that are still to be drawn are ready.
-pub record IsOpen (lens : Lens) (strips : List Strip) (ps : List Piece) : Type 0 where
+-- The strips are those of the lens's picture, and no mark has a rank.
+pub record IsOpen (lens : Lens) (strips : List Strip) : Type 0 where
   pub parts : AreStrips lens strips
   pub unranked : (px py : ℕ) → px < lens.w → py < lens.h → (mark_at strips px py).rank ≡ 0
-  pub ready : All (IsPieceOf lens) ps
+
+-- The same while opaque pieces are drawn: before the first drawing the marks count for nothing.
+pub record IsUnderway (lens : Lens) (first : Bool) (strips : List Strip) : Type 0 where
+  pub parts : AreStrips lens strips
+  pub unranked : first ≡ false → (px py : ℕ) → px < lens.w → py < lens.h → (mark_at strips px py).rank ≡ 0
 
 -- what is seen at a pixel once opaque pieces are drawn
-abbrev pub drawn_with : Lens → List Strip → List Piece → (px py : ℕ) → Option Fragment
-drawn_with lens strips ps px py = fold nearer (seen_at strips px py) (fragments_by lens px py ps)
+abbrev pub drawn_with : Lens → (first : Bool) → List Strip → List Piece → (px py : ℕ) → Option Fragment
+drawn_with lens first strips ps px py = fold nearer (seen_from first strips px py) (fragments_by lens px py ps)
 
 -- the colour at a pixel once pieces of glass are drawn
 abbrev pub glazed_with : Lens → List Strip → List Piece → (px py : ℕ) → List ℕ
 glazed_with lens strips ps px py = pieces_glaze lens ps (behind_at strips px py) px py (colour_at strips px py)
 
 -- at each pixel f is made of what is seen there once the pieces are drawn
-abbrev pub Draws : Lens → (strips : List Strip) → (ps : List Piece) → (strips' : List Strip) → (ps' : List Piece)
-    → (f : ℕ → ℕ → Option Fragment → Option Fragment) → Type 0
-Draws lens strips ps strips' ps' f = Follows lens.w lens.h (drawn_with lens strips ps) (drawn_with lens strips' ps') f
+abbrev pub Draws : Lens → (first : Bool) → (strips : List Strip) → (ps : List Piece)
+    → (first' : Bool) → (strips' : List Strip) → (ps' : List Piece) → (f : ℕ → ℕ → Option Fragment → Option Fragment) → Type 0
+Draws lens first strips ps first' strips' ps' f =
+    Follows lens.w lens.h (drawn_with lens first strips ps) (drawn_with lens first' strips' ps') f
 
 -- at each pixel f is made of the colour once the pieces are drawn, and what glass has behind it stays
 pub record Glazes (lens : Lens) (strips : List Strip) (ps : List Piece) (strips' : List Strip) (ps' : List Piece)

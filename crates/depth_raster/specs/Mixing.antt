@@ -1,5 +1,5 @@
 -- The sums from which the colours of a face are reckoned along a row.
-use Rattle.std.specs.Prelude.{◌≡◌, ℕ, ◌+◌, ◌*◌, ◌/◌, ◌<◌, ◌^◌, List, [], ◌∷◌, ℤ, pos, ◌+ℤ◌, ◌*ℤ◌}
+use Rattle.std.specs.Prelude.{◌≡◌, ℕ, ◌+◌, ◌*◌, ◌/◌, ◌<◌, ◌≤◌, ◌^◌, List, [], ◌∷◌, slice_index, ℤ, pos, ◌+ℤ◌, ◌*ℤ◌, ◌≤ℤ◌, ◌<ℤ◌}
 use Rattle.std.specs.Option.{IfSome}
 use Rattle.fx_math.specs.Within.{IsWithin}
 use Rattle.tri_cover.specs.Faces.{face_hit}
@@ -65,6 +65,33 @@ AreMeansBy s colour =
     (red green blue weight : ℕ) → s.red ≡ pos red → s.green ≡ pos green → s.blue ≡ pos blue → s.weight ≡ pos weight
     → colour ≡ red / weight ∷ green / weight ∷ blue / weight ∷ []
 
+-- no sum is below 0, and the weight is above 0
+pub record AreWhole (s : Sums) : Type 0 where
+  pub red : pos 0 ≤ℤ s.red
+  pub green : pos 0 ≤ℤ s.green
+  pub blue : pos 0 ≤ℤ s.blue
+  pub weight : pos 1 ≤ℤ s.weight
+
+-- the mean is the quotient of the number and the weight, rounded down
+pub record IsMean (number weight : ℤ) (mean : ℕ) : Type 0 where
+  pub least : (pos mean *ℤ weight) ≤ℤ number
+  pub most : number <ℤ (pos mean *ℤ weight +ℤ weight)
+
+-- the colour is the mean of each channel, rounded down
+pub record HasMeans (s : Sums) (colour : List ℕ) : Type 0 where
+  pub red : IsMean s.red s.weight (slice_index colour 0)
+  pub green : IsMean s.green s.weight (slice_index colour 1)
+  pub blue : IsMean s.blue s.weight (slice_index colour 2)
+
 -- the colour at a pixel of a block is that of the face, where it is hit there
 abbrev pub shaded_within : Face → Block → (q r : ℕ) → (before after : List ℕ) → Type 0
 shaded_within f b q r before after = IfSome (face_hit f (b.left + q) (b.first + r)) (λ h. after ≡ h.colour)
+
+-- the colour is that of the face at each pixel of row r of a block, from column start to before column end, where it is hit
+abbrev pub IsEven : Face → Block → (r start end : ℕ) → (colour : List ℕ) → Type 0
+IsEven f b r start end colour =
+    (q : ℕ) → start ≤ q → q < end → IfSome (face_hit f (b.left + q) (b.first + r)) (λ h. colour ≡ h.colour)
+
+-- the colour at a pixel is this
+abbrev pub filled : (colour : List ℕ) → (q r : ℕ) → (before after : List ℕ) → Type 0
+filled colour q r before after = after ≡ colour

@@ -19,6 +19,16 @@ pub record IsPieceOf (lens : Lens) (p : Piece) : Type 0 where
   pub box : IsBoxOf p.ready p.extent
   pub ready : IsReady lens p.face.tri p.ready
 
+-- the piece made ready for the lens: its face stays
+pub record IsMadeReady (lens : Lens) (before after : Piece) : Type 0 where
+  pub face : after.face ≡ before.face
+  pub ready : IsPieceOf lens after
+
+-- each of the pieces made ready
+abbrev pub AreMadeReady : Lens → (before after : List Piece) → Type 0
+AreMadeReady lens before after =
+    (i : ℕ) (d : Piece) → i < length before → IsMadeReady lens (slice_index_or before i d) (slice_index_or after i d)
+
 -- the piece has this face
 abbrev pub HasFace : Piece → faces.Face → Type 0
 HasFace p f = p.ready ≡ Face f

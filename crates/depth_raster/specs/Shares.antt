@@ -1,5 +1,5 @@
 -- The slots of pieces by the rows of the picture that they reach: each share has sixty-four rows.
-use Rattle.std.specs.Prelude.{◌≡◌, ℕ, ◌+◌, ◌*◌, ◌/◌, ◌<◌, ◌≤◌, Bool, nat_lt, ◌&&◌, List, [], ◌∷◌, ◌++◌, length, filter, slice_index_or, if◌then◌else◌}
+use Rattle.std.specs.Prelude.{◌≡◌, ℕ, ◌+◌, ◌*◌, ◌/◌, ◌<◌, Bool, nat_lt, ◌&&◌, List, [], ◌∷◌, ◌++◌, length, filter, slice_index_or, if◌then◌else◌}
 use Rattle.std.specs.List.{All}
 use Rattle.fx_math.specs.declared.lenses.Lens.{Lens}
 use Rattle.depth_raster.specs.Pieces.{pieces_over}

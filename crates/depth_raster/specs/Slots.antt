@@ -1,7 +1,10 @@
 -- The order in which pieces are drawn, and what they make of a pixel.
-use Rattle.std.specs.Prelude.{◌≡◌, ℕ, List, fold, Option, Some, option_and_then, slice_get}
+use Rattle.std.specs.Prelude.{◌≡◌, ℕ, ◌-◌, ◌<◌, ◌≤◌, List, [], fold, Option, Some, option_and_then, slice_get}
 use Rattle.std.specs.List.{All}
 use Rattle.fx_math.specs.declared.lenses.Lens.{Lens}
+use Rattle.tri_cover.specs.declared.hit.Hit.{Hit}
+use Rattle.tri_cover.specs.Hits.{hit}
+use Rattle.depth_raster.specs.declared.faces.Face.{Face}
 use Rattle.depth_raster.specs.Marks.{mark_by, mark_with}
 use Rattle.depth_raster.specs.Pieces.{pieces_over}
 use Rattle.depth_raster.specs.declared.marks.Mark.{Mark}
@@ -20,9 +23,22 @@ slot_over lens ps s px py m = mark_with m (mark_in_slot lens ps px py s)
 abbrev pub slots_over : Lens → List Piece → List Slot → (px py : ℕ) → Mark → Mark
 slots_over lens ps ss px py m = fold (λ n s. slot_over lens ps s px py n) m ss
 
--- the slot has the rows that its piece can reach
+-- no mark of a hit of the face has a depth below this one
+abbrev pub IsLeast : Face → (least : ℕ) → Type 0
+IsLeast f least = (lens : Lens) (px py : ℕ) (h : Hit) → px < lens.w → py < lens.h → hit lens px py [] f.tri ≡ Some h
+    → least ≤ h.depth - f.shift
+
+-- the slot has the columns and rows that the piece can reach, and a least depth of its marks
+pub record IsSlotFor (p : Piece) (s : Slot) : Type 0 where
+  pub least : IsLeast p.face s.least
+  pub left : s.left ≡ p.extent.left
+  pub right : s.right ≡ p.extent.right
+  pub top : s.top ≡ p.extent.top
+  pub bottom : s.bottom ≡ p.extent.bottom
+
+-- so it has those of its piece
 abbrev pub IsSlotOf : List Piece → Slot → Type 0
-IsSlotOf ps s = (p : Piece) → slice_get ps s.index ≡ Some p → (s.top ≡ p.extent.top) × (s.bottom ≡ p.extent.bottom)
+IsSlotOf ps s = (p : Piece) → slice_get ps s.index ≡ Some p → IsSlotFor p s
 
 -- the slots are those of the pieces, in some order
 pub record AreSlotsOf (lens : Lens) (ps : List Piece) (ss : List Slot) : Type 0 where

@@ -20,6 +20,10 @@ pub record AreTilesOf (band : Block) (tiles : List Tile) : Type 0 where
   pub count : length tiles ≡ div_ceil band.width 16
   pub blocks : (j : ℕ) (d : Tile) → j < length tiles → (slice_index_or tiles j d).block ≡ tile_block band j
 
+-- the strip's tiles are those of its band
+abbrev pub IsTiled : Strip → Type 0
+IsTiled s = AreTilesOf s.band s.tiles.items
+
 -- P holds of each tile before and after
 abbrev pub TilesRelate : (Tile → Tile → Type 0) → (before after : List Tile) → Type 0
 TilesRelate P before after = (j : ℕ) (d : Tile) → j < length before → P (slice_index_or before j d) (slice_index_or after j d)

@@ -1,5 +1,5 @@
 -- Tiles, and what a drawing makes of them.
-use Rattle.std.specs.Prelude.{◌≡◌, ℕ, ◌+◌, ◌<◌, ◌≤◌, List, [], slice_index_or, fold, Option, Some, None}
+use Rattle.std.specs.Prelude.{◌≡◌, ℕ, ◌+◌, ◌<◌, ◌≤◌, Bool, true, false, List, [], slice_index_or, fold, Option, Some, None}
 use Rattle.fx_math.specs.declared.lenses.Lens.{Lens}
 use Rattle.tri_cover.specs.declared.hit.Hit.{Hit}
 use Rattle.tri_cover.specs.Hits.{hit}
@@ -93,6 +93,17 @@ pub record IsDrawn (lens : Lens) (back : List ℕ) (ps : List Piece) (before aft
   pub settled : (q r : ℕ) → IsAt before q r → (mark_in after.block after.marks.items q r).rank ≡ 0
   pub blank : (q r : ℕ) → IsAt before q r → (mark_in before.block before.marks.items q r).rank ≡ 0 → seen_in after q r ≡ None
       → colour_in after.block after.colours.items q r ≡ back
+
+-- a tile as its drawing starts: before the first one it is cleared, before a later one it stays as it is
+pub record IsBegun (first : Bool) (before after : Tile) : Type 0 where
+  pub cleared : first ≡ true → IsCleared before after
+  pub kept : first ≡ false → after ≡ before
+
+-- pieces are drawn over a tile, which is cleared before the first drawing
+pub record IsDrawnFrom (lens : Lens) (back : List ℕ) (ps : List Piece) (first : Bool) (before after : Tile) : Type 0 where
+  pub start : Tile
+  pub begun : IsBegun first before start
+  pub drawn : IsDrawn lens back ps start after
 
 -- what pieces of glass make of colours, over marks
 abbrev pub pieces_glazes : Lens → List Piece → (px py : ℕ) → Mark → List ℕ → List ℕ

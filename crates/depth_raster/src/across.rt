@@ -3,7 +3,7 @@ ghost use Rattle.std.specs.Prelude.{◌≡◌, ◌/◌, All};
 ghost use Rattle.std.specs.Int.{div_ceil};
 ghost use Rattle.depth_raster.specs.Blocks.{IsBlockOf};
 ghost use Rattle.depth_raster.specs.Pieces.{IsPieceOf};
-ghost use Rattle.depth_raster.specs.Slots.{IsSlotOf, slot_over, slots_over};
+ghost use Rattle.depth_raster.specs.Slots.{IsLeast, IsSlotFor, IsSlotOf, slot_over, slots_over};
 ghost use Rattle.depth_raster.specs.Strips.{AreTilesOf, TilesRelate};
 ghost use Rattle.depth_raster.specs.Tiles.{face_over, MarksFollow};
 
@@ -49,21 +49,35 @@ fn draw_slot(tiles: &mut [Tile], band: &Block, lens: &Lens, pieces: &[Piece], sl
     }
     let index = slot.index as usize;
     if index < pieces.len() {
-        draw_across(tiles, band, lens, &pieces[index]);
+        draw_across(tiles, band, lens, &pieces[index], slot);
     }
 }
 
-/// Draws a piece over the tiles of a band.
-fn draw_across(tiles: &mut [Tile], band: &Block, lens: &Lens, piece: &Piece)
+/// Draws the piece of a slot over the tiles of a band.
+fn draw_across(tiles: &mut [Tile], band: &Block, lens: &Lens, piece: &Piece, slot: &Slot)
     requires tiles { AreTilesOf band.now tiles.old }
     requires band { IsBlockOf lens.now band.now }
     requires ready { IsPieceOf lens.now piece.now }
+    requires slot { IsSlotFor piece.now slot.now }
     ensures { TilesRelate (MarksFollow (face_over lens.now piece.now.face)) tiles.old tiles.new }
 {
-    let start = first_tile(piece);
-    let end = tiles.len().min(end_tile(piece));
+    let start = tile_of(slot.left);
+    let end = tiles.len().min(tiles_before(slot.right));
     for t in start..end {
-        draw_piece(&mut tiles[t], lens, piece);
+        draw_before(&mut tiles[t], lens, piece, slot.least);
+    }
+}
+
+/// Draws a piece over the marks of a tile, unless all of these lie before the least depth that a mark of it can have. Nothing
+/// of the piece is looked at then.
+fn draw_before(tile: &mut Tile, lens: &Lens, piece: &Piece, least: u32)
+    requires block { IsBlockOf lens.now tile.old.block }
+    requires ready { IsPieceOf lens.now piece.now }
+    requires least { IsLeast piece.now.face least }
+    ensures { MarksFollow (face_over lens.now piece.now.face) tile.old tile.new }
+{
+    if least <= tile.top {
+        draw_piece(tile, lens, piece);
     }
 }
 
@@ -71,12 +85,26 @@ fn draw_across(tiles: &mut [Tile], band: &Block, lens: &Lens, piece: &Piece)
 pub(crate) fn first_tile(piece: &Piece) -> usize
     ensures { result ≡ piece.now.extent.left / 16 }
 {
-    (piece.extent.left / COLUMNS) as usize
+    tile_of(piece.extent.left)
 }
 
 /// The end of the tiles of a band that a piece can reach.
 pub(crate) fn end_tile(piece: &Piece) -> usize
     ensures { result ≡ div_ceil piece.now.extent.right 16 }
 {
-    piece.extent.right.div_ceil(COLUMNS) as usize
+    tiles_before(piece.extent.right)
+}
+
+/// The tile of a band in which a column lies.
+fn tile_of(column: u16) -> usize
+    ensures { result ≡ column / 16 }
+{
+    (column / COLUMNS) as usize
+}
+
+/// How many tiles of a band have columns before this one.
+fn tiles_before(column: u16) -> usize
+    ensures { result ≡ div_ceil column 16 }
+{
+    column.div_ceil(COLUMNS) as usize
 }

@@ -1,23 +1,26 @@
 //! Pieces that are drawn together, and the order in which they are drawn.
-ghost use Rattle.std.specs.Prelude.{◌≡◌, ◌≤◌, ◌<◌, [], ◌∷◌, ◌++◌, All, length, nat_le, IfOk};
+ghost use Rattle.std.specs.Prelude.{◌≡◌, ◌≤◌, ◌<◌, true, [], ◌∷◌, ◌++◌, All, length, nat_le, IfOk};
 ghost use Rattle.std.specs.Vec.{vec_len, vec_capacity};
 ghost use Rattle.depth_raster.specs.Pieces.{AreRanked};
 
 use crate::faces::Face;
-use crate::pieces::Piece;
+use crate::pieces::{Piece, make_ready};
 use crate::share::Share;
 use crate::shares::{new_shares, share_out};
 use crate::slots::{Slot, fill, sort};
 use fx_math::Lens;
 use pf_io::NoMemory;
 use std::alloc::Global;
+use std::thread::Threads;
 
 /// The most pieces that are drawn together.
 const ROOM: usize = 16_384;
 
-/// Pieces, with the slots that order them and the shares of these, and room for as many as are drawn together.
+/// Pieces, with the slots that order them and the shares of these, and room for as many as are drawn together. The first
+/// ones of a picture are drawn over nothing.
 #[derive(Drop)]
 pub(crate) struct Batch {
+    pub(crate) is_first: bool,
     pub(crate) pieces: Vec<Piece>,
     slots: Vec<Slot>,
     pub(crate) shares: Vec<Share>,
@@ -32,7 +35,7 @@ impl Batch {
     ghost use Rattle.fx_math.specs.declared.lenses.Lens.{Lens};
     ghost use Rattle.depth_raster.specs.Pieces.{IsPieceOf};
     ghost use Rattle.depth_raster.specs.Shares.{AreSharesOf};
-    ghost use Rattle.depth_raster.specs.Batches.{IsWithFace};
+    ghost use Rattle.depth_raster.specs.Batches.{IsWithFace, faces_of};
 
     /// No pieces.
     pub(crate) fn new(alloc: Global) -> Result<Batch, NoMemory>
@@ -44,6 +47,7 @@ impl Batch {
         slots.reserve(ROOM)?;
         let shares = new_shares(alloc)?;
         Ok(Batch {
+            is_first: true,
             pieces,
             slots,
             shares,
@@ -57,6 +61,14 @@ impl Batch {
         ROOM <= self.pieces.len()
     }
 
+    /// Begins a picture: its first pieces are still to be drawn.
+    pub(crate) fn begin(&mut self)
+        ensures first { self.new.is_first ≡ true }
+        ensures pieces { self.new.pieces.items ≡ self.old.pieces.items }
+    {
+        self.is_first = true;
+    }
+
     /// Leaves no pieces.
     pub(crate) fn clear(&mut self)
         ensures { self.new.pieces.items ≡ [] }
@@ -64,14 +76,24 @@ impl Batch {
         self.pieces.clear();
     }
 
-    /// Takes a face as the last piece.
-    pub(crate) fn push(&mut self, face: Face, lens: &Lens)
+    /// Takes a face as the last piece, which is still to be made ready.
+    pub(crate) fn push(&mut self, face: Face)
         requires { length self.old.pieces.items < 16384 }
-        ensures { IsWithFace lens.now face self.old.pieces.items self.new.pieces.items }
+        ensures first { self.new.is_first ≡ self.old.is_first }
+        ensures pieces { IsWithFace face self.old.pieces.items self.new.pieces.items }
     {
         let rank = self.pieces.len() as u32 + 1;
-        let piece = Piece::new(Face { rank, ..face }, lens);
+        let piece = Piece::bare(Face { rank, ..face });
         append(&mut self.pieces, piece);
+    }
+
+    /// Makes the pieces ready to be drawn for a lens.
+    pub(crate) fn make_ready<R: Threads + Sync>(&mut self, rt: &R, lens: &Lens)
+        ensures first { self.new.is_first ≡ self.old.is_first }
+        ensures faces { faces_of self.new.pieces.items ≡ faces_of self.old.pieces.items }
+        ensures ready { All (IsPieceOf lens.now) self.new.pieces.items }
+    {
+        make_ready(rt, &mut self.pieces, lens);
     }
 
     /// Puts the slots of the pieces in the order of their least depths, and into shares.

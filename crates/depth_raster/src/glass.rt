@@ -26,8 +26,8 @@ pub(crate) fn draw_glass<R: Threads + Sync>(
     lens: &Lens,
     list: &DrawList,
 )
-    requires sound { IsOpen lens.now strips.old batch.old.pieces.items }
-    ensures sound { IsOpen lens.now strips.new batch.new.pieces.items }
+    requires sound { IsOpen lens.now strips.old }
+    ensures sound { IsOpen lens.now strips.new }
     ensures glass { Glazes lens.now strips.old batch.old.pieces.items strips.new batch.new.pieces.items
         (glass_glazed lens.now (sorted is_drawn_before (filter is_glass (instances_in list.now)))) }
 {
@@ -51,8 +51,8 @@ fn draw_pane<R: Threads + Sync>(
     list: &DrawList,
     number: usize,
 )
-    requires sound { IsOpen lens.now strips.old batch.old.pieces.items }
-    ensures sound { IsOpen lens.now strips.new batch.new.pieces.items }
+    requires sound { IsOpen lens.now strips.old }
+    ensures sound { IsOpen lens.now strips.new }
     ensures glass { Glazes lens.now strips.old batch.old.pieces.items strips.new batch.new.pieces.items
         (glass_glazed lens.now (option_to_list (slice_get (instances_in list.now) number))) }
 {
@@ -71,9 +71,9 @@ fn draw_item<R: Threads + Sync>(
     list: &DrawList,
     item: &Item,
 )
-    requires sound { IsOpen lens.now strips.old batch.old.pieces.items }
+    requires sound { IsOpen lens.now strips.old }
     requires joint { item.now.joint < length list.now.joints.lists }
-    ensures sound { IsOpen lens.now strips.new batch.new.pieces.items }
+    ensures sound { IsOpen lens.now strips.new }
     ensures glass { Glazes lens.now strips.old batch.old.pieces.items strips.new batch.new.pieces.items
         (instance_glazed lens.now (instance_of_item list.now.joints.lists list.now.kept.tris item.now)) }
 {
@@ -96,19 +96,19 @@ fn draw_face<R: Threads + Sync>(
     lens: &Lens,
     face: Face,
 )
-    requires sound { IsOpen lens.now strips.old batch.old.pieces.items }
-    ensures sound { IsOpen lens.now strips.new batch.new.pieces.items }
+    requires sound { IsOpen lens.now strips.old }
+    ensures sound { IsOpen lens.now strips.new }
     ensures glass { Glazes lens.now strips.old batch.old.pieces.items strips.new batch.new.pieces.items
         (face_glazed lens.now face) }
 {
     make_room(rt, strips, batch, lens);
-    batch.push(face, lens);
+    batch.push(face);
 }
 
 /// Draws a full batch.
 fn make_room<R: Threads + Sync>(rt: &R, strips: &mut [Strip], batch: &mut Batch, lens: &Lens)
-    requires sound { IsOpen lens.now strips.old batch.old.pieces.items }
-    ensures sound { IsOpen lens.now strips.new batch.new.pieces.items }
+    requires sound { IsOpen lens.now strips.old }
+    ensures sound { IsOpen lens.now strips.new }
     ensures room { length batch.new.pieces.items < 16384 }
     ensures glass { Glazes lens.now strips.old batch.old.pieces.items strips.new batch.new.pieces.items
         (λ behind px py under. under) }
@@ -120,8 +120,8 @@ fn make_room<R: Threads + Sync>(rt: &R, strips: &mut [Strip], batch: &mut Batch,
 
 /// Draws the pieces of glass of a batch, which has none then.
 pub(crate) fn flush<R: Threads + Sync>(rt: &R, strips: &mut [Strip], batch: &mut Batch, lens: &Lens)
-    requires sound { IsOpen lens.now strips.old batch.old.pieces.items }
-    ensures sound { IsOpen lens.now strips.new batch.new.pieces.items }
+    requires sound { IsOpen lens.now strips.old }
+    ensures sound { IsOpen lens.now strips.new }
     ensures empty { batch.new.pieces.items ≡ [] }
     ensures glass { Glazes lens.now strips.old batch.old.pieces.items strips.new []
         (λ behind px py under. under) }
@@ -129,6 +129,7 @@ pub(crate) fn flush<R: Threads + Sync>(rt: &R, strips: &mut [Strip], batch: &mut
     if batch.pieces.len() == 0 {
         return;
     }
+    batch.make_ready(rt, lens);
     glaze_strips(rt, work_of(&batch.pieces), lens, &batch.pieces, strips);
     batch.clear();
 }

@@ -12,7 +12,6 @@ mod glass;
 mod glass_strips;
 mod glass_tiles;
 mod glazing;
-mod guesses;
 mod hiding;
 mod looks;
 mod marks;

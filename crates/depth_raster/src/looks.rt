@@ -7,26 +7,28 @@ ghost use Rattle.depth_raster.specs.Edges.{AreValuesAt};
 ghost use Rattle.depth_raster.specs.Looks.{Looks, are_covering};
 
 use crate::edges::EdgeValues;
-use std::num::{nearest_u64_to_f64, saturating_f64_to_u64};
+use std::num::{f64_to_bits_with_nan, nearest_u64_to_f64};
 use tri_cover::{Face, Linear};
 
-/// The depth of a face at a pixel of its box, where it is hit there before a depth.
-pub(crate) fn look(face: &Face, limit: u64, px: u16, py: u16) -> Option<u32>
+/// The depth of a face at a pixel of its box, where it is hit there before a depth; a float that is about its
+/// dividend makes it cheap, and whatever it is, the depth is right.
+pub(crate) fn look(face: &Face, about: f64, limit: u64, px: u16, py: u16) -> Option<u32>
     requires x { px < size_limit }
     requires y { py < size_limit }
     requires inside { is_in_box face.now.extent px py ≡ true }
     ensures { Looks face.now px py limit result }
 {
-    look_by(face, &EdgeValues::at(face, px, py), limit, 0)
+    look_by(face, &EdgeValues::at(face, px, py), limit, about)
 }
 
-/// The same, from the edge values at the pixel; a guess that is at most two below the depth spares a division.
-pub(crate) fn look_by(face: &Face, values: &EdgeValues, limit: u64, guess: u32) -> Option<u32>
+/// The same, from the edge values at the pixel and a float that is about the face's dividend: whatever it is, the depth is
+/// exact.
+pub(crate) fn look_by(face: &Face, values: &EdgeValues, limit: u64, about: f64) -> Option<u32>
     ensures { (px py : ℕ) → AreValuesAt face.now px py values.now → is_in_box face.now.extent px py ≡ true
         → Looks face.now px py limit result }
 {
     match values.covered() {
-        Some(sum) => depth_before(face, limit, guess, sum),
+        Some(sum) => depth_before(face, limit, about, sum),
         None => None,
     }
 }
@@ -62,7 +64,7 @@ pub(crate) fn are_covering(first: i64, second: i64, third: i64, sum: i64) -> boo
 
 /// The depth of a face at a pixel where its edge values have this sum, if it is before a depth.
 #[tactic(auto, using(crate::proofs::Looking::limit_reached, crate::proofs::Looking::quotient_before))]
-fn depth_before(face: &Face, limit: u64, guess: u32, sum: u64) -> Option<u32>
+fn depth_before(face: &Face, limit: u64, about: f64, sum: u64) -> Option<u32>
     requires { 0 < sum }
     ensures some { IfSome result (λ d. (d ≡ face.now.dividend / sum) × (face.now.extent.near ≤ d)
         × (d ≤ face.now.extent.far) × (d < limit)) }
@@ -72,7 +74,7 @@ fn depth_before(face: &Face, limit: u64, guess: u32, sum: u64) -> Option<u32>
     if product(limit, sum) <= face.dividend {
         return None;
     }
-    let depth = quotient(face.dividend, sum, guess);
+    let depth = quotient(face.dividend, sum, about);
     if depth < u128::from(face.extent.near) || u128::from(face.extent.far) < depth {
         return None;
     }
@@ -85,64 +87,20 @@ pub(crate) fn product(limit: u64, sum: u64) -> u128
     u128::from(limit) * u128::from(sum)
 }
 
-/// A quotient, from a guess that may be near.
-fn quotient(dividend: u128, sum: u64, guess: u32) -> u128
-    requires some { 0 < sum }
-    requires small { dividend < 2 ^ 96 }
+/// A float a little above a dividend, so that where a sum divides it the quotient is not guessed one too small.
+pub(crate) fn about(dividend: u128) -> f64 {
+    let high = (dividend / 18_446_744_073_709_551_616) as u64;
+    let low = (dividend % 18_446_744_073_709_551_616) as u64;
+    let near = nearest_u64_to_f64(high) * 18_446_744_073_709_551_616.0 + nearest_u64_to_f64(low);
+    near * 1.000_000_000_000_001
+}
+
+/// A quotient, guessed by floats from what is about the dividend, and judged.
+fn quotient(dividend: u128, sum: u64, about: f64) -> u128
+    requires { 0 < sum }
     ensures { result ≡ dividend / sum }
 {
-    let start = u64::from(guess);
-    match near_quotient(dividend, sum, start) {
-        Some(near) => u128::from(near),
-        None => divided(dividend, sum),
-    }
-}
-
-/// A quotient that is a number or at most two above it.
-fn near_quotient(dividend: u128, sum: u64, guess: u64) -> Option<u64>
-    requires some { 0 < sum }
-    requires small { guess < 2 ^ 32 }
-    ensures { IfSome result (λ n. n ≡ dividend / sum) }
-{
-    let low = product(guess, sum);
-    if dividend < low {
-        return None;
-    }
-    let rest = dividend - low;
-    let wide = u128::from(sum);
-    if 3 * wide <= rest {
-        return None;
-    }
-    Some(guess + fitting(rest, wide))
-}
-
-/// How often a number fits into one that is less than three times as great.
-fn fitting(rest: u128, sum: u128) -> u64
-    requires small { sum < 2 ^ 64 }
-    requires few { rest < 3 * sum }
-    ensures low { result * sum ≤ rest }
-    ensures high { rest < result * sum + sum }
-    ensures bound { result ≤ 2 }
-{
-    if rest < sum {
-        0
-    } else if rest < 2 * sum {
-        1
-    } else {
-        2
-    }
-}
-
-/// A quotient, guessed and judged where it is not one of 64 bits.
-fn divided(dividend: u128, sum: u64) -> u128
-    requires some { 0 < sum }
-    requires small { dividend < 2 ^ 96 }
-    ensures { result ≡ dividend / sum }
-{
-    if dividend < 18_446_744_073_709_551_616 {
-        return u128::from(dividend as u64 / sum);
-    }
-    let guess = guessed((dividend / 4_294_967_296) as u64, sum);
+    let guess = guessed(about, sum);
     if is_quotient(dividend, sum, guess) {
         u128::from(guess)
     } else {
@@ -150,9 +108,12 @@ fn divided(dividend: u128, sum: u64) -> u128
     }
 }
 
-/// About 2^32 times `high`, divided by `sum`.
-fn guessed(high: u64, sum: u64) -> u64 {
-    saturating_f64_to_u64(nearest_u64_to_f64(high) * 4_294_967_296.0 / nearest_u64_to_f64(sum))
+/// About the quotient, where that is below 2^32. A float from 2^52 to 2^53 has no digits below one, so that a sum with 2^52 is
+/// rounded to a whole number, whose digits are the lowest of the float; the half that is taken off makes of this rounding one
+/// down.
+fn guessed(about: f64, sum: u64) -> u64 {
+    let near = about / nearest_u64_to_f64(sum) + 4_503_599_627_370_495.5;
+    f64_to_bits_with_nan(near) % 4_294_967_296
 }
 
 /// Whether a number is the quotient.

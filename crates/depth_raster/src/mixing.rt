@@ -1,10 +1,10 @@
 //! The colours of a face along a row, by steps from each pixel to the next.
-ghost use Rattle.std.specs.Prelude.{◌≡◌, ◌*◌, ◌/◌, ◌<◌, ◌≤◌, ◌^◌, pos, ◌+ℤ◌, ◌*ℤ◌, [], ◌∷◌, IfSome};
+ghost use Rattle.std.specs.Prelude.{◌≡◌, ◌*◌, ◌/◌, ◌<◌, ◌≤◌, ◌^◌, pos, ◌+ℤ◌, ◌*ℤ◌, [], ◌∷◌, IfSome, IsTrue};
 ghost use Rattle.fx_math.specs.Limits.{size_limit};
 ghost use Rattle.fx_math.specs.Within.{IsWithin};
 ghost use Rattle.tri_cover.specs.Faces.{face_hit};
 ghost use Rattle.tri_cover.specs.Linears.{value_at, IsNarrow};
-ghost use Rattle.depth_raster.specs.Mixing.{mix, AreMixed, AreBytes, AreColours};
+ghost use Rattle.depth_raster.specs.Mixing.{mix, AreMixed, AreBytes, AreColours, IsMean};
 
 use crate::shades::{near, shade};
 use tri_cover::{Face, Linear};
@@ -20,7 +20,8 @@ pub(crate) struct Sums {
 }
 
 impl Sums {
-    ghost use Rattle.depth_raster.specs.Mixing.{AreSumsAt, AreStepsOf, AreColours, DoFit, IsSumOf, AreMeansBy};
+    ghost use Rattle.depth_raster.specs.Mixing.{AreSumsAt, AreStepsOf, AreColours, DoFit, IsSumOf};
+    ghost use Rattle.depth_raster.specs.Mixing.{AreMeansBy, AreWhole, HasMeans};
 
     /// Those of a face at a pixel.
     pub(crate) fn at(face: &Face, px: u16, py: u16) -> Sums
@@ -77,9 +78,10 @@ impl Sums {
     }
 
     /// The means of the channels, rounded down; none where the sums cannot be those of a pixel that is covered.
-    fn means(&self, guess: [u8; 3]) -> Option<[u8; 3]>
+    pub(crate) fn means(&self, guess: [u8; 3]) -> Option<[u8; 3]>
         requires { IsWithin (2 ^ 55) self.now.weight }
-        ensures { IfSome result (AreMeansBy self.now) }
+        ensures means { IfSome result (AreMeansBy self.now) }
+        ensures whole { IfSome result (λ colour. AreWhole self.now) }
     {
         if self.weight <= 0 {
             return None;
@@ -90,6 +92,33 @@ impl Sums {
         let blue = up_to(self.blue, 255 * sum)?;
         Some(quotients(red, green, blue, sum, guess))
     }
+
+    /// Whether the means of the channels, rounded down, are those of a colour.
+    pub(crate) fn has_means(&self, colour: [u8; 3]) -> bool
+        requires { IsWithin (2 ^ 55) self.now.weight }
+        ensures { IsTrue result → HasMeans self.now colour }
+    {
+        if self.weight <= 0 {
+            return false;
+        }
+        let sum = self.weight.unsigned_abs();
+        is_mean(self.red, sum, colour[0])
+            && is_mean(self.green, sum, colour[1])
+            && is_mean(self.blue, sum, colour[2])
+    }
+}
+
+/// Whether the mean of a channel, rounded down, is this.
+fn is_mean(number: i64, sum: u64, mean: u8) -> bool
+    requires { sum ≤ 2 ^ 55 }
+    ensures { IsTrue result → IsMean number (pos sum) mean }
+{
+    if number < 0 {
+        return false;
+    }
+    let size = number.unsigned_abs();
+    let low = u64::from(mean) * sum;
+    low <= size && size - low < sum
 }
 
 /// Three quotients of at most 255, each from a guess.

@@ -1,10 +1,10 @@
 //! Opaque items, drawn batch by batch.
-ghost use Rattle.std.specs.Prelude.{◌≡◌, ℕ, ◌<◌, [], ◌∷◌, None, length};
+ghost use Rattle.std.specs.Prelude.{◌≡◌, ℕ, ◌<◌, false, [], ◌∷◌, None, length};
 ghost use Rattle.std.specs.Option.{option_to_list};
 ghost use Rattle.std.specs.List.{slice_get};
 ghost use Rattle.draw_list.specs.Items.{instance_of_item};
 ghost use Rattle.draw_list.specs.Lists.{instances_in};
-ghost use Rattle.depth_raster.specs.Canvas.{IsOpen, Draws, drawn_with, seen_at, colour_at, face_drawn};
+ghost use Rattle.depth_raster.specs.Canvas.{IsOpen, IsUnderway, Draws, drawn_with, seen_at, colour_at, face_drawn};
 ghost use Rattle.depth_raster.specs.Drawing.{instance_over, opaque_over};
 
 use crate::batch::Batch;
@@ -25,10 +25,10 @@ pub(crate) fn draw_opaque<R: Threads + Sync>(
     back: [u8; 3],
     list: &DrawList,
 )
-    requires sound { IsOpen lens.now strips.old batch.old.pieces.items }
-    ensures sound { IsOpen lens.now strips.new batch.new.pieces.items }
-    ensures drawn { Draws lens.now strips.old batch.old.pieces.items strips.new batch.new.pieces.items
-        (opaque_over lens.now (instances_in list.now)) }
+    requires sound { IsUnderway lens.now batch.old.is_first strips.old }
+    ensures sound { IsUnderway lens.now batch.new.is_first strips.new }
+    ensures drawn { Draws lens.now batch.old.is_first strips.old batch.old.pieces.items
+        batch.new.is_first strips.new batch.new.pieces.items (opaque_over lens.now (instances_in list.now)) }
 {
     for number in 0..list.len() {
         draw_numbered(rt, strips, batch, lens, back, list, number);
@@ -45,9 +45,10 @@ fn draw_numbered<R: Threads + Sync>(
     list: &DrawList,
     number: usize,
 )
-    requires sound { IsOpen lens.now strips.old batch.old.pieces.items }
-    ensures sound { IsOpen lens.now strips.new batch.new.pieces.items }
-    ensures drawn { Draws lens.now strips.old batch.old.pieces.items strips.new batch.new.pieces.items
+    requires sound { IsUnderway lens.now batch.old.is_first strips.old }
+    ensures sound { IsUnderway lens.now batch.new.is_first strips.new }
+    ensures drawn { Draws lens.now batch.old.is_first strips.old batch.old.pieces.items
+        batch.new.is_first strips.new batch.new.pieces.items
         (opaque_over lens.now (option_to_list (slice_get (instances_in list.now) number))) }
 {
     match list.item(number) {
@@ -66,10 +67,11 @@ fn draw_if_opaque<R: Threads + Sync>(
     list: &DrawList,
     item: &Item,
 )
-    requires sound { IsOpen lens.now strips.old batch.old.pieces.items }
+    requires sound { IsUnderway lens.now batch.old.is_first strips.old }
     requires joint { item.now.joint < length list.now.joints.lists }
-    ensures sound { IsOpen lens.now strips.new batch.new.pieces.items }
-    ensures drawn { Draws lens.now strips.old batch.old.pieces.items strips.new batch.new.pieces.items
+    ensures sound { IsUnderway lens.now batch.new.is_first strips.new }
+    ensures drawn { Draws lens.now batch.old.is_first strips.old batch.old.pieces.items
+        batch.new.is_first strips.new batch.new.pieces.items
         (opaque_over lens.now (instance_of_item list.now.joints.lists list.now.kept.tris item.now ∷ [])) }
 {
     match item.tint {
@@ -88,10 +90,11 @@ fn draw_item<R: Threads + Sync>(
     list: &DrawList,
     item: &Item,
 )
-    requires sound { IsOpen lens.now strips.old batch.old.pieces.items }
+    requires sound { IsUnderway lens.now batch.old.is_first strips.old }
     requires joint { item.now.joint < length list.now.joints.lists }
-    ensures sound { IsOpen lens.now strips.new batch.new.pieces.items }
-    ensures drawn { Draws lens.now strips.old batch.old.pieces.items strips.new batch.new.pieces.items
+    ensures sound { IsUnderway lens.now batch.new.is_first strips.new }
+    ensures drawn { Draws lens.now batch.old.is_first strips.old batch.old.pieces.items
+        batch.new.is_first strips.new batch.new.pieces.items
         (instance_over lens.now (instance_of_item list.now.joints.lists list.now.kept.tris item.now)) }
 {
     for number in 0..item.geom.len {
@@ -113,13 +116,13 @@ fn draw_face<R: Threads + Sync>(
     back: [u8; 3],
     face: Face,
 )
-    requires sound { IsOpen lens.now strips.old batch.old.pieces.items }
-    ensures sound { IsOpen lens.now strips.new batch.new.pieces.items }
-    ensures drawn { Draws lens.now strips.old batch.old.pieces.items strips.new batch.new.pieces.items
-        (face_drawn lens.now face) }
+    requires sound { IsUnderway lens.now batch.old.is_first strips.old }
+    ensures sound { IsUnderway lens.now batch.new.is_first strips.new }
+    ensures drawn { Draws lens.now batch.old.is_first strips.old batch.old.pieces.items
+        batch.new.is_first strips.new batch.new.pieces.items (face_drawn lens.now face) }
 {
     make_room(rt, strips, batch, lens, back);
-    batch.push(face, lens);
+    batch.push(face);
 }
 
 /// Draws a full batch.
@@ -130,18 +133,18 @@ fn make_room<R: Threads + Sync>(
     lens: &Lens,
     back: [u8; 3],
 )
-    requires sound { IsOpen lens.now strips.old batch.old.pieces.items }
-    ensures sound { IsOpen lens.now strips.new batch.new.pieces.items }
+    requires sound { IsUnderway lens.now batch.old.is_first strips.old }
+    ensures sound { IsUnderway lens.now batch.new.is_first strips.new }
     ensures room { length batch.new.pieces.items < 16384 }
-    ensures drawn { Draws lens.now strips.old batch.old.pieces.items strips.new batch.new.pieces.items
-        (λ px py drawn. drawn) }
+    ensures drawn { Draws lens.now batch.old.is_first strips.old batch.old.pieces.items
+        batch.new.is_first strips.new batch.new.pieces.items (λ px py drawn. drawn) }
 {
     if batch.is_full() {
         flush(rt, strips, batch, lens, back);
     }
 }
 
-/// Draws the pieces of a batch, which has none then.
+/// Draws the pieces of a batch, which has none then; the first of a picture over strips that are cleared.
 pub(crate) fn flush<R: Threads + Sync>(
     rt: &R,
     strips: &mut [Strip],
@@ -149,18 +152,22 @@ pub(crate) fn flush<R: Threads + Sync>(
     lens: &Lens,
     back: [u8; 3],
 )
-    requires sound { IsOpen lens.now strips.old batch.old.pieces.items }
-    ensures sound { IsOpen lens.now strips.new batch.new.pieces.items }
+    requires sound { IsUnderway lens.now batch.old.is_first strips.old }
+    ensures sound { IsOpen lens.now strips.new }
+    ensures later { batch.new.is_first ≡ false }
     ensures empty { batch.new.pieces.items ≡ [] }
     ensures drawn { (px py : ℕ) → px < lens.now.w → py < lens.now.h
-        → seen_at strips.new px py ≡ drawn_with lens.now strips.old batch.old.pieces.items px py }
+        → seen_at strips.new px py ≡ drawn_with lens.now batch.old.is_first strips.old batch.old.pieces.items px py }
     ensures blank { (px py : ℕ) → px < lens.now.w → py < lens.now.h
         → seen_at strips.new px py ≡ None → colour_at strips.new px py ≡ back }
 {
+    batch.make_ready(rt, lens);
+    let is_first = batch.is_first;
     batch.order();
     draw_strips(
         rt,
         work_of(&batch.pieces),
+        is_first,
         lens,
         back,
         &batch.pieces,
@@ -168,4 +175,5 @@ pub(crate) fn flush<R: Threads + Sync>(
         strips,
     );
     batch.clear();
+    batch.is_first = false;
 }

@@ -1,9 +1,9 @@
 //! The colours of a tile after faces are drawn.
-ghost use Rattle.std.specs.Prelude.{◌≡◌, ℕ, ◌+◌, ◌<◌, ◌≤◌, All, length};
+ghost use Rattle.std.specs.Prelude.{◌≡◌, ℕ, ◌+◌, ◌<◌, ◌≤◌, All, IsTrue, length};
 ghost use Rattle.fx_math.specs.Limits.{size_limit};
 ghost use Rattle.depth_raster.specs.Blocks.{IsBlockOf, size_of, colour_in};
 ghost use Rattle.depth_raster.specs.Following.{Follows, Relates, SpanRelates};
-ghost use Rattle.depth_raster.specs.Mixing.{shaded_within};
+ghost use Rattle.depth_raster.specs.Mixing.{AreMeansBy, AreSumsAt, AreWhole, IsEven, filled, shaded_within};
 ghost use Rattle.depth_raster.specs.Pieces.{IsPieceOf, IsRanked, IsColoured, settled};
 ghost use Rattle.depth_raster.specs.Tiles.{mark_in, painted_within, HaveRank, IsCleared, IsPainted};
 
@@ -13,7 +13,6 @@ use crate::mixing::Sums;
 use crate::pieces::Piece;
 use crate::pixels::colour;
 use crate::tile::Tile;
-use crate::tiles::greatest_depth;
 use fx_math::Lens;
 use tri_cover::{Face, Ready};
 
@@ -35,14 +34,14 @@ pub(crate) fn paint(tile: &mut Tile, lens: &Lens, back: [u8; 3], pieces: &[Piece
     let block = tile.block;
     paint_rows(&mut tile.colours, &tile.marks, &block, lens, back, pieces);
     settle(&mut tile.marks, &block);
-    tile.top = greatest_depth(&tile.marks);
 }
 
-/// Takes the ranks from the marks of a block.
+/// Takes the ranks from the marks of a block, and leaves their depths.
 fn settle(marks: &mut [Mark], block: &Block)
     requires len { length marks.old ≡ size_of block.now }
     ensures marks { Follows block.now.width block.now.rows (mark_in block.now marks.old) (mark_in block.now marks.new)
         (λ q r m. settled m) }
+    ensures depths { (most : ℕ) → All (λ m. m.depth ≤ most) marks.old → All (λ m. m.depth ≤ most) marks.new }
 {
     for i in 0..marks.len() {
         marks[i].rank = 0;
@@ -169,7 +168,7 @@ fn paint_piece(
     }
 }
 
-/// Paints pixels in a row by a face, from each pixel to the next.
+/// Paints pixels in a row by a face.
 fn paint_face(colours: &mut [[u8; 3]], block: &Block, face: &Face, r: u16, start: u16, end: u16)
     requires colours { length colours.old ≡ size_of block.now }
     requires columns { block.now.left + block.now.width ≤ size_limit }
@@ -180,9 +179,112 @@ fn paint_face(colours: &mut [[u8; 3]], block: &Block, face: &Face, r: u16, start
     ensures { SpanRelates block.now (colour_in block.now colours.old) (colour_in block.now colours.new)
         (shaded_within face.now block.now) r start end }
 {
+    let first = Sums::at(face, block.left + start, block.first + r);
+    let guess = first_guess(colours, block, face, start, r);
+    match first.means(guess) {
+        Some(colour) => paint_from(colours, block, face, &first, colour, r, start, end),
+        None => paint_steps(colours, block, face, &first, guess, r, start, end),
+    }
+}
+
+/// Paints pixels in a row by a face whose colour at the first of them is known, with its sums.
+fn paint_from(
+    colours: &mut [[u8; 3]],
+    block: &Block,
+    face: &Face,
+    first: &Sums,
+    colour: [u8; 3],
+    r: u16,
+    start: u16,
+    end: u16,
+)
+    requires colours { length colours.old ≡ size_of block.now }
+    requires columns { block.now.left + block.now.width ≤ size_limit }
+    requires rows { block.now.first + block.now.rows ≤ size_limit }
+    requires row { r < block.now.rows }
+    requires some { start < end }
+    requires within { end ≤ block.now.width }
+    requires sums { AreSumsAt face.now (block.now.left + start) (block.now.first + r) first.now }
+    requires whole { AreWhole first.now }
+    requires means { AreMeansBy first.now colour }
+    ensures { SpanRelates block.now (colour_in block.now colours.old) (colour_in block.now colours.new)
+        (shaded_within face.now block.now) r start end }
+{
+    if is_even(block, face, first, colour, r, start, end) {
+        fill_run(colours, block, colour, r, start, end);
+    } else {
+        paint_steps(colours, block, face, first, colour, r, start, end);
+    }
+}
+
+/// Whether a face's colour at the last of some pixels in a row is that at the first of them, so that it is the same at all:
+/// between two pixels the sums change evenly.
+fn is_even(
+    block: &Block,
+    face: &Face,
+    first: &Sums,
+    colour: [u8; 3],
+    r: u16,
+    start: u16,
+    end: u16,
+) -> bool
+    requires columns { block.now.left + block.now.width ≤ size_limit }
+    requires rows { block.now.first + block.now.rows ≤ size_limit }
+    requires row { r < block.now.rows }
+    requires some { start < end }
+    requires within { end ≤ block.now.width }
+    requires sums { AreSumsAt face.now (block.now.left + start) (block.now.first + r) first.now }
+    requires whole { AreWhole first.now }
+    requires means { AreMeansBy first.now colour }
+    ensures { IsTrue result → IsEven face.now block.now r start end colour }
+{
+    if end - start == 1 {
+        return true;
+    }
+    let last = Sums::at(face, block.left + (end - 1), block.first + r);
+    last.has_means(colour)
+}
+
+/// Gives pixels in a row one colour.
+fn fill_run(colours: &mut [[u8; 3]], block: &Block, colour: [u8; 3], r: u16, start: u16, end: u16)
+    requires colours { length colours.old ≡ size_of block.now }
+    requires row { r < block.now.rows }
+    requires some { start < end }
+    requires within { end ≤ block.now.width }
+    ensures { SpanRelates block.now (colour_in block.now colours.old) (colour_in block.now colours.new)
+        (filled colour) r start end }
+{
+    for q in start..end {
+        let place = block.place(q, r);
+        colours[place] = colour;
+    }
+}
+
+/// Paints pixels in a row by a face, from each pixel to the next, from the sums at the first of them and a guess of its
+/// colour there.
+fn paint_steps(
+    colours: &mut [[u8; 3]],
+    block: &Block,
+    face: &Face,
+    first: &Sums,
+    first_guess: [u8; 3],
+    r: u16,
+    start: u16,
+    end: u16,
+)
+    requires colours { length colours.old ≡ size_of block.now }
+    requires columns { block.now.left + block.now.width ≤ size_limit }
+    requires rows { block.now.first + block.now.rows ≤ size_limit }
+    requires row { r < block.now.rows }
+    requires some { start < end }
+    requires within { end ≤ block.now.width }
+    requires sums { AreSumsAt face.now (block.now.left + start) (block.now.first + r) first.now }
+    ensures { SpanRelates block.now (colour_in block.now colours.old) (colour_in block.now colours.new)
+        (shaded_within face.now block.now) r start end }
+{
     let steps = Sums::steps(face);
-    let mut sums = Sums::at(face, block.left + start, block.first + r);
-    let mut guess = first_guess(colours, block, face, start, r);
+    let mut sums = *first;
+    let mut guess = first_guess;
     for q in start..end {
         let place = block.place(q, r);
         let colour = sums.colour(face, guess, block.left + q, block.first + r);

@@ -4,35 +4,98 @@ ghost use Rattle.tri_cover.specs.Hits.{vertex};
 ghost use Rattle.tri_cover.specs.Readiness.{IsReady};
 ghost use Rattle.depth_raster.specs.Around.{IsAround, IsBoxOf};
 ghost use Rattle.depth_raster.specs.Extents.{Surrounds};
-ghost use Rattle.depth_raster.specs.Pieces.{IsPieceOf};
+ghost use Rattle.depth_raster.specs.Pieces.{IsMadeReady, AreMadeReady};
 
 use crate::extents::Extent;
 use crate::faces::Face;
+use crate::looks::about;
+use crate::work::are_many;
 use fx_math::Lens;
 use pf_model::Tri;
+use std::thread::{Threads, for_each_mut};
 use tri_cover::{Ready, face_of};
 
-/// A face, what is reckoned of its triangle once, and the columns and rows in which it can be hit.
+/// In how many threads many faces are made ready.
+const MAKERS: usize = 4;
+
+/// A face, and of its triangle what is reckoned once it is made ready: that by which it is looked at, a float that is about the
+/// dividend of its depths, from which they are guessed, and the columns and rows in which it can be hit.
 #[derive(Clone, Copy)]
 pub(crate) struct Piece {
     pub(crate) face: Face,
     pub(crate) ready: Ready,
+    pub(crate) about: f64,
     pub(crate) extent: Extent,
 }
 
 impl Piece {
-    /// A face made ready for a lens.
-    pub(crate) fn new(face: Face, lens: &Lens) -> Piece
-        ensures face { result.face ≡ face }
-        ensures ready { IsPieceOf lens.now result }
+    /// A face of which nothing is reckoned yet.
+    pub(crate) fn bare(face: Face) -> Piece
+        ensures { result.face ≡ face }
     {
-        let ready = face_of(&face.tri, lens);
-        let extent = extent_of(&face.tri, &ready, lens);
         Piece {
             face,
-            ready,
-            extent,
+            ready: Ready::Nothing,
+            about: 0.0,
+            extent: Extent {
+                left: 0,
+                right: 0,
+                top: 0,
+                bottom: 0,
+            },
         }
+    }
+
+    /// Makes the face ready for a lens.
+    fn make_ready(&mut self, lens: &Lens)
+        ensures { IsMadeReady lens.now self.old self.new }
+    {
+        let ready = face_of(&self.face.tri, lens);
+        self.extent = extent_of(&self.face.tri, &ready, lens);
+        self.about = about_dividend(&ready);
+        self.ready = ready;
+    }
+}
+
+/// A float that is about the dividend of a face; 0 where there is none.
+fn about_dividend(ready: &Ready) -> f64 {
+    match ready {
+        Ready::Face(face) => about(face.dividend),
+        _ => 0.0,
+    }
+}
+
+/// Makes pieces ready for a lens: many of them in some threads.
+pub(crate) fn make_ready<R: Threads + Sync>(rt: &R, pieces: &mut [Piece], lens: &Lens)
+    ensures { AreMadeReady lens.now pieces.old pieces.new }
+{
+    if are_many(pieces.len()) {
+        make_ready_beside(rt, pieces, lens);
+    } else {
+        make_ready_in_turn(pieces, lens);
+    }
+}
+
+/// Makes pieces ready for a lens in some threads.
+fn make_ready_beside<R: Threads + Sync>(rt: &R, pieces: &mut [Piece], lens: &Lens)
+    ensures { AreMadeReady lens.now pieces.old pieces.new }
+{
+    for_each_mut(
+        rt,
+        pieces,
+        MAKERS,
+        &|_i: usize, piece: &mut Piece|
+            ensures { IsMadeReady lens.entry.now piece.entry.now piece.exit.now }
+        { piece.make_ready(lens) },
+    );
+}
+
+/// Makes one piece after the other ready for a lens.
+fn make_ready_in_turn(pieces: &mut [Piece], lens: &Lens)
+    ensures { AreMadeReady lens.now pieces.old pieces.new }
+{
+    for i in 0..pieces.len() {
+        pieces[i].make_ready(lens);
     }
 }
 

@@ -1,5 +1,6 @@
 //! A piece at a pixel.
 ghost use Rattle.std.specs.Prelude.{◌≡◌, ℕ, ◌+◌, ◌<◌, true, IfSome, Some, []};
+ghost use Rattle.std.specs.Option.{unwrap_or};
 ghost use Rattle.fx_math.specs.Limits.{size_limit};
 ghost use Rattle.tri_cover.specs.Faces as faces;
 ghost use Rattle.tri_cover.specs.declared.hit.Hit.{Hit};
@@ -21,22 +22,25 @@ use crate::shades::shade;
 use fx_math::Lens;
 use tri_cover::Ready;
 
-/// The nearer of a mark and a piece of a face at a pixel where the face has these edge values; a guess of its depth that is
-/// near makes it cheap.
+/// What a piece of a face makes of a mark at a pixel where the face has these edge values, unless it lies behind the mark.
 pub(crate) fn nearer(
     piece: &Piece,
     face: &tri_cover::Face,
     values: &EdgeValues,
-    guess: u32,
-    mark: Mark,
-) -> Mark
+    mark: &Mark,
+) -> Option<Mark>
     requires face { HasFace piece.now face.now }
     ensures { (lens : Lens) (px py : ℕ) → px < lens.w → py < lens.h → IsPieceOf lens piece.now → IsWithin piece.now.extent px py
-        → AreValuesAt face.now px py values.now → result ≡ mark_over lens px py piece.now.face mark }
+        → AreValuesAt face.now px py values.now → unwrap_or result mark.now ≡ mark_over lens px py piece.now.face mark.now }
 {
-    match look_by(face, values, limit(mark.depth, piece.face.shift), guess) {
-        Some(depth) => mark.lesser(piece.face.mark(depth)),
-        None => mark,
+    match look_by(
+        face,
+        values,
+        limit(mark.depth, piece.face.shift),
+        piece.about,
+    ) {
+        Some(depth) => Some(mark.lesser(piece.face.mark(depth))),
+        None => None,
     }
 }
 
@@ -76,7 +80,7 @@ pub(crate) fn glazed(
     ensures { result ≡ glazed_by_face lens.now px py piece.now.face (behind_as behind.now) under }
 {
     match &piece.ready {
-        Ready::Face(face) => glazed_face(face, &piece.face, behind, under, px, py),
+        Ready::Face(face) => glazed_face(face, piece.about, &piece.face, behind, under, px, py),
         _ => piece.face.glazed(behind, under, lens, px, py),
     }
 }
@@ -84,6 +88,7 @@ pub(crate) fn glazed(
 /// What a face of glass leaves of the colour under it at a pixel.
 fn glazed_face(
     face: &tri_cover::Face,
+    about: f64,
     label: &Face,
     behind: &Mark,
     under: [u8; 3],
@@ -96,7 +101,7 @@ fn glazed_face(
     requires small { (h : Hit) → faces.face_hit face.now px py ≡ Some h → h.depth < 2147483648 }
     ensures { result ≡ glazed_by_hit label.now (behind_as behind.now) (faces.face_hit face.now px py) under }
 {
-    match look(face, limit(behind.depth, label.shift), px, py) {
+    match look(face, about, limit(behind.depth, label.shift), px, py) {
         Some(_depth) => blend(label.alpha, shade(face, under, px, py), under),
         None => under,
     }

@@ -12,7 +12,7 @@ use crate::batch::Batch;
 use crate::blocks::Block;
 use crate::shown::{assemble_strips, show};
 use crate::strip::Strip;
-use crate::strips::{ROWS, clear_strips};
+use crate::strips::ROWS;
 use crate::tile::Tile;
 use crate::{glass, opaque};
 use draw_list::DrawList;
@@ -107,7 +107,7 @@ fn draw_all<R: Threads + Sync>(
     ensures pixels { Shows image.new (picture lens.now back (instances_in list.now)) }
 {
     draw_strips(rt, strips, batch, lens, list, back);
-    assemble_strips(strips, lens);
+    assemble_strips(rt, strips, lens);
     show(image, strips, lens);
 }
 
@@ -127,7 +127,7 @@ fn draw_strips<R: Threads + Sync>(
     ensures colours { (px py : ℕ) → px < lens.now.w → py < lens.now.h
         → colour_at strips.new px py ≡ picture lens.now back (instances_in list.now) px py }
 {
-    clear_strips(rt, lens, strips);
+    batch.begin();
     opaque::draw_opaque(rt, strips, batch, lens, back, list);
     opaque::flush(rt, strips, batch, lens, back);
     glass::draw_glass(rt, strips, batch, lens, list);

@@ -5,7 +5,7 @@ ghost use Rattle.depth_raster.specs.Blocks.{IsBlockOf};
 ghost use Rattle.depth_raster.specs.Pieces.{IsPieceOf, AreRanked};
 ghost use Rattle.depth_raster.specs.Shares.{AreSlotsFor, AreSharesOf};
 ghost use Rattle.depth_raster.specs.Strips.{AreTilesOf, TilesRelate, IsStripOf, StripRelates, StripsRelate};
-ghost use Rattle.depth_raster.specs.Tiles.{IsCleared, IsPainted, IsDrawn};
+ghost use Rattle.depth_raster.specs.Tiles.{IsCleared, IsBegun, IsPainted, IsDrawn, IsDrawnFrom};
 
 use crate::across::draw_slots;
 use crate::blocks::Block;
@@ -18,62 +18,18 @@ use crate::strip::Strip;
 use crate::tile::Tile;
 use crate::work::is_much;
 use fx_math::Lens;
-use std::thread::{Threads, for_each_mut, join_mut};
+use std::thread::{Threads, join_mut};
 
 /// The rows of a strip; the last one of a picture may have fewer.
 pub(crate) const ROWS: u16 = 16;
 
-/// In how many threads strips are cleared.
-const CLEARERS: usize = 4;
-
-/// Clears the marks of strips: of a wide picture's in some threads.
-pub(crate) fn clear_strips<R: Threads + Sync>(rt: &R, lens: &Lens, strips: &mut [Strip])
-    ensures { StripsRelate IsCleared strips.old strips.new }
-{
-    if is_much(u64::from(lens.w) * u64::from(lens.h)) {
-        clear_beside(rt, strips);
-    } else {
-        clear_in_turn(strips);
-    }
-}
-
-/// Clears the marks of strips in some threads.
-fn clear_beside<R: Threads + Sync>(rt: &R, strips: &mut [Strip])
-    ensures { StripsRelate IsCleared strips.old strips.new }
-{
-    for_each_mut(
-        rt,
-        strips,
-        CLEARERS,
-        &|_i: usize, strip: &mut Strip|
-            ensures { StripRelates IsCleared strip.entry.now strip.exit.now }
-        { clear_tiles(strip) },
-    );
-}
-
-/// Clears the marks of strips one after the other.
-fn clear_in_turn(strips: &mut [Strip])
-    ensures { StripsRelate IsCleared strips.old strips.new }
-{
-    for i in 0..strips.len() {
-        clear_tiles(&mut strips[i]);
-    }
-}
-
-fn clear_tiles(strip: &mut Strip)
-    ensures { StripRelates IsCleared strip.old strip.new }
-{
-    for t in 0..strip.tiles.len() {
-        clear(&mut strip.tiles[t]);
-    }
-}
-
 /// Draws opaque pieces in strips, which are halved down to single ones. The halves are drawn side by side where so much work
-/// is worth a thread, and else one after the other.
+/// is worth a thread, and else one after the other. The first drawing of a picture is over strips that are cleared.
 #[cycle(halves)]
 pub(crate) fn draw_strips<R: Threads + Sync>(
     rt: &R,
     work: u64,
+    is_first: bool,
     lens: &Lens,
     back: [u8; 3],
     pieces: &[Piece],
@@ -84,14 +40,14 @@ pub(crate) fn draw_strips<R: Threads + Sync>(
     requires pieces { All (IsPieceOf lens.now) pieces.now }
     requires ranks { AreRanked pieces.now }
     requires shares { AreSharesOf lens.now pieces.now shares.now }
-    ensures { StripsRelate (IsDrawn lens.now back pieces.now) strips.old strips.new }
+    ensures { StripsRelate (IsDrawnFrom lens.now back pieces.now is_first) strips.old strips.new }
 {
     if strips.len() < 2 {
-        draw_last(strips, lens, back, pieces, shares);
+        draw_last(strips, is_first, lens, back, pieces, shares);
         return;
     }
     let (upper, lower) = strips.split_at_mut(strips.len() / 2);
-    draw_halves(rt, work, lens, back, pieces, shares, upper, lower);
+    draw_halves(rt, work, is_first, lens, back, pieces, shares, upper, lower);
 }
 
 /// Draws opaque pieces in the two halves of strips, each of which has about half the work.
@@ -99,6 +55,7 @@ pub(crate) fn draw_strips<R: Threads + Sync>(
 fn draw_halves<R: Threads + Sync>(
     rt: &R,
     work: u64,
+    is_first: bool,
     lens: &Lens,
     back: [u8; 3],
     pieces: &[Piece],
@@ -113,54 +70,86 @@ fn draw_halves<R: Threads + Sync>(
     requires pieces { All (IsPieceOf lens.now) pieces.now }
     requires ranks { AreRanked pieces.now }
     requires shares { AreSharesOf lens.now pieces.now shares.now }
-    ensures upper { StripsRelate (IsDrawn lens.now back pieces.now) upper.old upper.new }
-    ensures lower { StripsRelate (IsDrawn lens.now back pieces.now) lower.old lower.new }
+    ensures upper { StripsRelate (IsDrawnFrom lens.now back pieces.now is_first) upper.old upper.new }
+    ensures lower { StripsRelate (IsDrawnFrom lens.now back pieces.now is_first) lower.old lower.new }
 {
     let half = work / 2;
     if !is_much(work) {
-        draw_strips(rt, half, lens, back, pieces, shares, upper);
-        draw_strips(rt, half, lens, back, pieces, shares, lower);
+        draw_strips(rt, half, is_first, lens, back, pieces, shares, upper);
+        draw_strips(rt, half, is_first, lens, back, pieces, shares, lower);
         return;
     }
     let mut above = ||
         requires { IsSync R.row × All (IsStripOf lens.now) upper.now × All (IsPieceOf lens.now) pieces.now
             × AreRanked pieces.now × AreSharesOf lens.now pieces.now shares.now }
-        ensures { StripsRelate (IsDrawn lens.entry.now back pieces.entry.now) upper.entry.now upper.exit.now }
-    { draw_strips(rt, half, lens, back, pieces, shares, upper) };
+        ensures { StripsRelate (IsDrawnFrom lens.entry.now back pieces.entry.now is_first) upper.entry.now upper.exit.now }
+    { draw_strips(rt, half, is_first, lens, back, pieces, shares, upper) };
     let mut below = ||
         requires { IsSync R.row × All (IsStripOf lens.now) lower.now × All (IsPieceOf lens.now) pieces.now
             × AreRanked pieces.now × AreSharesOf lens.now pieces.now shares.now }
-        ensures { StripsRelate (IsDrawn lens.entry.now back pieces.entry.now) lower.entry.now lower.exit.now }
-    { draw_strips(rt, half, lens, back, pieces, shares, lower) };
+        ensures { StripsRelate (IsDrawnFrom lens.entry.now back pieces.entry.now is_first) lower.entry.now lower.exit.now }
+    { draw_strips(rt, half, is_first, lens, back, pieces, shares, lower) };
     join_mut(rt, &mut above, &mut below);
 }
 
 /// Draws opaque pieces in a strip that is not halved any more, or in none.
-fn draw_last(strips: &mut [Strip], lens: &Lens, back: [u8; 3], pieces: &[Piece], shares: &[Share])
+fn draw_last(
+    strips: &mut [Strip],
+    is_first: bool,
+    lens: &Lens,
+    back: [u8; 3],
+    pieces: &[Piece],
+    shares: &[Share],
+)
     requires few { length strips.old < 2 }
     requires strips { All (IsStripOf lens.now) strips.old }
     requires pieces { All (IsPieceOf lens.now) pieces.now }
     requires ranks { AreRanked pieces.now }
     requires shares { AreSharesOf lens.now pieces.now shares.now }
-    ensures { StripsRelate (IsDrawn lens.now back pieces.now) strips.old strips.new }
+    ensures { StripsRelate (IsDrawnFrom lens.now back pieces.now is_first) strips.old strips.new }
 {
     if strips.is_empty() {
         return;
     }
-    draw_strip(&mut strips[0], lens, back, pieces, shares);
+    draw_strip(&mut strips[0], is_first, lens, back, pieces, shares);
 }
 
-/// Draws opaque pieces in a strip.
-fn draw_strip(strip: &mut Strip, lens: &Lens, back: [u8; 3], pieces: &[Piece], shares: &[Share])
+/// Draws opaque pieces in a strip, which is cleared right before the first ones of a picture: its marks are at hand then.
+fn draw_strip(
+    strip: &mut Strip,
+    is_first: bool,
+    lens: &Lens,
+    back: [u8; 3],
+    pieces: &[Piece],
+    shares: &[Share],
+)
     requires strip { IsStripOf lens.now strip.old }
     requires pieces { All (IsPieceOf lens.now) pieces.now }
     requires ranks { AreRanked pieces.now }
     requires shares { AreSharesOf lens.now pieces.now shares.now }
-    ensures { StripRelates (IsDrawn lens.now back pieces.now) strip.old strip.new }
+    ensures { StripRelates (IsDrawnFrom lens.now back pieces.now is_first) strip.old strip.new }
 {
+    begin_strip(strip, is_first);
     let band = strip.band;
     let share = &shares[(band.first / HEIGHT) as usize];
     draw_tiles(&mut strip.tiles, &band, lens, back, pieces, &share.slots);
+}
+
+/// Clears the marks of a strip before the first drawing.
+fn begin_strip(strip: &mut Strip, is_first: bool)
+    ensures { StripRelates (IsBegun is_first) strip.old strip.new }
+{
+    if is_first {
+        clear_tiles(strip);
+    }
+}
+
+fn clear_tiles(strip: &mut Strip)
+    ensures { StripRelates IsCleared strip.old strip.new }
+{
+    for t in 0..strip.tiles.len() {
+        clear(&mut strip.tiles[t]);
+    }
 }
 
 fn draw_tiles(

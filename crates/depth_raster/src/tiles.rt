@@ -1,13 +1,16 @@
 //! Faces over the marks of a tile.
-ghost use Rattle.std.specs.Prelude.{◌≡◌, ◌+◌, ◌<◌, ◌≤◌, All, IsTrue, length};
+ghost use Rattle.std.specs.Prelude.{◌≡◌, ℕ, ◌+◌, ◌<◌, ◌≤◌, All, IsTrue, length, slice_set, slice_index_or};
+ghost use Rattle.fx_math.specs.declared.lenses.Lens.{Lens};
+ghost use Rattle.depth_raster.specs.Around.{IsWithin};
 ghost use Rattle.depth_raster.specs.Blocks.{IsBlockOf, size_of};
+ghost use Rattle.depth_raster.specs.Edges.{AreValuesAt};
 ghost use Rattle.depth_raster.specs.Following.{Follows, RowFollows};
+ghost use Rattle.depth_raster.specs.Marks.{mark_over, no_mark};
 ghost use Rattle.depth_raster.specs.Pieces.{IsPieceOf, HasFace};
 ghost use Rattle.depth_raster.specs.Tiles.{mark_in, within, face_over, MarksFollow, IsBehind};
 
 use crate::blocks::Block;
 use crate::edges::EdgeValues;
-use crate::guesses::Guesses;
 use crate::hiding::is_hidden;
 use crate::marks::Mark;
 use crate::pieces::Piece;
@@ -27,7 +30,7 @@ pub(crate) fn draw_piece(tile: &mut Tile, lens: &Lens, piece: &Piece)
         return;
     }
     draw_marks(&mut tile.marks, &block, lens, piece);
-    tile.top = greatest_depth(&tile.marks);
+    tile.top = greatest_within(&tile.marks, tile.top);
 }
 
 /// Whether the values at the corners of a block tell that a piece is hit nowhere in it before a depth.
@@ -42,12 +45,17 @@ fn is_behind(piece: &Piece, block: &Block, depth: u32, lens: &Lens) -> bool
     }
 }
 
-/// The greatest depth of marks.
-pub(crate) fn greatest_depth(marks: &[Mark]) -> u32
+/// A depth behind which no mark lies, from one that is known to be so: the greatest of marks, looked for until one has that
+/// depth.
+fn greatest_within(marks: &[Mark], most: u32) -> u32
+    requires { All (λ m. m.depth ≤ most) marks.now }
     ensures { All (λ m. m.depth ≤ result) marks.now }
 {
     let mut greatest = 0;
     for mark in marks {
+        if most <= mark.depth {
+            return most;
+        }
         greatest = greater(greatest, mark.depth);
     }
     greatest
@@ -69,21 +77,13 @@ fn draw_marks(marks: &mut [Mark], block: &Block, lens: &Lens, piece: &Piece)
         (within block.now (face_over lens.now piece.now.face)) }
 {
     let extent = piece.extent;
-    let mut guesses = Guesses::new();
     for r in block.rows_from(extent.top)..block.rows_to(extent.bottom) {
-        guesses = draw_row(marks, block, lens, piece, r, guesses);
+        draw_row(marks, block, lens, piece, r);
     }
 }
 
-/// Draws a piece over the marks of a row of a block. It answers the guesses for the next row.
-fn draw_row(
-    marks: &mut [Mark],
-    block: &Block,
-    lens: &Lens,
-    piece: &Piece,
-    r: u16,
-    guesses: Guesses,
-) -> Guesses
+/// Draws a piece over the marks of a row of a block.
+fn draw_row(marks: &mut [Mark], block: &Block, lens: &Lens, piece: &Piece, r: u16)
     requires len { length marks.old ≡ size_of block.now }
     requires block { IsBlockOf lens.now block.now }
     requires ready { IsPieceOf lens.now piece.now }
@@ -94,11 +94,8 @@ fn draw_row(
         (within block.now (face_over lens.now piece.now.face)) r }
 {
     match &piece.ready {
-        Ready::Face(face) => draw_face(marks, block, lens, piece, face, r, guesses),
-        _ => {
-            draw_pixels(marks, block, lens, piece, r);
-            guesses
-        }
+        Ready::Face(face) => draw_face(marks, block, lens, piece, face, r),
+        _ => draw_pixels(marks, block, lens, piece, r),
     }
 }
 
@@ -124,15 +121,7 @@ fn draw_pixels(marks: &mut [Mark], block: &Block, lens: &Lens, piece: &Piece, r:
 }
 
 /// Draws the piece of a face over the marks of a row of a block, from each pixel to the next.
-fn draw_face(
-    marks: &mut [Mark],
-    block: &Block,
-    lens: &Lens,
-    piece: &Piece,
-    face: &Face,
-    r: u16,
-    guesses: Guesses,
-) -> Guesses
+fn draw_face(marks: &mut [Mark], block: &Block, lens: &Lens, piece: &Piece, face: &Face, r: u16)
     requires len { length marks.old ≡ size_of block.now }
     requires block { IsBlockOf lens.now block.now }
     requires ready { IsPieceOf lens.now piece.now }
@@ -146,20 +135,26 @@ fn draw_face(
     let start = block.columns_from(piece.extent.left);
     let end = block.columns_to(piece.extent.right);
     if end <= start {
-        return guesses;
+        return;
     }
-    let shift = piece.face.shift;
     let steps = EdgeValues::steps(face);
     let mut values = EdgeValues::at(face, block.left + start, block.first + r);
-    let mut guess = guesses.row();
     for q in start..end {
-        let place = block.place(q, r);
-        let nearer = nearer(piece, face, &values, guess.next(), marks[place]);
-        guess = guess.after(nearer.depth.wrapping_add(shift));
-        marks[place] = nearer;
+        draw_pixel(marks, block.place(q, r), piece, face, &values);
         values = values.plus(&steps);
     }
-    let first = marks[block.place(start, r)].depth;
-    let second = marks[block.place((start + 1).min(end - 1), r)].depth;
-    guesses.after_row(first.wrapping_add(shift), second.wrapping_add(shift))
+}
+
+/// Draws a piece of a face over the mark at a place, where the face has these edge values. It is written only where the piece
+/// does not lie behind it.
+fn draw_pixel(marks: &mut [Mark], place: usize, piece: &Piece, face: &Face, values: &EdgeValues)
+    requires place { place < length marks.old }
+    requires face { HasFace piece.now face.now }
+    ensures { (lens : Lens) (px py : ℕ) → px < lens.w → py < lens.h → IsPieceOf lens piece.now → IsWithin piece.now.extent px py
+        → AreValuesAt face.now px py values.now
+        → marks.new ≡ slice_set marks.old place (mark_over lens px py piece.now.face (slice_index_or marks.old place no_mark)) }
+{
+    if let Some(nearer) = nearer(piece, face, values, &marks[place]) {
+        marks[place] = nearer;
+    }
 }

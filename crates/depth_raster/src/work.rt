@@ -7,7 +7,15 @@ const MUCH_WORK: u64 = 262_144;
 
 /// More work than this is worth no more threads: their number is about its quotient by `MUCH_WORK`, some more than there are
 /// processors, so that these have about the same to do.
-const MOST_WORK: u64 = 16 * MUCH_WORK;
+const MOST_WORK: u64 = 8 * MUCH_WORK;
+
+/// The number of pieces from which on it is worth some threads to make them ready.
+const MANY_PIECES: usize = 2_048;
+
+/// Whether to make so many pieces ready is worth some threads.
+pub(crate) fn are_many(count: usize) -> bool {
+    MANY_PIECES <= count
+}
 
 /// Whether half of so much work is worth a thread.
 pub(crate) fn is_much(work: u64) -> bool {

@@ -25,7 +25,8 @@ pub(crate) fn facing(depth: i32, colour: [u8; 3]) -> Result<Tri, Fail> {
     ))
 }
 
-fn opaque<'a>(place: u32, tris: &'a [Tri]) -> Instance<'a> {
+/// An instance of opaque triangles in eye coordinates.
+pub(crate) fn opaque<'a>(place: u32, tris: &'a [Tri]) -> Instance<'a> {
     Instance {
         place,
         id: 1,

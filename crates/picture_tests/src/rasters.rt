@@ -1,17 +1,18 @@
 //! Pictures of draw lists.
-ghost use Rattle.std.specs.Prelude.{◌≡◌, ◌<◌, length, IfOk};
+ghost use Rattle.std.specs.Prelude.{◌≡◌, ◌≤◌, ◌<◌, length, IfOk};
 
+use crate::instances::opaque;
 use crate::made::one_colour;
 use depth_raster::Raster;
 use draw_list::{DrawList, Item, Span, Tint};
 use fx_math::{Lens, MAX_COORDINATE, Vec3};
 use pf_model::{Geom, Tri, View};
+use pf_picture::draw_instances;
 use ppm_out::Image;
 use std::alloc::Global;
 use std::process::Abort;
 use std::test::Fail;
 use std::thread::Threads;
-use tri_cover::{Hit, cover};
 
 const BACK: [u8; 3] = [10, 20, 30];
 
@@ -87,17 +88,20 @@ fn list(alloc: Global) -> Result<DrawList, Fail>
     Ok(list)
 }
 
-/// The picture of a list, so wide and so high, through a lens of focal length 1.
+/// The lens of a picture so wide and so high, of a focal length in pixels.
+fn lens(width: u16, height: u16, focal: u16) -> Result<Lens, Fail> {
+    Ok(Lens::new(width, height, focal, 1, MAX_COORDINATE).ok_or("a lens out of range")?)
+}
+
+/// The picture of a list through a lens.
 fn drawn<R: Abort + Threads + Sync>(
     rt: &R,
     alloc: Global,
     list: &DrawList,
-    width: u16,
-    height: u16,
+    lens: &Lens,
 ) -> Result<Image, Fail> {
-    let lens = Lens::new(width, height, 1, 1, MAX_COORDINATE).ok_or("a lens out of range")?;
-    let mut image = Image::new(alloc, width, height)?;
-    let mut raster = Raster::new(alloc, &lens)?;
+    let mut image = Image::new(alloc, lens.w, lens.h)?;
+    let mut raster = Raster::new(alloc, lens)?;
     raster.draw(rt, list, BACK, &mut image);
     Ok(image)
 }
@@ -118,7 +122,7 @@ fn shows<R: Abort + Threads + Sync>(
     list: &DrawList,
     want: [u8; 3],
 ) -> Result<(), Fail> {
-    let image = drawn(rt, alloc, list, 2, 2)?;
+    let image = drawn(rt, alloc, list, &lens(2, 2, 1)?)?;
     assert_eq!(rt; colour(&image, 0, 0), Some(want));
     assert_eq!(rt; colour(&image, 1, 1), Some(want));
     Ok(())
@@ -175,7 +179,7 @@ fn shaded() -> Result<Tri, Fail> {
 #[test]
 fn shaded_triangle(rt: HostRuntime) -> Result<(), Fail> {
     let list = one(rt.alloc(), shaded()?)?;
-    let image = drawn(&rt, rt.alloc(), &list, 3, 1)?;
+    let image = drawn(&rt, rt.alloc(), &list, &lens(3, 1, 1)?)?;
     assert_eq!(rt; colour(&image, 0, 0), Some(BACK));
     assert_eq!(rt; colour(&image, 1, 0), Some(BACK));
     assert_eq!(rt; colour(&image, 2, 0), Some([127, 63, 63]));
@@ -243,7 +247,7 @@ fn far_away(alloc: Global) -> Result<DrawList, Fail> {
 #[test]
 fn clamped_coordinates(rt: HostRuntime) -> Result<(), Fail> {
     let list = far_away(rt.alloc())?;
-    let image = drawn(&rt, rt.alloc(), &list, 2, 2)?;
+    let image = drawn(&rt, rt.alloc(), &list, &lens(2, 2, 1)?)?;
     assert_eq!(rt; colour(&image, 1, 0), Some(BACK));
     assert_eq!(rt; colour(&image, 0, 1), Some(RED));
     Ok(())
@@ -280,21 +284,26 @@ fn two_panes_out_of_order(rt: HostRuntime) -> Result<(), Fail> {
     shows(&rt, rt.alloc(), &list, [1, 132, 70])
 }
 
-/// A triangle across three strips of two tiles has the colours of its hits.
-#[test]
-fn three_strips(rt: HostRuntime) -> Result<(), Fail> {
-    let lens = Lens::new(20, 40, 20, 1, MAX_COORDINATE).ok_or("a lens out of range")?;
-    let tri = shaded()?;
-    let list = one(rt.alloc(), tri)?;
-    let mut image = Image::new(rt.alloc(), 20, 40)?;
-    let mut raster = Raster::new(rt.alloc(), &lens)?;
-    raster.draw(&rt, &list, BACK, &mut image);
-    for py in 0..40 {
-        for px in 0..20 {
-            let want = cover(&tri, px, py, &lens).map_or(BACK, |hit| hit.colour);
-            assert_eq!(rt; colour(&image, px, py), Some(want));
+/// Two images show the same at each pixel.
+fn show_the_same(rt: &impl Abort, first: &Image, second: &Image) {
+    assert_eq!(rt; first.width(), second.width());
+    assert_eq!(rt; first.height(), second.height());
+    for py in 0..first.height() {
+        for px in 0..first.width() {
+            assert_eq!(rt; colour(first, px, py), colour(second, px, py));
         }
     }
+}
+
+/// A triangle across three strips of two tiles is drawn as the slow renderer draws it.
+#[test]
+fn three_strips(rt: HostRuntime) -> Result<(), Fail> {
+    let lens = lens(20, 40, 20)?;
+    let tri = shaded()?;
+    let list = one(rt.alloc(), tri)?;
+    let image = drawn(&rt, rt.alloc(), &list, &lens)?;
+    let plain = draw_instances(rt.alloc(), &[opaque(0, &[tri])], &lens, BACK)?;
+    show_the_same(&rt, &image, &plain);
     Ok(())
 }
 
@@ -347,32 +356,6 @@ fn random_tris(alloc: Global, count: usize) -> Result<Vec<Tri>, Fail> {
     Ok(tris)
 }
 
-/// The colour at a pixel by looking at each triangle there.
-fn plain(tris: &[Tri], px: u16, py: u16, lens: &Lens) -> [u8; 3]
-    requires x { px < lens.now.w }
-    requires y { py < lens.now.h }
-{
-    let mut best: Option<Hit> = None;
-    for tri in tris {
-        best = nearer(best, cover(tri, px, py, lens));
-    }
-    best.map_or(BACK, |hit| hit.colour)
-}
-
-fn nearer(best: Option<Hit>, hit: Option<Hit>) -> Option<Hit> {
-    match (best, hit) {
-        (Some(first), Some(second)) => {
-            if second.depth < first.depth {
-                Some(second)
-            } else {
-                Some(first)
-            }
-        }
-        (None, _) => hit,
-        (_, None) => best,
-    }
-}
-
 /// A list with one item of many triangles.
 fn many(alloc: Global, tris: &[Tri]) -> Result<DrawList, Fail> {
     let mut list = list(alloc)?;
@@ -388,20 +371,82 @@ fn many(alloc: Global, tris: &[Tri]) -> Result<DrawList, Fail> {
     Ok(list)
 }
 
-/// A hundred triangles across tiles and strips, with coordinates as great as can be among them, have the colours that
-/// looking at each of them at each pixel gives.
+/// A hundred triangles across tiles and strips, with coordinates as great as can be among them, are drawn as the slow renderer
+/// draws them.
 #[test]
 fn hundred_triangles(rt: HostRuntime) -> Result<(), Fail> {
-    let lens = Lens::new(37, 35, 30, 1, MAX_COORDINATE).ok_or("a lens out of range")?;
+    let lens = lens(37, 35, 30)?;
     let tris = random_tris(rt.alloc(), 100)?;
     let list = many(rt.alloc(), &tris)?;
-    let mut image = Image::new(rt.alloc(), 37, 35)?;
-    let mut raster = Raster::new(rt.alloc(), &lens)?;
-    raster.draw(&rt, &list, BACK, &mut image);
-    for py in 0..35 {
-        for px in 0..37 {
-            assert_eq!(rt; colour(&image, px, py), Some(plain(&tris, px, py, &lens)));
-        }
-    }
+    let image = drawn(&rt, rt.alloc(), &list, &lens)?;
+    let plain = draw_instances(rt.alloc(), &[opaque(0, &tris)], &lens, BACK)?;
+    show_the_same(&rt, &image, &plain);
     Ok(())
+}
+
+/// Keeps copies of a triangle under an id of their own.
+fn keep_copies(
+    alloc: Global,
+    list: &mut DrawList,
+    id: u16,
+    tri: Tri,
+    count: usize,
+) -> Result<Span, Fail>
+    requires { count ≤ 4096 }
+    ensures { length list.new.joints.lists ≡ length list.old.joints.lists }
+{
+    let geom = Geom::new(vec![in alloc; tri; count]?)?;
+    Ok(list.keep(id, &geom).ok_or("no room for triangles")?)
+}
+
+/// Sixteen times the same triangle, in a picture that is large enough for many threads, is drawn as the slow renderer draws
+/// it.
+#[test]
+fn threads(rt: HostRuntime) -> Result<(), Fail> {
+    let lens = lens(512, 512, 256)?;
+    let tri = shaded()?;
+    let mut list = list(rt.alloc())?;
+    let span = keep_copies(rt.alloc(), &mut list, 1, tri, 16)?;
+    push(&mut list, item(0, 0, span))?;
+    let image = drawn(&rt, rt.alloc(), &list, &lens)?;
+    let plain = draw_instances(rt.alloc(), &[opaque(0, &[tri])], &lens, BACK)?;
+    show_the_same(&rt, &image, &plain);
+    Ok(())
+}
+
+/// A pane over a red ground, in a picture that is large enough for threads.
+#[test]
+fn glass_by_threads(rt: HostRuntime) -> Result<(), Fail> {
+    let mut list = one(rt.alloc(), facing(4096, RED)?)?;
+    let span = keep(rt.alloc(), &mut list, 2, facing(2048, BLUE)?)?;
+    push(&mut list, pane(1, 9, span))?;
+    let image = drawn(&rt, rt.alloc(), &list, &lens(512, 512, 256)?)?;
+    assert_eq!(rt; colour(&image, 0, 0), Some([127, 0, 128]));
+    assert_eq!(rt; colour(&image, 511, 511), Some([127, 0, 128]));
+    Ok(())
+}
+
+/// A triangle, 16,384 red ones two units away, and another triangle.
+fn crowd(alloc: Global, first: Tri, last: Tri) -> Result<DrawList, Fail> {
+    let mut list = list(alloc)?;
+    list.reserve(8, 4098)?;
+    let span = keep(alloc, &mut list, 1, first)?;
+    push(&mut list, item(0, 0, span))?;
+    let span = keep_copies(alloc, &mut list, 2, facing(8192, RED)?, 4096)?;
+    push(&mut list, item(0, 1, span))?;
+    push(&mut list, item(0, 2, span))?;
+    push(&mut list, item(0, 3, span))?;
+    push(&mut list, item(0, 4, span))?;
+    let span = keep(alloc, &mut list, 3, last)?;
+    push(&mut list, item(0, 5, span))?;
+    Ok(list)
+}
+
+/// Of more triangles than are drawn together the nearest is seen, be it the first or the last.
+#[test]
+fn more_than_one_go(rt: HostRuntime) -> Result<(), Fail> {
+    let near = facing(4096, GREEN)?;
+    let far = facing(16384, BLUE)?;
+    shows(&rt, rt.alloc(), &crowd(rt.alloc(), near, far)?, GREEN)?;
+    shows(&rt, rt.alloc(), &crowd(rt.alloc(), far, near)?, GREEN)
 }

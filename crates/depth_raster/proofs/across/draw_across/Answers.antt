@@ -9,20 +9,20 @@ pub loop-t-init : goal.loop-t-init
 loop-t-init c =
     let a = c.args in
     let p = a.piece.now in
-    tiles_skipped (MarksFollow (face_over a.lens.now p.face)) a.tiles.now c.first_tile-start.result
+    tiles_skipped (MarksFollow (face_over a.lens.now p.face)) a.tiles.now c.tile_of-start.result
     (λ j d l below. let t = get_or a.tiles.now j d in
-    unmet_marked a.lens.now p.face t (unmet_left a.lens.now p a.band.now j t c.requires.ready (c.requires.tiles.blocks j d below) (tile_within a.lens.now a.band.now a.tiles.now j d c.requires.tiles c.requires.band below) (omega (arith, l, c.first_tile-start.ensures))))
+    unmet_marked a.lens.now p.face t (unmet_left a.lens.now p a.band.now j t c.requires.ready (c.requires.tiles.blocks j d below) (tile_within a.lens.now a.band.now a.tiles.now j d c.requires.tiles c.requires.band below) (omega (arith, l, c.tile_of-start.ensures, c.requires.slot.left))))
 
 pub loop-t-preserved : goal.loop-t-preserved
 loop-t-preserved c =
     let a = c.args in
     let f = face_over a.lens.now a.piece.now.face in
-    tile_drawn (MarksFollow f) a.tiles.now c.loop-t.tiles c.loop-t.t c.index-tiles-t.result c.draw_piece.new.tile c.loop-t.invariant c.loop-t.auto.tiles
+    tile_drawn (MarksFollow f) a.tiles.now c.loop-t.tiles c.loop-t.t c.index-tiles-t.result c.draw_before.new.tile c.loop-t.invariant c.loop-t.auto.tiles
     (omega (arith, c.loop-t-test.true, c.min-end.ensures, c.loop-t.auto.tiles)) c.index-tiles-t.is
-    (subst (λ (t : Tile). MarksFollow f t c.draw_piece.new.tile) (sym c.index-tiles-t.is) c.draw_piece.ensures)
+    (subst (λ (t : Tile). MarksFollow f t c.draw_before.new.tile) (sym c.index-tiles-t.is) c.draw_before.ensures)
 
-pub draw_piece-requires-clause-block : goal.draw_piece-requires-clause-block
-draw_piece-requires-clause-block c =
+pub draw_before-requires-clause-block : goal.draw_before-requires-clause-block
+draw_before-requires-clause-block c =
     let a = c.args in
     let d = c.index-tiles-t.result in
     subst (λ (t : Tile). IsBlockOf a.lens.now t.block) (sym (c.loop-t.invariant.ahead c.loop-t.t d (omega arith)))
@@ -35,4 +35,4 @@ returns c =
     tiles_rest (MarksFollow (face_over a.lens.now p.face)) a.tiles.now c.loop-t.tiles c.loop-t.t c.loop-t.invariant
     (λ j d l below. let t = get_or a.tiles.now j d in
     unmet_marked a.lens.now p.face t (unmet_right a.lens.now p a.band.now j t c.requires.ready (c.requires.tiles.blocks j d below) (tile_within a.lens.now a.band.now a.tiles.now j d c.requires.tiles c.requires.band below)
-    (omega (arith, l, below, c.loop-t-test.false, c.min-end.ensures, c.end_tile.ensures))))
+    (omega (arith, l, below, c.loop-t-test.false, c.min-end.ensures, c.tiles_before.ensures, c.requires.slot.right))))

@@ -1,11 +1,6 @@
 use Rattle.depth_raster.specs.Canvas.{face_glazed}
-use Rattle.depth_raster.proofs.Flushed.{face_open}
 use Rattle.depth_raster.proofs.Glazed.{kept, glazed_then, pane_more}
 use Rattle.depth_raster.proofs.glass.draw_face.Goals as goal
-
-pub returns-clause-sound : goal.returns-clause-sound
-returns-clause-sound g c =
-    face_open c.args.lens.now c.make_room.new.strips c.args.face c.make_room.new.batch.pieces.items c.push.new.self.pieces.items c.push.ensures c.make_room.ensures.sound
 
 pub returns-clause-glass : goal.returns-clause-glass
 returns-clause-glass g c =
@@ -13,4 +8,4 @@ returns-clause-glass g c =
     let s = c.make_room.new.strips in
     let ps = c.make_room.new.batch.pieces.items in
     glazed_then a.lens.now a.strips.now s s a.batch.now.pieces.items ps c.push.new.self.pieces.items kept (face_glazed a.lens.now a.face) c.make_room.ensures.glass
-    (pane_more a.lens.now s a.face ps c.push.new.self.pieces.items c.push.ensures)
+    (pane_more a.lens.now s a.face ps c.push.new.self.pieces.items c.push.ensures.pieces)

@@ -8,7 +8,7 @@ use Rattle.depth_raster.proofs.glass.draw_glass.Given as goal
 
 abbrev pub invariant-loop-count : goal.invariant-loop-count
 invariant-loop-count g l = record {
-  sound : IsOpen l.lens l.strips l.batch.pieces.items;
+  sound : IsOpen l.lens l.strips;
   left : length (panes_left (instances_in l.list) l.last) + l.count ≤ length l.list.items.items;
   behind : (px py : ℕ) → px < l.lens.w → py < l.lens.h → behind_at l.strips px py ≡ behind_at l.initial.strips px py;
   drawn : (px py : ℕ) → px < l.lens.w → py < l.lens.h

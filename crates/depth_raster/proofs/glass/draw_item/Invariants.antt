@@ -5,7 +5,7 @@ use Rattle.depth_raster.proofs.glass.draw_item.Given as goal
 
 abbrev pub invariant-loop-number : goal.invariant-loop-number
 invariant-loop-number g l = record {
-  sound : IsOpen l.lens l.strips l.batch.pieces.items;
+  sound : IsOpen l.lens l.strips;
   glass : Glazes l.lens l.initial.strips l.initial.batch.pieces.items l.strips l.batch.pieces.items
       (part_glazed l.lens (instance_of_item l.list.joints.lists l.list.kept.tris l.item) l.number);
 }

@@ -13,7 +13,7 @@ loop-number-preserved g c = record {
       let x = instance_of_item a.list.now.joints.lists a.list.now.kept.tris a.item.now in
       c.draw_face.ensures.drawn px py column row
       ∙ ap (face_drawn a.lens.now c.of-face.result px py) (c.loop-number.invariant.drawn px py column row)
-      ∙ part_more a.lens.now x c.loop-number.number c.in-Some.tri c.of-face.result px py (drawn_with a.lens.now a.strips.now a.batch.now.pieces.items px py) (sym c.in-Some.ensures) c.of-face.ensures;
+      ∙ part_more a.lens.now x c.loop-number.number c.in-Some.tri c.of-face.result px py (drawn_with a.lens.now a.batch.now.is_first a.strips.now a.batch.now.pieces.items px py) (sym c.in-Some.ensures) c.of-face.ensures;
 }
 
 pub returns-in-None-clause-drawn : goal.returns-in-None-clause-drawn
@@ -21,7 +21,7 @@ returns-in-None-clause-drawn g c = λ px py column row.
     let a = c.args in
     let x = instance_of_item a.list.now.joints.lists a.list.now.kept.tris a.item.now in
     c.loop-number.invariant.drawn px py column row
-    ∙ part_all a.lens.now x c.loop-number.number px py (drawn_with a.lens.now a.strips.now a.batch.now.pieces.items px py) (past_end x.tris c.loop-number.number (sym c.in-None.ensures))
+    ∙ part_all a.lens.now x c.loop-number.number px py (drawn_with a.lens.now a.batch.now.is_first a.strips.now a.batch.now.pieces.items px py) (past_end x.tris c.loop-number.number (sym c.in-None.ensures))
 
 pub returns-clause-drawn : goal.returns-clause-drawn
 returns-clause-drawn g c = λ px py column row.
@@ -29,4 +29,4 @@ returns-clause-drawn g c = λ px py column row.
     let x = instance_of_item a.list.now.joints.lists a.list.now.kept.tris a.item.now in
     let few : length x.tris ≤ c.loop-number.number = omega (arith, few_tris a.list.now.kept.tris a.item.now.geom) in
     c.loop-number.invariant.drawn px py column row
-    ∙ part_all a.lens.now x c.loop-number.number px py (drawn_with a.lens.now a.strips.now a.batch.now.pieces.items px py) few
+    ∙ part_all a.lens.now x c.loop-number.number px py (drawn_with a.lens.now a.batch.now.is_first a.strips.now a.batch.now.pieces.items px py) few

@@ -1,12 +1,15 @@
-use Rattle.std.proofs.Common.{List, ap, length, ◌∙◌, arith}
-use Rattle.depth_raster.specs.Canvas.{drawn_with}
-use Rattle.depth_raster.specs.declared.pieces.Piece.{Piece}
+use Rattle.std.proofs.Common.{ap, length, ◌∙◌, arith}
+use Rattle.depth_raster.proofs.Flushed.{underway_later, later_seen}
 use Rattle.depth_raster.proofs.opaque.make_room.Goals as goal
 
 pub returns-then-is_full : goal.returns-then-is_full
-returns-then-is_full g c = record {
-  sound = c.flush.ensures.sound;
-  room = omega (arith, ap length c.flush.ensures.empty);
-  drawn = λ px py column row.
-      ap (λ (ps : List Piece). drawn_with c.args.lens.now c.flush.new.strips ps px py) c.flush.ensures.empty ∙ c.flush.ensures.drawn px py column row;
-}
+returns-then-is_full g c =
+    let lens = c.args.lens.now in
+    let b = c.flush.new.batch in
+    let strips = c.flush.new.strips in
+    record {
+      sound = underway_later lens b.is_first strips c.flush.ensures.sound;
+      room = omega (arith, ap length c.flush.ensures.empty);
+      drawn = λ px py column row.
+          later_seen lens b.is_first strips b.pieces.items px py c.flush.ensures.later c.flush.ensures.empty ∙ c.flush.ensures.drawn px py column row;
+    }

@@ -13,7 +13,7 @@ loop-index-preserved c =
       capacity = omega (arith, c.append.ensures.capacity, c.loop-index.invariant.capacity);
       count = omega (arith, ap length c.append.ensures.items, length-append ss (s ∷ []), c.loop-index.invariant.count);
       slots = subst (λ (ts : List Slot). SlotsSoFar ps ts (i + 1)) (sym c.append.ensures.items)
-          (slot_more ps ss i c.index-pieces-index.result s c.loop-index.invariant.slots c.loop-index-test.true c.index-pieces-index.is c.slot_of.ensures.index c.slot_of.ensures.top c.slot_of.ensures.bottom);
+          (slot_more ps ss i c.index-pieces-index.result s c.loop-index.invariant.slots c.loop-index-test.true c.index-pieces-index.is c.slot_of.ensures.index c.slot_of.ensures.slot);
     }
 
 pub returns-clause-slots : goal.returns-clause-slots

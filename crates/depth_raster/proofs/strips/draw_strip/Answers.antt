@@ -1,16 +1,49 @@
-use Rattle.std.proofs.Common.{◌/◌, List, sym, subst, arith}
+use Rattle.std.proofs.Common.{◌≡◌, ◌/◌, List, length, ap, sym, ◌∙◌, subst, arith}
+use Rattle.std.proofs.lemmas.List.{with_items_is}
 use Rattle.depth_raster.specs.Shares.{AreSlotsFor}
+use Rattle.depth_raster.specs.Strips.{AreTilesOf, TilesRelate}
+use Rattle.depth_raster.specs.Tiles.{IsDrawn, IsDrawnFrom}
 use Rattle.depth_raster.specs.declared.share.Share.{Share}
 use Rattle.depth_raster.specs.declared.slots.Slot.{Slot}
+use Rattle.depth_raster.specs.declared.tile.Tile.{Tile}
+use Rattle.depth_raster.proofs.Drawn.{strip_begun, tiles_drawn_from}
 use Rattle.depth_raster.proofs.Shared.{share_for}
 use Rattle.depth_raster.proofs.strips.draw_strip.Goals as goal
 
-pub draw_tiles-requires-clause-slots : goal.draw_tiles-requires-clause-slots
-draw_tiles-requires-clause-slots c =
+pub bounds-shares-band : goal.bounds-shares-band
+bounds-shares-band c =
+    let is = strip_begun c.args.lens.now c.args.is_first c.args.strip.now c.begin_strip.new.strip c.requires.strip c.begin_strip.ensures in
+    omega (arith, c.requires.shares.count, is.begins, c.args.lens.now.in_range.most_height)
+
+pub draw_tiles-requires : goal.draw_tiles-requires
+draw_tiles-requires c =
     let a = c.args in
-    let b = a.strip.now.band in
-    let s = c.index-shares-band.result in
-    subst (λ (ss : List Slot). AreSlotsFor a.lens.now a.pieces.now b ss) (sym c.deref.ensures.value)
-    (subst (λ (t : Share). AreSlotsFor a.lens.now a.pieces.now b t.slots.items) (sym c.index-shares-band.is)
-    (share_for a.lens.now a.pieces.now a.shares.now b (b.first / 64) s c.requires.shares
-    (omega (arith, c.requires.shares.count, c.requires.strip.begins, a.lens.now.in_range.most_height)) c.requires.strip.band.rows c.requires.strip.share))
+    let s = c.begin_strip.new.strip in
+    let b = s.band in
+    let is = strip_begun a.lens.now a.is_first a.strip.now s c.requires.strip c.begin_strip.ensures in
+    let t = c.index-shares-band.result in
+    record {
+      tiles = subst (λ (ts : List Tile). AreTilesOf b ts) (sym c.deref_mut.ensures.value) is.tiles;
+      band = is.band;
+      pieces = c.requires.pieces;
+      ranks = c.requires.ranks;
+      slots = subst (λ (ss : List Slot). AreSlotsFor a.lens.now a.pieces.now b ss) (sym c.deref.ensures.value)
+          (subst (λ (u : Share). AreSlotsFor a.lens.now a.pieces.now b u.slots.items) (sym c.index-shares-band.is)
+          (share_for a.lens.now a.pieces.now a.shares.now b (b.first / 64) t c.requires.shares
+          (omega (arith, c.requires.shares.count, is.begins, a.lens.now.in_range.most_height)) is.band.rows is.share));
+    }
+
+pub returns : goal.returns
+returns c =
+    let a = c.args in
+    let s = c.begin_strip.new.strip in
+    let after = c.draw_tiles.new.tiles in
+    let long : length after ≡ s.tiles.len = c.draw_tiles.auto.tiles ∙ c.deref_mut.ensures.len in
+    let written = with_items_is s.tiles after long in
+    let drawn = subst (λ (ts : List Tile). TilesRelate (IsDrawn a.lens.now a.back a.pieces.now) ts after) c.deref_mut.ensures.value c.draw_tiles.ensures in
+    record {
+      band = c.begin_strip.ensures.band;
+      count = ap (λ (ts : List Tile). length ts) written ∙ long ∙ s.tiles.ok.0 ∙ c.begin_strip.ensures.count;
+      tiles = subst (λ (ts : List Tile). TilesRelate (IsDrawnFrom a.lens.now a.back a.pieces.now a.is_first) a.strip.now.tiles.items ts) (sym written)
+          (tiles_drawn_from a.lens.now a.back a.pieces.now a.is_first a.strip.now s after c.begin_strip.ensures drawn);
+    }

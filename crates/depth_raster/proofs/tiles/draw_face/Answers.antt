@@ -1,6 +1,7 @@
-use Rattle.std.proofs.Common.{ℕ, ◌+◌, ◌<◌, subst, arith}
+use Rattle.std.proofs.Common.{ℕ, ◌+◌, ◌<◌, List, get_or, refl, sym, subst, arith}
 use Rattle.depth_raster.specs.Around.{IsWithin}
 use Rattle.depth_raster.specs.Edges.{AreValuesAt}
+use Rattle.depth_raster.specs.Following.{PixelsFollow}
 use Rattle.depth_raster.specs.Marks.{no_mark}
 use Rattle.depth_raster.specs.Tiles.{mark_in, within, face_over}
 use Rattle.depth_raster.specs.declared.marks.Mark.{Mark}
@@ -31,10 +32,13 @@ loop-q-preserved c =
       top = c.requires.top;
       bottom = c.requires.bottom;
     } in
-    let here = c.nearer-nearer.ensures a.lens.now (b.left + q) (b.first + a.r) (omega (arith, column, c.requires.block.columns)) (omega (arith, c.requires.row, c.requires.block.rows)) c.requires.ready inside c.loop-q.invariant.values in
+    let f = within b (face_over a.lens.now a.piece.now.face) in
+    let place = c.place.result in
+    let here = c.draw_pixel.ensures a.lens.now (b.left + q) (b.first + a.r) (omega (arith, column, c.requires.block.columns)) (omega (arith, c.requires.row, c.requires.block.rows)) c.requires.ready inside c.loop-q.invariant.values in
     record {
-      drawn = pixel_written (λ (m : Mark). m) no_mark b (mark_in b a.marks.now) c.loop-q.marks (within b (face_over a.lens.now a.piece.now.face))
-          a.r q c.place-place.result c.nearer-nearer.result c.loop-q.invariant.drawn (omega arith) column c.requires.row c.place-place.ensures here;
+      drawn = subst (λ (ms : List Mark). PixelsFollow b (mark_in b a.marks.now) (mark_in b ms) f a.r (q + 1)) (sym here)
+          (pixel_written (λ (m : Mark). m) no_mark b (mark_in b a.marks.now) c.loop-q.marks f a.r q place (f q a.r (get_or c.loop-q.marks place no_mark))
+          c.loop-q.invariant.drawn (omega arith) column c.requires.row c.place.ensures refl);
       values = subst (λ (n : ℕ). AreValuesAt a.face.now n (b.first + a.r) c.plus-values.result) (omega arith)
           (values_next a.face.now (b.left + q) (b.first + a.r) c.loop-q.values c.steps-steps.result c.plus-values.result c.loop-q.invariant.values c.steps-steps.ensures c.plus-values.ensures);
     }

@@ -5,10 +5,9 @@ use Rattle.depth_raster.proofs.batch.Batch.push.Goals as goal
 abbrev ranked : Face → ℕ → Face
 ranked f n = record f { rank = n }
 
-pub returns : goal.returns
-returns c = record {
-  piece = c.new-piece.result;
+pub returns-clause-pieces : goal.returns-clause-pieces
+returns-clause-pieces c = record {
+  piece = c.bare-piece.result;
   pieces = c.append.ensures.items;
-  face = c.new-piece.ensures.face ∙ ap (ranked c.args.face) (ap (λ (n : ℕ). n + 1) (c.len.ensures ∙ c.args.self.now.pieces.ok.0));
-  ready = c.new-piece.ensures.ready;
+  face = c.bare-piece.ensures ∙ ap (ranked c.args.face) (ap (λ (n : ℕ). n + 1) (c.len.ensures ∙ c.args.self.now.pieces.ok.0));
 }

@@ -9,7 +9,7 @@ use Rattle.depth_raster.proofs.mixing.Sums.colour.Goals as goal
 pub returns-in-Some : goal.returns-in-Some
 returns-in-Some c =
     let a = c.args in
-    let means = subst (λ (o : Option (List ℕ)). IfSome o (AreMeansBy a.self.now)) c.in-Some.is c.means.ensures in
+    let means = subst (λ (o : Option (List ℕ)). IfSome o (AreMeansBy a.self.now)) c.in-Some.is c.means.ensures.means in
     mixed_shade a.face.now a.px a.py a.self.now c.in-Some.colour c.requires.sums means
 
 pub means-requires : goal.means-requires

@@ -4,7 +4,7 @@ use Rattle.std.proofs.lemmas.List.Elements.{All-more, All-weaker}
 use Rattle.std.specs.List.{All}
 use Rattle.depth_raster.specs.declared.marks.Mark.{Mark}
 use Rattle.depth_raster.specs.Marks.{no_mark}
-use Rattle.depth_raster.proofs.tiles.greatest_depth.Goals as goal
+use Rattle.depth_raster.proofs.tiles.greatest_within.Goals as goal
 use Rattle.std.proofs.Common.{List}
 
 pub loop-mark-preserved : goal.loop-mark-preserved

@@ -2,7 +2,7 @@ use Rattle.std.proofs.Common.{◌+◌}
 use Rattle.depth_raster.specs.Blocks.{colour_in}
 use Rattle.depth_raster.specs.Following.{SpanRelates}
 use Rattle.depth_raster.specs.Mixing.{AreSumsAt, shaded_within}
-use Rattle.depth_raster.proofs.painting.paint_face.Given as goal
+use Rattle.depth_raster.proofs.painting.paint_steps.Given as goal
 
 abbrev pub invariant-loop-q : goal.invariant-loop-q
 invariant-loop-q l = record {
