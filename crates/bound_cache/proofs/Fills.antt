@@ -18,6 +18,13 @@ same_more [] x h (suc k) = refl
 same_more (y ∷ ys) x h zero = h 0
 same_more (y ∷ ys) x h (suc k) = same_more ys x (λ j. h (suc j)) k
 
+-- an entry that says nothing
+pub none_more : {X : Type 0} (xs : List (Option X)) (k : ℕ) → get_or (xs ++ None ∷ []) k None ≡ get_or xs k None
+none_more [] zero = refl
+none_more [] (suc k) = refl
+none_more (x ∷ xs) zero = refl
+none_more (x ∷ xs) (suc k) = none_more xs k
+
 pub same_past : {X : Type 0} (xs : List X) (x : X) → ((k : ℕ) → k < length xs → get_or xs k x ≡ x) → (k : ℕ) → get_or xs k x ≡ x
 same_past [] x h k = refl
 same_past (y ∷ ys) x h zero = h 0 (omega arith)
@@ -56,6 +63,12 @@ boxed_table bs ms id b l = λ i. record {
   boxes = λ k. (ap (λ x. option_map bounds_of x) (read_set bs id b None k l) ∙ read_map (λ x. option_map bounds_of x) (k == id) b (get_or bs k None)) i;
   marks = λ k. get_or ms k Clean;
 }
+
+-- the same where the boxes have had further entries
+pub boxed_longer : (bs longer : List (Option Box3)) (ms : List Mark) (id : ℕ) (b : Option Box3) → id < length longer → ((k : ℕ) → get_or longer k None ≡ get_or bs k None) → table (set longer id b) ms ≡ with_box id (option_map bounds_of b) (table bs ms)
+boxed_longer bs longer ms id b l same =
+    boxed_table longer ms id b l
+    ∙ (λ i. with_box id (option_map bounds_of b) (record { boxes = λ k. option_map bounds_of (same k i); marks = λ k. get_or ms k Clean }))
 
 -- marks at the end of which all are clean, and from the start of which some are made so
 pub record ClearedBelow (count place : ℕ) (was marks : List Mark) : Type 0 where

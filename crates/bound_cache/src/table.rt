@@ -1,13 +1,13 @@
 //! The boxes of all ids, and the pass of a clean over them.
 ghost use Rattle.std.specs.Prelude.{◌≡◌, ℕ, ◌+◌, ◌<◌, ◌≤◌, true, None, map, max, length, slice_index_or, IfOk};
-ghost use Rattle.std.specs.Vec.{vec_len};
+ghost use Rattle.std.specs.Vec.{vec_len, vec_capacity};
 ghost use Rattle.std.specs.List.{list_any};
 ghost use Rattle.std.specs.Option.{option_map};
 ghost use Rattle.fx_math.specs.Views.{bounds_of};
 ghost use Rattle.pf_model.specs.Graphs.{Look};
 ghost use Rattle.pf_model.specs.Laws.{AreLow};
 ghost use Rattle.pf_model.specs.Boxes.{hull_of_all, box_from, box_step};
-ghost use Rattle.bound_cache.specs.Sizes.{AreForAllIds, AreCleanFrom};
+ghost use Rattle.bound_cache.specs.Sizes.{AreCleanFrom};
 ghost use Rattle.bound_cache.specs.declared.marks.Mark.TheVariants.{Clean};
 ghost use Rattle.bound_cache.specs.Tables.{is_seen, is_changed, is_stale, with_box, with_mark, settled};
 ghost use Rattle.bound_cache.specs.Tables.{FitsLevels, StaysHalfway, IsReached, Proceeds};
@@ -25,13 +25,15 @@ const IDS: usize = 65_536;
 /// The nodes on the longest chain of a scene within the limits.
 const MAX_LEVELS: u8 = 32;
 
-/// The box and the mark of each id, and one more than the greatest id that was marked since the marks were forgotten.
+/// The box and the mark of each id, and one more than the greatest id that was marked since the marks were forgotten. There
+/// is memory for the boxes of all ids, and as many are written as the greatest id that has had one asks.
 #[derive(Debug, Drop)]
 pub(crate) struct BoxTable {
     boxes: Vec<Option<Box3>>,
     marks: Vec<Mark>,
     marked: u32,
-    ghost sized: { AreForAllIds boxes.items marks.items },
+    ghost reserved: { 65536 ≤ vec_capacity boxes },
+    ghost sized: { length marks.items ≡ 65536 },
     ghost unmarked: { AreCleanFrom marked marks.items },
 }
 
@@ -45,6 +47,18 @@ fn filled<T: Copy>(alloc: Global, item: T, count: usize) -> Result<Vec<T>, NoMem
         items.push(item)?;
     }
     Ok(items)
+}
+
+/// Writes no box for further ids, until this many ids have an entry; there is memory for them.
+fn lengthen(boxes: &mut Vec<Option<Box3>>, count: usize)
+    requires { count ≤ vec_capacity boxes.old }
+    ensures count { count ≤ vec_len boxes.new }
+    ensures capacity { vec_capacity boxes.new ≡ vec_capacity boxes.old }
+    ensures boxes { (k : ℕ) → slice_index_or boxes.new.items k None ≡ slice_index_or boxes.old.items k None }
+{
+    for place in boxes.len()..count {
+        boxes.push_reserved(None);
+    }
 }
 
 /// Makes the first marks clean, after which all are.
@@ -67,7 +81,7 @@ impl BoxTable {
         ensures boxes { IfOk result (λ t. (id : ℕ) → (table_of t).boxes id ≡ None) }
         ensures marks { IfOk result (λ t. (id : ℕ) → (table_of t).marks id ≡ Clean) }
     {
-        let boxes = filled(alloc, None, IDS)?;
+        let boxes = Vec::with_capacity(alloc, IDS)?;
         let marks = filled(alloc, Mark::Clean, IDS)?;
         Ok(BoxTable {
             boxes,
@@ -80,7 +94,11 @@ impl BoxTable {
     pub(crate) fn box_of(&self, id: u16) -> Option<Box3>
         ensures { option_map bounds_of result ≡ (table_of self.now).boxes id }
     {
-        self.boxes[id as usize]
+        if let Some(around) = self.boxes.get(id as usize) {
+            *around
+        } else {
+            None
+        }
     }
 
     /// The mark of an id.
@@ -102,6 +120,7 @@ impl BoxTable {
     fn set_box(&mut self, id: u16, around: Option<Box3>)
         ensures { table_of self.new ≡ with_box id (option_map bounds_of around) (table_of self.old) }
     {
+        lengthen(&mut self.boxes, id as usize + 1);
         self.boxes[id as usize] = around;
     }
 

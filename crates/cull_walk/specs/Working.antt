@@ -1,5 +1,5 @@
 -- The cull as a function of its list: what it does on every scene, also where room is missing.
-use Rattle.std.specs.Prelude.{ℕ, zero, suc, ◌+◌, ◌*◌, min, ◌==◌, if◌then◌else◌, List, fold, length, Option, Some, None, option_map}
+use Rattle.std.specs.Prelude.{ℕ, zero, suc, ◌+◌, ◌-◌, ◌*◌, min, [], ◌∷◌, replicate, ◌==◌, if◌then◌else◌, List, fold, length, Option, Some, None, option_map}
 use Rattle.std.specs.Option.{option_map_or}
 use Rattle.fx_math.specs.Plain.{Bounds}
 use Rattle.fx_math.specs.declared.lenses.Lens.{Lens}
@@ -12,7 +12,8 @@ use Rattle.pf_model.specs.declared.poses.Pose.TheVariants as pose
 use Rattle.pf_model.specs.Graphs.{Look}
 use Rattle.pf_model.specs.Kinds.{Surface, surface_of, pose_steps, decal}
 use Rattle.pf_model.specs.Boxes.{squared_distance, eye_box}
-use Rattle.pf_model.specs.Walks.{shown_children, chosen_in}
+use Rattle.pf_model.specs.Angles.{Viewpoint}
+use Rattle.pf_model.specs.Walks.{shown_children, chosen_in, steps_of_view}
 use Rattle.draw_list.specs.declared.items.Item.{Item}
 use Rattle.draw_list.specs.declared.items.Span.{Span}
 use Rattle.draw_list.specs.declared.items.Tint.{Tint}
@@ -126,3 +127,20 @@ met visit s w a (Some around) = option_map_or (entered visit s w a around) (s.lo
 unfoldable pub culled : ℕ → Scene → Work → At → Work
 culled zero s w a = w
 culled (suc n) s w a = met (culled n s) s (tested w) a (box_in_sight s w.list a)
+
+-- the list with nothing in it but the view as its joint 0; all room is free
+abbrev pub emptied : Viewpoint → Drawables → Drawables
+emptied view d =
+    record {
+      joints = record { lists = steps_of_view view ∷ []; spare = d.joints.spare + length d.joints.lists - 1 };
+      items = record { items = []; spare = d.items.spare + length d.items.items };
+      kept = record { tris = []; spans = replicate (length d.kept.spans) None; spare = d.kept.spare + length d.kept.tris };
+    }
+
+-- the root of the scene, below the view
+abbrev pub root : At
+root = record { id = 0; joint = 0; shift = 0 }
+
+-- the cull of a whole scene 32 nodes deep, from an emptied list on
+abbrev pub walked : Scene → Viewpoint → Drawables → ℕ → Work
+walked s view d tests = culled 32 s (record { list = emptied view d; tests = tests; visited = 0 }) root

@@ -4,11 +4,13 @@ ghost use Rattle.std.specs.Option.{option_map};
 ghost use Rattle.fx_math.specs.Views.{bounds_of};
 ghost use Rattle.pf_model.specs.Kinds.{surface_of};
 ghost use Rattle.pf_model.specs.Boxes.{eye_box};
+ghost use Rattle.pf_model.specs.Walks.{steps_of_view};
 ghost use Rattle.draw_list.specs.Joints.{steps_at};
 ghost use Rattle.draw_list.specs.Lists.{instances_in};
+ghost use Rattle.draw_list.specs.Order.{state_count};
 ghost use Rattle.draw_list.specs.Shown.{shown, visited, stats_of};
 ghost use Rattle.cull_walk.specs.Premises.{CanBeExact, unnamed};
-ghost use Rattle.cull_walk.specs.Working.{Work, At, Scene, counted, in_frustum, with_drawn, own_pose, joint_below, with_below, tint_at, culled};
+ghost use Rattle.cull_walk.specs.Working.{Work, At, Scene, counted, in_frustum, with_drawn, own_pose, joint_below, with_below, tint_at, culled, walked};
 
 use draw_list::{DrawList, Item, Stats, Tint};
 use fx_math::{Box3, Lens};
@@ -19,7 +21,8 @@ use std::sync::ledger::Ledger;
 /// Fills a list with what a scene shows at a time, for a view and through a lens, in the order of the walk. A node that is
 /// outside the frustum is left with all below it, and so costs one test; each test of a node is a step of `steps`.
 ///
-/// On every scene it goes no deeper than 32 nodes, and leaves out what finds no room. It takes no memory.
+/// On every scene it goes no deeper than 32 nodes, and leaves out what finds no room: an item or triangles alone, and with a
+/// joint all below it. What it leaves of the room is what was not filled, and the joint 0 is the view. It takes no memory.
 pub fn cull<V: SceneView, L: Ledger>(
     scene: &V,
     time: u32,
@@ -28,6 +31,16 @@ pub fn cull<V: SceneView, L: Ledger>(
     out: &mut DrawList,
     steps: &mut Steps<L>,
 ) -> Stats
+    ensures walk { let sight : Scene = record { look = V.look scene.now; boxes = V.boxes scene.now; lens = lens.now; time = time } in
+        let there : Work = record { list = out.new; tests = steps.new; visited = result.visited } in
+        there ≡ walked sight view.now out.old steps.old }
+    ensures items { result.shown ≡ length out.new.items.items }
+    ensures states { result.states ≡ state_count (instances_in out.new) }
+    ensures joint_zero { steps_at out.new.joints.lists 0 ≡ steps_of_view view.now }
+    ensures item_room { out.new.items.spare + length out.new.items.items ≡ out.old.items.spare + length out.old.items.items }
+    ensures joint_room { out.new.joints.spare + length out.new.joints.lists
+        ≡ out.old.joints.spare + length out.old.joints.lists }
+    ensures tri_room { out.new.kept.spare + length out.new.kept.tris ≡ out.old.kept.spare + length out.old.kept.tris }
     ensures list { CanBeExact (V.look scene.now) (V.boxes scene.now) time out.old
         → instances_in out.new ≡ map unnamed (shown (V.look scene.now) time view.now lens.now) }
     ensures numbers { CanBeExact (V.look scene.now) (V.boxes scene.now) time out.old

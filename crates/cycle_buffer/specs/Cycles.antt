@@ -1,5 +1,5 @@
 -- What clauses see of cycle buffers.
-use Rattle.std.specs.Prelude.{◌≡◌, ℕ, ◌+◌, ◌-◌, ◌≤◌, max, Bool, ◌&&◌, ◌==◌, nat_lt, if◌then◌else◌, List, length, Option}
+use Rattle.std.specs.Prelude.{◌≡◌, ⊤, ℕ, ◌+◌, ◌-◌, ◌≤◌, max, Bool, ◌&&◌, ◌==◌, nat_lt, if◌then◌else◌, List, length, Option, Some, None}
 use Rattle.std.specs.List.{All}
 use Rattle.std.specs.Map.{lookup}
 use Rattle.std.specs.BTreeMap.{is_at}
@@ -63,9 +63,9 @@ cycle_at c serial = lookup (is_at (nat_cmp serial)) c.cycles
 abbrev pub written_at : CyclesState → ℕ → Option (List Tri)
 written_at c serial = option_map (λ x. x.written) (cycle_at c serial)
 
--- the number of free copies under a serial
+-- the number of free copies under a serial; one that has no cycle counts as many as a new one gets
 abbrev pub free_at : CyclesState → ℕ → ℕ
-free_at c serial = option_map_or (λ x. x.free) (cycle_at c serial) 0
+free_at c serial = option_map_or (λ x. x.free) (cycle_at c serial) c.copies
 
 -- the number of copies under a serial
 abbrev pub copies_at : CyclesState → ℕ → ℕ
@@ -74,6 +74,16 @@ copies_at c serial = option_map_or (λ x. x.copies) (cycle_at c serial) 0
 -- the number of copies that are out under a serial
 abbrev pub out_at : CyclesState → ℕ → ℕ
 out_at c serial = option_map_or out_of (cycle_at c serial) 0
+
+-- a cycle has at least so many copies, and at most so many
+abbrev pub HasBetween : ℕ → ℕ → Option CycleState → Type 0
+HasBetween least most None = ⊤
+HasBetween least most (Some c) = (least ≤ c.copies) × (c.copies ≤ most)
+
+-- What the type of cycles keeps: each has at least the copies that a new one gets, and at most the greatest number that
+-- one has had.
+abbrev pub AreBetween : CyclesState → Type 0
+AreBetween c = (s : ℕ) → HasBetween c.copies c.most (cycle_at c s)
 
 -- What the type of a cycle keeps: each free copy is as long as what was written, the free ones are among the copies,
 -- and there is room for all of them.

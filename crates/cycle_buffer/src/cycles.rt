@@ -6,7 +6,7 @@ ghost use Rattle.std.specs.Ordering.{nat_cmp};
 ghost use Rattle.std.specs.BTreeMap.{get};
 ghost use Rattle.pf_model.specs.declared.geometry.Tri.{Tri};
 ghost use Rattle.cycle_buffer.specs.Cycles.{cycle_at, written_at, free_at, copies_at, out_at, out_of, most_of};
-ghost use Rattle.cycle_buffer.specs.Cycles.{fresh, cut, grown, rewritten, after_home};
+ghost use Rattle.cycle_buffer.specs.Cycles.{fresh, cut, grown, rewritten, after_home, AreBetween};
 
 use crate::cycle::Cycle;
 use pf_io::NoMemory;
@@ -25,11 +25,13 @@ pub struct Cycles {
 }
 
 impl Model for Cycles {
-    ghost use Rattle.cycle_buffer.specs.Cycles.{CyclesState};
+    ghost use Rattle.cycle_buffer.specs.Cycles.{CyclesState, AreBetween};
 
     ghost Value = { CyclesState };
 
     ghost view = { λ c. record { cycles = c.cycles.entries; copies = c.copies; most = c.most } };
+
+    ghost invariant = { λ c. AreBetween (record { cycles = c.cycles.entries; copies = c.copies; most = c.most }) };
 }
 
 impl Cycles {
@@ -58,7 +60,7 @@ impl Cycles {
     {
         let cycle = Cycle::new(self.alloc, tris, self.copies)?;
         self.cycles.insert(serial, cycle)?;
-        self.note(u32::from(self.copies));
+        note(&mut self.most, u32::from(self.copies));
         Ok(())
     }
 
@@ -68,6 +70,7 @@ impl Cycles {
         ensures written { cycle_at self.new serial ≡ option_map (rewritten tris.now) (cycle_at self.old serial) }
         ensures others { (s : ℕ) → s ≢ serial → cycle_at self.new s ≡ cycle_at self.old s }
         ensures out { (s : ℕ) → out_at self.new s ≡ out_at self.old s }
+        ensures counts { (s : ℕ) → copies_at self.new s ≡ copies_at self.old s }
         ensures copies { self.new.copies ≡ self.old.copies }
         ensures most { self.new.most ≡ self.old.most }
     {
@@ -98,6 +101,7 @@ impl Cycles {
             → out_at self.new serial ≡ out_at self.old serial - 1 }
         ensures others_out { (s : ℕ) → s ≢ serial → out_at self.new s ≡ out_at self.old s }
         ensures no_more_out { (s : ℕ) → out_at self.new s ≤ out_at self.old s }
+        ensures counts { (s : ℕ) → copies_at self.new s ≡ copies_at self.old s }
         ensures copies { self.new.copies ≡ self.old.copies }
         ensures most { self.new.most ≡ self.old.most }
     {
@@ -106,32 +110,33 @@ impl Cycles {
         }
     }
 
-    /// Notes that a cycle has had so many copies.
-    fn note(&mut self, copies: u32)
-        ensures cycles { self.new.cycles ≡ self.old.cycles }
-        ensures copies { self.new.copies ≡ self.old.copies }
-        ensures most { self.new.most ≡ max self.old.most copies }
-    {
-        if self.most < copies {
-            self.most = copies;
-        }
-    }
-
-    /// The greatest number of copies that a cycle has had, and 0 before the first.
+    /// The greatest number of copies that a cycle has had, and 0 before the first. No cycle has more, nor fewer than a
+    /// new one gets.
     pub fn most(&self) -> u32
-        ensures { result ≡ self.now.most }
+        ensures value { result ≡ self.now.most }
+        ensures between { AreBetween self.now }
     {
         self.most
     }
 }
 
+/// Notes that a cycle has had so many copies.
+fn note(most: &mut u32, copies: u32)
+    ensures { most.new ≡ max most.old copies }
+{
+    if *most < copies {
+        *most = copies;
+    }
+}
+
 /// Whether the cycle of a serial has a free copy.
 fn has_free(cycles: &BTreeMap<u32, Cycle>, serial: u32) -> bool
-    ensures { result ≡ nat_lt 0 (option_map_or (λ c. c.free) (get nat_cmp cycles.now serial) 0) }
+    requires { is_some (get nat_cmp cycles.now serial) ≡ true }
+    ensures { option_map (λ c. nat_lt 0 c.free) (get nat_cmp cycles.now serial) ≡ Some result }
 {
     match cycles.get(&serial) {
         Some(cycle) => 0 < cycle.free(),
-        None => false,
+        None => unreachable!(),
     }
 }
 
@@ -196,7 +201,7 @@ impl Arrays for Cycles {
             return Ok(());
         }
         let copies = grow(&mut self.cycles, serial)?;
-        self.note(copies);
+        note(&mut self.most, copies);
         Ok(())
     }
 

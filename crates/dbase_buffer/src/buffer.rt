@@ -1,6 +1,7 @@
 //! The buffer: a scene graph of its own, the recorded edits, and how many edits were dropped.
 ghost use Rattle.std.specs.Prelude.{◌≡◌, ◌-◌, ◌^◌, ◌<◌, true, None, length, IfOk, IfErr, OnOk, OnErr};
 ghost use Rattle.std.specs.List.{list_all};
+ghost use Rattle.std.specs.Result.{IsErrOf};
 ghost use Rattle.pf_model.specs.Edits.{fault_of};
 ghost use Rattle.pf_model.specs.Merges.{empty_buffer, judged, recorded};
 ghost use Rattle.pf_model.specs.Fits.{fits};
@@ -72,8 +73,25 @@ impl Buffer {
         self.graph.next_serial()
     }
 
+    /// Why an edit is not recorded that finds no room: its fault, for which it is counted as dropped,
+    /// or want of memory.
+    fn refuse_without_room(&mut self, e: &Edit) -> BufferError
+        requires { self.old.dropped < 2 ^ 32 - 1 }
+        ensures fault { TellsFault result (fault_of self.old.graph e.now) }
+        ensures memory { result ≡ BufferError.NoMemory → fault_of self.old.graph e.now ≡ None }
+        ensures left { self.new ≡ left_by result self.old e.now }
+    {
+        match self.graph.judge(e) {
+            Some(fault) => {
+                self.dropped += 1;
+                BufferError::Fault(fault)
+            }
+            None => BufferError::NoMemory,
+        }
+    }
+
     /// Judges an edit in the buffer's graph: it is made there and recorded, or it has a fault there
-    /// and is counted as dropped. Want of memory may come before the fault.
+    /// and is counted as dropped. Want of memory comes only where it has no fault.
     #[tactic(auto, using(crate::proofs::Fitting::one_more_fits))]
     pub fn edit(&mut self, e: Edit) -> Result<(), BufferError>
         requires serials { self.old.graph.next_serial < 2 ^ 32 - 1 }
@@ -82,9 +100,12 @@ impl Buffer {
         ensures done { OnOk result (fault_of self.old.graph e ≡ None) }
         ensures recorded { OnOk result (self.new ≡ judged self.old e) }
         ensures fault { IfErr result (λ r. TellsFault r (fault_of self.old.graph e)) }
+        ensures memory { IsErrOf result BufferError.NoMemory → fault_of self.old.graph e ≡ None }
         ensures left { IfErr result (λ r. self.new ≡ left_by r self.old e) }
     {
-        self.edits.reserve(1)?;
+        if self.edits.reserve(1).is_err() {
+            return Err(self.refuse_without_room(&e));
+        }
         match self.graph.edit(&e) {
             Ok(()) => {
                 self.edits.push_reserved(e);

@@ -2,3 +2,4 @@ mod StepLaws
 mod StepLists
 mod Marks
 mod Orders
+pub mod Listed

@@ -5,3 +5,4 @@ pub mod Joints
 pub mod Items
 pub mod Kept
 pub mod Lists
+pub mod Listed

@@ -1,17 +1,15 @@
 //! The triangles that a draw list keeps, each geode's once.
-ghost use Rattle.std.specs.Prelude.{◌≡◌, ℕ, ◌+◌, ◌^◌, ◌<◌, ◌≤◌, [], None, replicate, length, slice_get, slice_index_or, IfOk, OnOk, OnErr};
+ghost use Rattle.std.specs.Prelude.{◌≡◌, ℕ, ◌+◌, ◌^◌, ◌<◌, ◌≤◌, [], None, length, slice_get, IfOk, OnOk};
 ghost use Rattle.std.specs.Vec.{vec_len, vec_capacity};
 ghost use Rattle.draw_list.specs.Items.{tris_at};
 ghost use Rattle.draw_list.specs.Kept.{span_at, kept_span, with_kept};
 
 use crate::items::Span;
+use crate::spans::Spans;
 use pf_io::NoMemory;
 use pf_model::{Geom, Tri};
 use std::alloc::Global;
 use std::marker::Model;
-
-/// The number of the ids that there may be.
-const IDS: usize = 65_536;
 
 /// The most triangles that have a number.
 const MOST: usize = 4_294_967_295;
@@ -20,7 +18,7 @@ const MOST: usize = 4_294_967_295;
 #[derive(Debug, Drop)]
 pub(crate) struct Kept {
     tris: Vec<Tri>,
-    spans: Vec<Option<Span>>,
+    spans: Spans,
     room: usize,
 }
 
@@ -31,9 +29,9 @@ impl Model for Kept {
 
     ghost Value = { KeptTris };
 
-    ghost view = { λ d. record { tris = d.tris.items; spans = d.spans.items; spare = d.room - vec_len d.tris } };
+    ghost view = { λ d. record { tris = d.tris.items; spans = d.spans; spare = d.room - vec_len d.tris } };
 
-    ghost invariant = { λ d. IsKept d.tris.items d.spans.items d.room (vec_capacity d.tris) };
+    ghost invariant = { λ d. IsKept d.tris.items d.spans d.room (vec_capacity d.tris) };
 }
 
 impl Kept {
@@ -43,7 +41,7 @@ impl Kept {
     {
         Kept {
             tris: Vec::new(alloc),
-            spans: Vec::new(alloc),
+            spans: Spans::new(alloc),
             room: 0,
         }
     }
@@ -62,7 +60,7 @@ impl Kept {
         ensures more { self.old.spare ≤ self.new.spare }
         ensures room { OnOk result (n ≤ self.new.spare) }
     {
-        lengthen(&mut self.spans, IDS)?;
+        self.spans.reserve()?;
         self.room = grown(&mut self.tris, self.room, n)?;
         Ok(())
     }
@@ -72,20 +70,18 @@ impl Kept {
         ensures tris { self.new.tris ≡ [] }
         ensures spans { (id : ℕ) → span_at self.new id ≡ None }
         ensures places { 0 < self.new.spare → length self.new.spans ≡ 65536 }
+        ensures len { length self.new.spans ≡ length self.old.spans }
         ensures spare { self.new.spare ≡ self.old.spare + length self.old.tris }
     {
         self.tris.clear();
-        clear(&mut self.spans);
+        self.spans.clear();
     }
 
     /// Where the triangles of an id stand, where they are kept.
     fn span(&self, id: u16) -> Option<Span>
         ensures { result ≡ span_at self.now id }
     {
-        match self.spans.get(id as usize) {
-            Some(span) => *span,
-            None => None,
-        }
+        self.spans.get(id)
     }
 
     /// Keeps the triangles of an id, where they are not kept yet, and answers where they stand; none where they have no
@@ -111,7 +107,7 @@ impl Kept {
         };
         match self.tris.extend_from_slice(tris) {
             Ok(()) => {
-                self.spans[id as usize] = Some(span);
+                self.spans.set(id, span);
                 Some(span)
             }
             Err(_) => unreachable!(),
@@ -161,20 +157,4 @@ fn grown(tris: &mut Vec<Tri>, room: usize, n: usize) -> Result<usize, NoMemory>
     }
     tris.reserve(n)?;
     Ok(len + n)
-}
-
-fn lengthen(spans: &mut Vec<Option<Span>>, n: usize) -> Result<(), NoMemory>
-    requires { vec_len spans.old ≤ n }
-    ensures len { OnOk result (vec_len spans.new ≡ n) }
-    ensures same { OnErr result (spans.new.items ≡ spans.old.items) }
-    ensures spans { (id : ℕ) → slice_index_or spans.new.items id None ≡ slice_index_or spans.old.items id None }
-{
-    spans.resize(n, None)?;
-    Ok(())
-}
-
-fn clear(spans: &mut Vec<Option<Span>>)
-    ensures { spans.new.items ≡ replicate (vec_len spans.old) None }
-{
-    spans.fill(None);
 }

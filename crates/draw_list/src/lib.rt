@@ -9,6 +9,7 @@ pub(crate) mod joint_steps;
 pub(crate) mod joints;
 pub(crate) mod kept;
 pub(crate) mod lists;
+pub(crate) mod spans;
 pub(crate) mod states;
 pub(crate) mod stats;
 pub(crate) mod steps;

@@ -103,6 +103,7 @@ impl DrawList {
         ensures tris { self.new.kept.tris ≡ [] }
         ensures spans { (id : ℕ) → span_at self.new.kept id ≡ None }
         ensures places { 0 < self.new.kept.spare → length self.new.kept.spans ≡ 65536 }
+        ensures span_count { length self.new.kept.spans ≡ length self.old.kept.spans }
         ensures joint_room { self.new.joints.spare + 1 ≡ self.old.joints.spare + length self.old.joints.lists }
         ensures item_room { self.new.items.spare ≡ self.old.items.spare + length self.old.items.items }
         ensures tri_room { self.new.kept.spare ≡ self.old.kept.spare + length self.old.kept.tris }

@@ -1,7 +1,9 @@
 //! Marks of states, and how many there are.
-ghost use Rattle.std.specs.Prelude.{◌≡◌, ℕ, ◌+◌, ◌-◌, ◌<◌, ◌≤◌, ◌++◌, false, true, if◌then◌else◌, length, replicate, slice_index_or, slice_set, count_by, OnOk, OnErr};
+ghost use Rattle.std.specs.Prelude.{◌≡◌, ℕ, ◌-◌, ◌<◌, ◌≤◌, ◌++◌, false, true, length, replicate, slice_index_or, slice_set, count_by, OnOk, OnErr};
 ghost use Rattle.std.specs.Vec.{vec_len};
+ghost use Rattle.draw_list.specs.Listed.{AreListed};
 
+use crate::spans::grow;
 use pf_io::NoMemory;
 use std::alloc::Global;
 use std::marker::Model;
@@ -9,22 +11,23 @@ use std::marker::Model;
 /// The number of the states that there may be.
 const STATES: usize = 65_536;
 
-/// A mark for each state, and how many are set. Without memory no state has a mark.
+/// A mark for each state, and the list of the states that have one. Without memory no state has a mark.
 #[derive(Debug, Drop)]
 pub(crate) struct States {
     marks: Vec<bool>,
-    count: u32,
+    marked: Vec<u16>,
 }
 
 impl Model for States {
-    ghost use Rattle.std.specs.Prelude.{◌≡◌, ◌≤◌, Bool, List, count_by};
-    ghost use Rattle.std.specs.Vec.{vec_len};
+    ghost use Rattle.std.specs.Prelude.{Bool, false, List};
+    ghost use Rattle.std.specs.Vec.{vec_capacity};
+    ghost use Rattle.draw_list.specs.Listed.{IsListedTable};
 
     ghost Value = { List Bool };
 
     ghost view = { λ s. s.marks.items };
 
-    ghost invariant = { λ s. (s.count ≡ count_by (λ m. m) s.marks.items) × (vec_len s.marks ≤ 65536) };
+    ghost invariant = { λ s. IsListedTable (λ m. m) false s.marks.items s.marked.items (vec_capacity s.marked) };
 }
 
 impl States {
@@ -33,7 +36,7 @@ impl States {
     {
         States {
             marks: Vec::new(alloc),
-            count: 0,
+            marked: Vec::new(alloc),
         }
     }
 
@@ -43,6 +46,7 @@ impl States {
         ensures marks { (state : ℕ) → slice_index_or self.new state false ≡ slice_index_or self.old state false }
         ensures more { length self.old ≡ 65536 → length self.new ≡ 65536 }
     {
+        grow(&mut self.marked, STATES)?;
         lengthen(&mut self.marks, STATES)
     }
 
@@ -50,8 +54,8 @@ impl States {
     pub(crate) fn clear(&mut self)
         ensures { self.new ≡ replicate (length self.old) false }
     {
-        clear(&mut self.marks);
-        self.count = 0;
+        unmark(&mut self.marks, self.marked.as_slice());
+        self.marked.clear();
     }
 
     /// Marks a state.
@@ -60,8 +64,11 @@ impl States {
         ensures { self.new ≡ slice_set self.old state true }
     {
         let place = state as usize;
-        self.count = raised(self.count, self.marks[place]);
+        if self.marks[place] {
+            return;
+        }
         self.marks[place] = true;
+        self.marked.push_reserved(state);
     }
 
     /// How many states have a mark.
@@ -69,16 +76,8 @@ impl States {
         ensures value { result ≡ count_by (λ m. m) self.now }
         ensures len { length self.now ≤ 65536 }
     {
-        self.count
+        self.marked.len() as u32
     }
-}
-
-/// One more, where the state had no mark.
-fn raised(count: u32, marked: bool) -> u32
-    requires { count ≤ 65536 }
-    ensures { result ≡ count + (if marked then 0 else 1) }
-{
-    if marked { count } else { count + 1 }
 }
 
 fn lengthen(marks: &mut Vec<bool>, n: usize) -> Result<(), NoMemory>
@@ -90,8 +89,14 @@ fn lengthen(marks: &mut Vec<bool>, n: usize) -> Result<(), NoMemory>
     Ok(())
 }
 
-fn clear(marks: &mut Vec<bool>)
-    ensures { marks.new.items ≡ replicate (vec_len marks.old) false }
+/// Takes the marks of these states away, which are all that have one.
+fn unmark(marks: &mut Vec<bool>, states: &[u16])
+    requires sized { 0 < length states.now → length marks.old.items ≡ 65536 }
+    requires listed { AreListed (λ m. m) false marks.old.items states.now }
+    ensures len { length marks.new.items ≡ length marks.old.items }
+    ensures none { (state : ℕ) → slice_index_or marks.new.items state false ≡ false }
 {
-    marks.fill(false);
+    for state in states {
+        marks[*state as usize] = false;
+    }
 }

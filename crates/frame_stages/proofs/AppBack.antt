@@ -10,12 +10,12 @@ use Rattle.stage_parts.specs.Packets.{is_end, bytes_in}
 use Rattle.stage_parts.specs.States.{AppState}
 use Rattle.stage_parts.specs.Parts.{AppKeeps, cut_short}
 use Rattle.stage_parts.proofs.AppSteps.{app_law}
-use Rattle.frame_stages.specs.declared.answers.Did.{Did}
-use Rattle.frame_stages.specs.declared.answers.Did.TheVariants as did
-use Rattle.frame_stages.specs.declared.answers.StageError.{StageError}
-use Rattle.frame_stages.specs.declared.answers.StageError.TheVariants as error
+use Rattle.stage_parts.specs.declared.answers.Did.{Did}
+use Rattle.stage_parts.specs.declared.answers.Did.TheVariants as did
+use Rattle.stage_parts.specs.declared.answers.StageError.{StageError}
+use Rattle.stage_parts.specs.declared.answers.StageError.TheVariants as error
 use Rattle.frame_stages.specs.declared.application.Application.{Application}
-use Rattle.frame_stages.specs.Answers.{IsFull, IsDry}
+use Rattle.stage_parts.specs.Answers.{IsFull, IsDry}
 use Rattle.frame_stages.specs.Scripts.{next_step}
 use Rattle.frame_stages.specs.Flights.{FlightState, SinkSide, CameBack, CameShort}
 use Rattle.frame_stages.specs.AppTurns.{Marks}

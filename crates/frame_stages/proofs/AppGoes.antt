@@ -26,7 +26,7 @@ use Rattle.pf_scene.specs.Frames.{IsCutOf, HasRoom, AllHaveRoom, Drawn, drawn}
 use Rattle.pf_scene.specs.Acts.{MayFrame}
 use Rattle.stage_parts.specs.declared.packets.Packet.TheVariants.{Frame, End}
 use Rattle.stage_parts.specs.Loads.{LoadState, Each, HasRoomFor, AreImages, IsReady}
-use Rattle.stage_parts.specs.Frames.{cut_of_frame}
+use Rattle.stage_parts.specs.Frames.{AreOwnFrames, cut_of_frame}
 use Rattle.stage_parts.specs.States.{Setup, still_asked}
 use Rattle.stage_parts.specs.Parts.{AppKeeps}
 use Rattle.stage_parts.specs.Steps.{next_frame}
@@ -34,7 +34,7 @@ use Rattle.stage_parts.specs.AppSteps.{IsOwnTurn}
 use Rattle.stage_parts.proofs.AppSteps.{app_law}
 use Rattle.frame_stages.specs.Scripts.{next_step, SyncIsNext}
 use Rattle.frame_stages.specs.Flights.{HaveFirst, IsFitFor}
-use Rattle.frame_stages.specs.AppWorks.{AppWork, IsGiven, AreOwnFrames, merges_in, with_load}
+use Rattle.frame_stages.specs.AppWorks.{AppWork, IsGiven, merges_in, with_load}
 use Rattle.frame_stages.specs.AppAnswers.{Ends}
 use Rattle.frame_stages.proofs.AppLogs.{own_frames, merges_are, own_is_at}
 use Rattle.frame_stages.proofs.AppAsks.{steps, asked_at, asked_next, none_is, given_passed}
@@ -62,6 +62,7 @@ pub edit_goes : (k : ℕ) (e : Edit) (ends : Ends) (w : AppWork) (found : Shared
 edit_goes k e ends w found going next enough =
     record {
       app = refl;
+      retires = tt;
       at = omega arith;
       need = refl;
       fault = refl;
@@ -86,6 +87,7 @@ pub view_goes : (k channel : ℕ) (v : Viewpoint) (ends : Ends) (w : AppWork) (f
 view_goes k channel v ends w found going next enough =
     record {
       app = refl;
+      retires = tt;
       at = omega arith;
       need = refl;
       fault = refl;
@@ -119,6 +121,7 @@ pub sync_goes : (asked : Bool) (k : ℕ) (ends : Ends) (w : AppWork) (found : Sh
 sync_goes true k ends w found going whole next enough room =
     record {
       app = refl;
+      retires = refl;
       at = omega arith;
       need = refl;
       fault = refl;
@@ -141,6 +144,7 @@ sync_goes true k ends w found going whole next enough room =
 sync_goes false k ends w found going whole next enough room =
     record {
       app = refl;
+      retires = refl;
       at = omega arith;
       need = refl;
       fault = refl;
@@ -183,6 +187,7 @@ pub close_goes : (k : ℕ) (ends : Ends) (w : AppWork) (found : Shared) → w.st
 close_goes k ends w found going whole bare next enough back room all =
     record {
       app = refl;
+      retires = refl;
       at = omega arith;
       need = refl;
       fault = refl;
@@ -316,6 +321,7 @@ pub frame_goes : (k : ℕ) (old load load' : LoadState) (ends : Ends) (w : AppWo
 frame_goes k old load load' ends w found going bare synced next enough fit may cut room lists same =
     record {
       app = refl;
+      retires = tt;
       at = omega arith;
       need = refl;
       fault = refl;

@@ -18,18 +18,19 @@ use Rattle.stage_parts.specs.Packets.{loads_in, updates_in}
 use Rattle.stage_parts.specs.Frames.{retired_after, last_sync}
 use Rattle.stage_parts.specs.States.{Setup}
 use Rattle.stage_parts.specs.Parts.{AppKeeps, cut_short}
+use Rattle.stage_parts.proofs.Numbers.{not_own}
 use Rattle.stage_parts.proofs.Sent.{loads_append}
 use Rattle.stage_parts.proofs.SeatSteps.{adds_to_seat, turns_stay}
 use Rattle.frame_stages.specs.AppWorks.{AppWork, IsGiven}
 use Rattle.frame_stages.specs.Copies.{HasHome}
-use Rattle.frame_stages.proofs.AppLogs.{not_own, own_is_at}
+use Rattle.frame_stages.proofs.AppLogs.{own_is_at}
 
 -- the same while the desk finds others' entries
 pub home_found : (g : Setup) (k : ℕ) (w : AppWork) (seen log : Log) (taken : List Packet) → Found k seen log →
     HasHome g k w seen taken → HasHome g k w log taken
 home_found g k w seen log taken (rest, is, none) has =
     let same : last_sync (turns_at g.channels k App log) ≡ last_sync (turns_at g.channels k App seen) =
-    ap (λ (l : Log). last_sync (turns_at g.channels k App l)) is ∙ ap last_sync (turns_stay g.channels k seen rest (not_own k rest none)) in
+    ap (λ (l : Log). last_sync (turns_at g.channels k App l)) is ∙ ap last_sync (turns_stay g.channels k seen rest (not_own k App rest none)) in
     record {
       lists = has.lists ∙ ap (λ n. updates_in (loads_in (drop n taken))) (sym same);
       few = subst (λ n. w.state.frames ≤ n + g.ahead) (sym same) has.few;

@@ -15,33 +15,20 @@ use Rattle.pf_history.specs.Laws.{own_entry}
 use Rattle.pf_history.specs.Asks.{is_at}
 use Rattle.pf_history.specs.Cuts.{marks_after, Cutting}
 use Rattle.pf_history.proofs.Counting.{one, how_many_step, counts_law, never_fall_law}
-use Rattle.stage_parts.specs.Frames.{frames_from, frames_of}
+use Rattle.stage_parts.specs.Frames.{frames_from, frames_of, AreOwnFrames}
 use Rattle.stage_parts.specs.States.{Setup, AppState}
 use Rattle.stage_parts.specs.Parts.{AppKeeps}
 use Rattle.stage_parts.specs.declared.packets.Packet.{Packet}
 use Rattle.stage_parts.proofs.AppSteps.{app_law}
-use Rattle.frame_stages.specs.AppWorks.{AreOwnFrames, merges_in}
-
--- entries of other numbers are not the application's at this seat
-pub not_own : (k : ℕ) (rest : Log) → of k rest ≡ [] → AllByRecursion (λ e. is_at k App e ≡ false) rest
-not_own k [] none = tt
-not_own k (e ∷ es) none = let p = by (e.0 == k) none in (p.0, not_own k es p.1)
-  where
-    by : (t : Bool) → cond t (e.1 ∷ of k es) (of k es) ≡ [] → ((t && is_caller App e.1.caller) ≡ false) × (of k es ≡ [])
-    by true none = absurd (cc)
-    by false none = (refl, none)
+use Rattle.stage_parts.proofs.Numbers.{not_own}
+use Rattle.frame_stages.specs.AppWorks.{merges_in}
 
 -- what APP keeps, it keeps as its desk finds a log
 pub keeps_found : (g : Setup) (k : ℕ) (a : AppState) (seen log : Log) (taken sent : List Packet) (stream : List ℕ) → Found k seen log →
     AppKeeps g k a seen taken sent stream → AppKeeps g k a log taken sent stream
 keeps_found g k a seen log taken sent stream (rest, is, none) keeps =
     subst (λ (l : Log). AppKeeps g k a l taken sent stream) (sym is)
-    ((app_law g k a seen taken sent stream keeps).stays rest (not_own k rest none))
-
--- a front of a log whose Frames are all the seat's
-pub own_front : (k : ℕ) (xs ys : Log) → AreOwnFrames k (xs ++ ys) → AreOwnFrames k xs
-own_front k [] ys own = tt
-own_front k (e ∷ es) ys own = (own.0, own_front k es ys own.1)
+    ((app_law g k a seen taken sent stream keeps).stays rest (not_own k App rest none))
 
 counted : (k : ℕ) (ids : List ℕ) (s : FrameState) (log : Log) → AreOwnFrames k log → length (frames_from k ids s log) ≡ how_many is_frame log
 counted k ids s [] own = refl

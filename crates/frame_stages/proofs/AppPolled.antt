@@ -14,16 +14,18 @@ use Rattle.pf_scene.specs.Scenes.{Shared, SceneState, entered}
 use Rattle.pf_scene.specs.Acts.{seated}
 use Rattle.stage_parts.specs.Loads.{LoadState}
 use Rattle.stage_parts.specs.States.{Setup, AppState}
+use Rattle.stage_parts.specs.Frames.{AreOwnFrames, RetiresJust}
 use Rattle.stage_parts.specs.Parts.{AppKeeps}
-use Rattle.frame_stages.specs.declared.answers.Did.{Did}
-use Rattle.frame_stages.specs.declared.answers.Did.TheVariants as did
-use Rattle.frame_stages.specs.declared.answers.StageError.{StageError}
-use Rattle.frame_stages.specs.declared.answers.StageError.TheVariants as error
+use Rattle.stage_parts.proofs.Numbers.{own_front}
+use Rattle.stage_parts.specs.declared.answers.Did.{Did}
+use Rattle.stage_parts.specs.declared.answers.Did.TheVariants as did
+use Rattle.stage_parts.specs.declared.answers.StageError.{StageError}
+use Rattle.stage_parts.specs.declared.answers.StageError.TheVariants as error
 use Rattle.frame_stages.specs.AppTurns.{Tells, Made, Wanting, IsMarked, Marks}
-use Rattle.frame_stages.specs.AppWorks.{AppWork, IsGiven, AreOwnFrames, merges_in}
+use Rattle.frame_stages.specs.AppWorks.{AppWork, IsGiven, merges_in}
 use Rattle.frame_stages.specs.Copies.{HoldsCopies, IsHomeRight, HasHome}
 use Rattle.frame_stages.specs.AppAnswers.{Ends, Around, around, IsLonger, AppWaits, AppAnswers, AppAdds, KeepsOn, Polled}
-use Rattle.frame_stages.proofs.AppLogs.{keeps_found, own_front, merges_more, merges_found, one_more}
+use Rattle.frame_stages.proofs.AppLogs.{keeps_found, merges_more, merges_found, one_more}
 use Rattle.frame_stages.proofs.AppHome.{home_found, home_same}
 
 append_none : (b : Option (List ℕ)) → append_known b [] ≡ b
@@ -159,6 +161,7 @@ marks_later k seen seen' seen'' told told' told'' first second =
 -- How the stage goes on by an entry of this command.
 pub record GoesOnBy (k : ℕ) (c : Command) (ends : Ends) (w w' : AppWork) (found : Shared) : Type 0 where
   pub app : caller_of c ≡ App
+  pub retires : RetiresJust w'.state.written c
   pub at : w.state.at ≤ w'.state.at
   pub need : w'.state.need ≡ w.state.need
   pub fault : w'.state.fault ≡ w.state.fault
@@ -205,7 +208,7 @@ by_entry k c May w w' seen seen' told told' ends m counted by =
           let need = by.need in
           omega (arith, enough, first, second, need);
       whole = λ ok. by.fault;
-      adds = record { found = log; goes_on = m.goes_on; adds = inr (entry_of (state_of m.found.channels log) c, by.app, m.adds) };
+      adds = record { found = log; goes_on = m.goes_on; adds = inr (entry_of (state_of m.found.channels log) c, by.app, by.retires, m.adds) };
       answer = inr (inr (inr (record {
         at = by.at;
         own = ap (λ (l : Log). length (of k l)) m.adds ∙ one_more k log e.1 ∙ ap (λ (es : List Entry). length es + 1) (of_found k seen log m.goes_on);
@@ -233,8 +236,8 @@ looked_answer (Err error.FrameFault) k w w' first seen told ends after own s =
 looked_answer (Err error.NoMemory) k w w' first seen told ends after own s =
     record { at = s.at; own = s.own ∙ own; told = s.told; ends = s.ends }
 
-adds_later : (k : ℕ) (first seen seen' : Log) → Found k first seen → AppAdds k seen seen' → AppAdds k first seen'
-adds_later k first seen seen' found adds =
+adds_later : (k written : ℕ) (first seen seen' : Log) → Found k first seen → AppAdds k written seen seen' → AppAdds k written first seen'
+adds_later k written first seen seen' found adds =
     record { found = adds.found; goes_on = found-trans k first seen adds.found found adds.goes_on; adds = adds.adds }
 
 -- after a look the same holds of what stood before the look
@@ -253,6 +256,6 @@ looked r k w w' first seen told ends after found polled =
           let more = merges_found k first seen found in
           polled.waited (omega (arith, enough, more));
       whole = polled.whole;
-      adds = adds_later k first seen after.seen found polled.adds;
+      adds = adds_later k w'.state.written first seen after.seen found polled.adds;
       answer = looked_answer r k w w' first seen told ends after (of_found k first seen found) polled.answer;
     }

@@ -16,10 +16,10 @@ use Rattle.pf_scene.specs.Acts.{MayEdit, MayView, MaySync, MayFrame}
 use Rattle.stage_parts.specs.declared.packets.Packet.{Packet}
 use Rattle.stage_parts.specs.declared.packets.Packet.TheVariants.{Frame, End}
 use Rattle.stage_parts.specs.Loads.{LoadState}
-use Rattle.frame_stages.specs.declared.answers.Did.TheVariants as did
-use Rattle.frame_stages.specs.declared.answers.StageError.TheVariants as error
+use Rattle.stage_parts.specs.declared.answers.Did.TheVariants as did
+use Rattle.stage_parts.specs.declared.answers.StageError.TheVariants as error
 use Rattle.frame_stages.specs.declared.application.Application.{Application}
-use Rattle.frame_stages.specs.Answers.{IsFull, IsDry}
+use Rattle.stage_parts.specs.Answers.{IsFull, IsDry}
 use Rattle.frame_stages.specs.Scripts.{ScriptState, next_step, passed, SyncIsNext, synced_script}
 use Rattle.frame_stages.specs.Flights.{FlightState, IsFitFor, begun}
 use Rattle.frame_stages.specs.AppTurns.{Bars, Made, Barred, Wanting, Marks, Begun}

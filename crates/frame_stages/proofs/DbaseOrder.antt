@@ -13,15 +13,15 @@ use Rattle.frame_stages.specs.declared.in_hand.InHand.TheVariants as hand
 use Rattle.frame_stages.specs.declared.next_line.NextLine.{NextLine}
 use Rattle.frame_stages.specs.declared.next_line.NextLine.TheVariants as next
 use Rattle.frame_stages.specs.DbaseWorks.{DbaseWork, HoldsBuffer}
-use Rattle.frame_stages.specs.DbaseLines.{kind_of, next_line, need_after, is_merge, is_open, is_whole, merges_next, buffer_step, IsFilled, HasRoom, CanFill, Fills, IsRanged, IsInOrder}
+use Rattle.frame_stages.specs.DbaseLines.{kind_of, next_line, need_after, is_merge, is_open, is_whole, merges_next, buffer_step, IsFilled, CountsOneMore, CanFill, Fills, IsRanged, IsInOrder}
 use Rattle.frame_stages.specs.DbaseAnswers.{Passes}
 
 -- a buffer of few lines has room for one more
-pub filled_has_room : (lines : ℕ) (b : BufferState) → IsFilled lines b → lines ≤ 262144 → HasRoom b
+pub filled_has_room : (lines : ℕ) (b : BufferState) → IsFilled lines b → lines ≤ 262144 → CountsOneMore b
 filled_has_room lines b f few =
     let c = count_law f.steps in
     let short = f.short in
-    subst HasRoom (sym f.filled) (record { serials = omega (arith, c.serials, short, few); drops = omega (arith, c.edits, short, few) })
+    subst CountsOneMore (sym f.filled) (record { serials = omega (arith, c.serials, short, few); drops = omega (arith, c.edits, short, few) })
 
 filled_more : (lines : ℕ) (b : BufferState) (s : BaseStep) → IsFilled lines b → IsFilled (lines + 1) (after_step b s)
 filled_more lines b s f =

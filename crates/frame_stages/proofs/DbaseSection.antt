@@ -24,10 +24,11 @@ use Rattle.pf_scene.specs.Scenes.{Shared}
 use Rattle.stage_parts.specs.States.{DbaseState, since_step, steps_since, still_asked_dbase}
 use Rattle.stage_parts.specs.Parts.{DbaseKeeps}
 use Rattle.stage_parts.proofs.DbaseSteps.{dbase_law}
-use Rattle.frame_stages.specs.declared.answers.Did.{Did}
-use Rattle.frame_stages.specs.declared.answers.Did.TheVariants as did
-use Rattle.frame_stages.specs.declared.answers.StageError.{StageError}
-use Rattle.frame_stages.specs.declared.answers.StageError.TheVariants as error
+use Rattle.stage_parts.proofs.Numbers.{not_own}
+use Rattle.stage_parts.specs.declared.answers.Did.{Did}
+use Rattle.stage_parts.specs.declared.answers.Did.TheVariants as did
+use Rattle.stage_parts.specs.declared.answers.StageError.{StageError}
+use Rattle.stage_parts.specs.declared.answers.StageError.TheVariants as error
 use Rattle.frame_stages.specs.declared.in_hand.InHand.{InHand}
 use Rattle.frame_stages.specs.declared.in_hand.InHand.TheVariants as hand
 use Rattle.frame_stages.specs.Looks.{log_of}
@@ -35,29 +36,24 @@ use Rattle.frame_stages.specs.DbaseWorks.{DbaseWork, HoldsBuffer, buffer_at, dba
 use Rattle.frame_stages.specs.DbaseLines.{need_after, buffer_step, is_merge}
 use Rattle.frame_stages.specs.DbaseAnswers.{Known, Passes, DoesAt, GivesUp, IsDbaseAnswer}
 
--- entries of other numbers are not of this seat
-pub not_own : (k : ℕ) (caller : Caller) (rest : Log) → of k rest ≡ [] → AllByRecursion (λ e. is_at k caller e ≡ false) rest
-not_own k caller [] none = tt
-not_own k caller (x ∷ xs) none = by (x.0 == k) none (λ e. not_own k caller xs e)
-  where
-    by : (t : Bool) → cond t (x.1 ∷ of k xs) (of k xs) ≡ [] → (of k xs ≡ [] → AllByRecursion (λ e. is_at k caller e ≡ false) xs) →
-        ((t && is_caller caller x.1.caller) ≡ false) × AllByRecursion (λ e. is_at k caller e ≡ false) xs
-    by true e rest = absurd (cc)
-    by false e rest = (refl, rest e)
+-- while the log grows by others' entries
+pub holds_on : (lines : List BaseLine) (channels seat : ℕ) (w : DbaseWork) (seen more : Log) → DbaseHolds lines channels seat w seen →
+    AllByRecursion (λ e. is_at seat Dbase e ≡ false) more → DbaseHolds lines channels seat w (seen ++ more)
+holds_on lines channels seat w seen more holds none =
+    let frames = (never_fall_law channels seen more).frames in
+    let awaited = holds.awaited in
+    record {
+      keeps = (dbase_law lines channels seat (dbase_state lines w) seen holds.keeps).stays more none;
+      awaited = omega (arith, awaited, frames);
+      stands = holds.stands;
+    }
 
 -- while the desk finds others' entries
-pub holds_on : (lines : List BaseLine) (channels seat : ℕ) (w : DbaseWork) (seen log : Log) → DbaseHolds lines channels seat w seen →
+pub holds_found : (lines : List BaseLine) (channels seat : ℕ) (w : DbaseWork) (seen log : Log) → DbaseHolds lines channels seat w seen →
     Found seat seen log → DbaseHolds lines channels seat w log
-holds_on lines channels seat w seen log holds (rest, is, none) =
-    let stays = (dbase_law lines channels seat (dbase_state lines w) seen holds.keeps).stays rest (not_own seat Dbase rest none) in
-    let more = (never_fall_law channels seen rest).frames in
-    let awaited = holds.awaited in
+holds_found lines channels seat w seen log holds (rest, is, none) =
     subst (DbaseHolds lines channels seat w) (sym is)
-    (record {
-      keeps = stays;
-      awaited = omega (arith, awaited, more);
-      stands = holds.stands;
-    })
+    (holds_on lines channels seat w seen rest holds (not_own seat Dbase rest none))
 
 -- One line on in the section
 
@@ -195,26 +191,26 @@ pub passes_holds : (lines : List BaseLine) (channels number : ℕ) (w after : Db
 passes_holds lines channels number w after l known knows passes base.Merge step does holds =
     let m = does.0 in
     let e = does.2 in
-    let there = holds_on lines channels number w known.seen (log_of e.scene) holds e.found in
+    let there = holds_found lines channels number w known.seen (log_of e.scene) holds e.found in
     let log = ap (λ (s : Shared). s.log) e.enters.shared in
     subst (DbaseHolds lines channels number after) (sym (e.seen ∙ log))
     (holds_merges lines channels number w after l m (log_of e.scene) e.scene.shared.channels there passes step does.1)
 passes_holds lines channels number w after l known knows passes (base.Await n) step does holds =
-    let there = holds_on lines channels number w known.seen knows.seen holds does.0.found in
+    let there = holds_found lines channels number w known.seen knows.seen holds does.0.found in
     let awaited = there.awaited in
     let enough = does.1 channels in
     holds_passes lines channels number w after l knows.seen there passes (ap is_merge step)
     (subst (λ (s : BaseStep). need_after w.need s ≤ (state_of channels knows.seen).frames) (sym step) (max-le awaited enough))
 passes_holds lines channels number w after l known knows passes base.Buffer step does holds =
-    let there = holds_on lines channels number w known.seen knows.seen holds does.found in
+    let there = holds_found lines channels number w known.seen knows.seen holds does.found in
     holds_passes lines channels number w after l knows.seen there passes (ap is_merge step)
     (subst (λ (s : BaseStep). need_after w.need s ≤ (state_of channels knows.seen).frames) (sym step) there.awaited)
 passes_holds lines channels number w after l known knows passes (base.Edit x) step does holds =
-    let there = holds_on lines channels number w known.seen knows.seen holds does.found in
+    let there = holds_found lines channels number w known.seen knows.seen holds does.found in
     holds_passes lines channels number w after l knows.seen there passes (ap is_merge step)
     (subst (λ (s : BaseStep). need_after w.need s ≤ (state_of channels knows.seen).frames) (sym step) there.awaited)
 passes_holds lines channels number w after l known knows passes (base.Ask x) step does holds =
-    let there = holds_on lines channels number w known.seen knows.seen holds does.found in
+    let there = holds_found lines channels number w known.seen knows.seen holds does.found in
     holds_passes lines channels number w after l knows.seen there passes (ap is_merge step)
     (subst (λ (s : BaseStep). need_after w.need s ≤ (state_of channels knows.seen).frames) (sym step) there.awaited)
 
@@ -240,11 +236,11 @@ answer_holds lines channels number (Ok did.Did) w after known knows answer holds
     passes_holds lines channels number w after answer.0 known knows answer.1 answer.0.step refl answer.2 holds
 answer_holds lines channels number (Ok did.NotYet) w after known knows answer holds =
     subst (λ (x : DbaseWork). DbaseHolds lines channels number x knows.seen) (sym answer.0)
-    (holds_on lines channels number w known.seen knows.seen holds answer.1.found)
+    (holds_found lines channels number w known.seen knows.seen holds answer.1.found)
 answer_holds lines channels number (Ok did.Over) w after known knows answer holds =
     subst (λ (x : DbaseWork). DbaseHolds lines channels number x knows.seen) (sym answer.0)
-    (holds_on lines channels number w known.seen knows.seen holds answer.1.found)
+    (holds_found lines channels number w known.seen knows.seen holds answer.1.found)
 answer_holds lines channels number (Err error.NoMemory) w after known knows answer holds =
     given_up_holds lines channels number w after knows.seen answer.0
-    (holds_on lines channels number w known.seen knows.seen holds answer.1)
+    (holds_found lines channels number w known.seen knows.seen holds answer.1)
 answer_holds lines channels number (Err error.FrameFault) w after known knows answer holds = absurd answer

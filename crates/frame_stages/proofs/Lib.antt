@@ -19,4 +19,3 @@ pub mod AppLooks
 pub mod AppTurned
 pub mod InFlight
 pub mod Settled
-pub mod OwnFrames

@@ -12,17 +12,17 @@ use Rattle.pf_scene.specs.Scenes.{Shared, SceneState}
 use Rattle.pf_scene.specs.Acts.{MayEdit, MayView, MaySync, MayFrame}
 use Rattle.stage_parts.specs.declared.packets.Packet.{Packet}
 use Rattle.stage_parts.specs.States.{Setup, AppState}
+use Rattle.stage_parts.specs.Frames.{AreOwnFrames, RetiresJust}
 use Rattle.stage_parts.specs.Parts.{AppKeeps}
-use Rattle.frame_stages.specs.declared.answers.Did.{Did}
-use Rattle.frame_stages.specs.declared.answers.Did.TheVariants as did
-use Rattle.frame_stages.specs.declared.answers.StageError.{StageError}
-use Rattle.frame_stages.specs.declared.answers.StageError.TheVariants as error
-use Rattle.frame_stages.specs.Answers.{IsFull, IsDry}
+use Rattle.stage_parts.specs.declared.answers.Did.{Did}
+use Rattle.stage_parts.specs.declared.answers.Did.TheVariants as did
+use Rattle.stage_parts.specs.declared.answers.StageError.{StageError}
+use Rattle.stage_parts.specs.declared.answers.StageError.TheVariants as error
+use Rattle.stage_parts.specs.Answers.{IsFull, IsDry}
 use Rattle.frame_stages.specs.Flights.{FlightState, SinkSide}
 use Rattle.frame_stages.specs.Scripts.{next_step}
-use Rattle.frame_stages.specs.Looks.{SawMark}
 use Rattle.frame_stages.specs.AppTurns.{Tells, Bars, IsMarked}
-use Rattle.frame_stages.specs.AppWorks.{AppWork, IsGiven, AreOwnFrames, merges_in}
+use Rattle.frame_stages.specs.AppWorks.{AppWork, IsGiven, merges_in}
 use Rattle.frame_stages.specs.Copies.{HoldsCopies, IsHomeRight, HasHome}
 
 -- What is known of the links and of the sink: what was received and sent, what the other ends sent and received, and the
@@ -177,11 +177,12 @@ AppAnswers (Err error.NoMemory) k old new before after = RunsOut k old new befor
 -- What is kept
 
 -- The log found goes on from the log seen with no further entry of the number k, and behind it stands one entry of the
--- application under that number, or none.
-pub record AppAdds (k : ℕ) (seen seen' : Log) : Type 0 where
+-- application under that number, or none. Where it is a Sync, it retires just the frames whose pictures are wholly
+-- written, as many as these.
+pub record AppAdds (k written : ℕ) (seen seen' : Log) : Type 0 where
   pub found : Log
   pub goes_on : Found k seen found
-  pub adds : (seen' ≡ found) ⊎ ((e : Entry) × (e.caller ≡ App) × (seen' ≡ found ++ (k, e) ∷ []))
+  pub adds : (seen' ≡ found) ⊎ ((e : Entry) × (e.caller ≡ App) × RetiresJust written e.command × (seen' ≡ found ++ (k, e) ∷ []))
 
 -- All that APP keeps is kept, with what was written at the end of the stream.
 pub record KeepsOn (g : Setup) (k : ℕ) (a : AppState) (written : Option (List ℕ)) (after : Around) (stream : List ℕ) : Type 0 where
@@ -212,10 +213,6 @@ pub record Polled (k : ℕ) (result : Result Did StageError) (old new : AppWork)
   pub waited : old.state.need ≤ merges_in before.seen → new.state.need ≤ merges_in after.seen
   -- only a fault of the sink makes it keep one
   pub whole : is_fault result ≡ false → new.state.fault ≡ old.state.fault
-  -- it adds at most one entry, and that is its own
-  pub adds : AppAdds k before.seen after.seen
+  -- it adds at most one entry, and that is its own; each Sync retires just the frames whose pictures are wholly written
+  pub adds : AppAdds k new.state.written before.seen after.seen
   pub answer : AppAnswers result k old new before after
-
--- a look found the stop mark exactly where the stage was over
-abbrev pub FoundMark : ℕ → Log → Option SceneState → Bool → Type 0
-FoundMark k seen told over = (seen' : Log) × SawMark k seen told over seen'

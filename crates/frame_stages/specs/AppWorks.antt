@@ -94,10 +94,6 @@ opening_work g loads =
 abbrev pub is_done : AppState → Bool
 is_done a = a.ended || is_some a.fault
 
--- each Frame of the log is the application's, made at this seat
-abbrev pub AreOwnFrames : ℕ → Log → Type 0
-AreOwnFrames k log = AllByRecursion (λ e. is_frame e.1.command ≡ true → is_at k App e ≡ true) log
-
 -- how many merges stand in a log
 abbrev pub merges_in : Log → ℕ
 merges_in log = how_many is_merge log

@@ -1,5 +1,5 @@
 -- What the answers of the database process say.
-use Rattle.std.specs.Prelude.{◌≡◌, ⊤, ℕ, ◌+◌, ◌^◌, ◌<◌, ◌≤◌, Bool, true, false, List, [], ◌∷◌, Option, None, Some, MatchOption, Result, Ok, Err}
+use Rattle.std.specs.Prelude.{◌≡◌, ⊤, ◌⊎◌, ℕ, ◌+◌, ◌^◌, ◌<◌, ◌≤◌, Bool, true, false, List, [], ◌∷◌, ◌++◌, Option, None, Some, MatchOption, Result, Ok, Err}
 use Rattle.seat_lock.specs.Log.{Found}
 use Rattle.pf_io.specs.declared.answers.NoMemory.{NoMemory}
 use Rattle.std.specs.List.{list_all}
@@ -8,7 +8,9 @@ use Rattle.pf_model.specs.declared.lines.BaseLine.{BaseLine}
 use Rattle.pf_model.specs.declared.lines.BaseStep.{BaseStep}
 use Rattle.pf_model.specs.declared.lines.BaseStep.TheVariants as base
 use Rattle.pf_model.specs.Merges.{BufferState}
+use Rattle.pf_history.specs.declared.commands.Caller.TheVariants.{Dbase}
 use Rattle.pf_history.specs.declared.commands.Command.TheVariants as command
+use Rattle.pf_history.specs.declared.commands.Entry.{Entry}
 use Rattle.pf_history.specs.declared.commands.Merge.{Merge}
 use Rattle.pf_history.specs.Logs.{Log, state_of}
 use Rattle.pf_history.specs.declared.commands.Reply.{Reply}
@@ -16,10 +18,10 @@ use Rattle.pf_scene.specs.declared.outcomes.Outcome.{Outcome}
 use Rattle.pf_scene.specs.declared.outcomes.Outcome.TheVariants as outcome
 use Rattle.pf_scene.specs.Scenes.{SceneState, weight_of, weight_in}
 use Rattle.pf_scene.specs.Acts.{MayMerge, Enters}
-use Rattle.frame_stages.specs.declared.answers.Did.{Did}
-use Rattle.frame_stages.specs.declared.answers.Did.TheVariants as did
-use Rattle.frame_stages.specs.declared.answers.StageError.{StageError}
-use Rattle.frame_stages.specs.declared.answers.StageError.TheVariants as error
+use Rattle.stage_parts.specs.declared.answers.Did.{Did}
+use Rattle.stage_parts.specs.declared.answers.Did.TheVariants as did
+use Rattle.stage_parts.specs.declared.answers.StageError.{StageError}
+use Rattle.stage_parts.specs.declared.answers.StageError.TheVariants as error
 use Rattle.frame_stages.specs.declared.in_hand.InHand.{InHand}
 use Rattle.frame_stages.specs.declared.in_hand.InHand.TheVariants as hand
 use Rattle.frame_stages.specs.Looks.{log_of}
@@ -46,6 +48,14 @@ pub record EntersMerge (number : ℕ) (m : Merge) (before after : Known) : Type 
   pub seen : after.seen ≡ log_of left
   pub told : MatchOption before.told (after.told ≡ None) (λ value. (value ≡ scene) × (after.told ≡ Some left))
 
+-- The log found goes on from the log seen with no further entry of the number k, and behind it stands one merge of the
+-- database process under that number, or none.
+pub record DbaseAdds (k : ℕ) (seen seen' : Log) : Type 0 where
+  pub found : Log
+  pub goes_on : Found k seen found
+  pub adds : (seen' ≡ found)
+      ⊎ ((e : Entry) × (m : Merge) × (e.caller ≡ Dbase) × (e.command ≡ command.Merge m) × (seen' ≡ found ++ (k, e) ∷ []))
+
 -- where the desk tells the scene, only its seat in charge may have changed
 abbrev pub Reseats : (before after : Option SceneState) → Type 0
 Reseats before after =
@@ -53,8 +63,8 @@ Reseats before after =
     × (new.shared ≡ record old.shared { seat = new.shared.seat }))
 
 -- where the desk tells the scene, the stop mark is set, and else only its seat in charge may have changed
-abbrev pub Marks : (before after : Option SceneState) → Type 0
-Marks before after =
+abbrev pub SetsMark : (before after : Option SceneState) → Type 0
+SetsMark before after =
     MatchOption before (after ≡ None) (λ old. (new : SceneState) × (after ≡ Some new)
     × (new.shared ≡ record old.shared { seat = new.shared.seat; stopped = true }))
 
@@ -116,8 +126,8 @@ pub record GivesUp (before after : DbaseWork) : Type 0 where
   pub rest : after.rest ≡ []
 
 -- it passed one line, and did what this asks for
-abbrev pub Moves : ℕ → (before after : DbaseWork) → (known knows : Known) → Type 0
-Moves number before after known knows =
+abbrev pub PassesLine : ℕ → (before after : DbaseWork) → (known knows : Known) → Type 0
+PassesLine number before after known knows =
     (l : BaseLine) × Passes l before after × DoesAt number l.step before.hand known knows
 
 -- it changed nothing, and has to wait
@@ -127,7 +137,7 @@ Stays number before after known knows =
 
 -- what a try to pass a line came to: whether it was passed, or want of memory
 abbrev pub Tries : ℕ → Result Bool NoMemory → (before after : DbaseWork) → (known knows : Known) → Type 0
-Tries number (Ok true) before after known knows = Moves number before after known knows
+Tries number (Ok true) before after known knows = PassesLine number before after known knows
 Tries number (Ok false) before after known knows = Stays number before after known knows
 Tries number (Err e) before after known knows =
     GivesUp before after × Found number known.seen knows.seen × Reseats known.told knows.told
@@ -135,9 +145,9 @@ Tries number (Err e) before after known knows =
 -- What an answer of the database process says: it passed one line; it changed nothing, and has to wait; it is over, and
 -- changed nothing; it wanted memory, added no entry and set the stop mark. A fault of the frame sink is not its own.
 abbrev pub IsDbaseAnswer : ℕ → Result Did StageError → (before after : DbaseWork) → (known knows : Known) → Type 0
-IsDbaseAnswer number (Ok did.Did) before after known knows = Moves number before after known knows
+IsDbaseAnswer number (Ok did.Did) before after known knows = PassesLine number before after known knows
 IsDbaseAnswer number (Ok did.NotYet) before after known knows = Stays number before after known knows
 IsDbaseAnswer number (Ok did.Over) before after known knows = (after ≡ before) × AddsNone number known knows
 IsDbaseAnswer number (Err error.NoMemory) before after known knows =
-    GivesUp before after × Found number known.seen knows.seen × Marks known.told knows.told
+    GivesUp before after × Found number known.seen knows.seen × SetsMark known.told knows.told
 IsDbaseAnswer number (Err error.FrameFault) before after known knows = ⊥

@@ -60,14 +60,14 @@ pub record IsFilled (lines : ℕ) (b : BufferState) : Type 0 where
   pub filled : b ≡ buffer_after steps
 
 -- One more edit of a buffer is counted without overflow.
-pub record HasRoom (b : BufferState) : Type 0 where
+pub record CountsOneMore (b : BufferState) : Type 0 where
   pub serials : b.graph.next_serial ≤ 262145
   pub drops : b.dropped ≤ 262144
 
 -- a line of a buffer may come where this is in hand
 abbrev pub CanFill : BaseStep → InHand → Type 0
 CanFill base.Buffer held = ⊤
-CanFill (base.Edit e) (hand.Buffer b) = (fits e ≡ true) × HasRoom b
+CanFill (base.Edit e) (hand.Buffer b) = (fits e ≡ true) × CountsOneMore b
 CanFill (base.Ask e) (hand.Buffer b) = is_link e ≡ true
 CanFill _ _ = ⊥
 

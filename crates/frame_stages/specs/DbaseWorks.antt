@@ -1,10 +1,11 @@
 -- What contracts see of the database process, and what it keeps of its section and of the log that its desk has seen.
-use Rattle.std.specs.Prelude.{◌≡◌, ℕ, ◌≤◌, Bool, true, false, List, [], ◌∷◌, map, take, drop}
-use Rattle.seat_lock.specs.Log.{Found}
+use Rattle.std.specs.Prelude.{◌≡◌, ℕ, ◌≤◌, Bool, true, false, not, ◌&&◌, List, [], ◌∷◌, ◌++◌, map, take, drop}
+use Rattle.std.specs.List.{AllByRecursion}
 use Rattle.pf_model.specs.declared.lines.BaseLine.{BaseLine}
 use Rattle.pf_model.specs.Merges.{BufferState, empty_buffer, buffer_after}
 use Rattle.pf_history.specs.Logs.{Log, state_of}
-use Rattle.pf_history.specs.Asks.{merge_of}
+use Rattle.pf_history.specs.declared.commands.Caller.TheVariants.{Dbase}
+use Rattle.pf_history.specs.Asks.{merge_of, is_at}
 use Rattle.stage_parts.specs.States.{DbaseState, steps_since}
 use Rattle.stage_parts.specs.Parts.{DbaseKeeps}
 use Rattle.frame_stages.specs.declared.in_hand.InHand.{InHand}
@@ -27,6 +28,10 @@ opening_work lines = record { rest = lines; at = 0; need = 0; failed = false; ha
 abbrev pub is_ended : List BaseLine → Bool
 is_ended [] = true
 is_ended (l ∷ ls) = false
+
+-- whether it has ended: each line of its section is passed
+abbrev pub has_ended : DbaseWork → Bool
+has_ended w = is_ended w.rest && not w.failed
 
 -- what is in hand is the buffer, or its merge; nothing is in hand of an empty one
 abbrev pub HoldsBuffer : InHand → BufferState → Type 0
@@ -55,11 +60,11 @@ pub record DbaseHolds (lines : List BaseLine) (channels seat : ℕ) (w : DbaseWo
   pub awaited : w.need ≤ (state_of channels log).frames
   pub stands : w.failed ≡ false → StandsIn lines w
 
--- what the database process holds to stays while its desk finds others' entries
+-- what the database process holds to stays while the log grows by entries of which none is its own, under its number
 abbrev pub HoldsOnLaw : Type 0
 HoldsOnLaw =
-    (lines : List BaseLine) (channels seat : ℕ) (w : DbaseWork) (seen log : Log) → DbaseHolds lines channels seat w seen →
-    Found seat seen log → DbaseHolds lines channels seat w log
+    (lines : List BaseLine) (channels seat : ℕ) (w : DbaseWork) (seen more : Log) → DbaseHolds lines channels seat w seen →
+    AllByRecursion (λ e. is_at seat Dbase e ≡ false) more → DbaseHolds lines channels seat w (seen ++ more)
 
 -- any two proofs that it holds to this are equal, so that a type may keep one
 abbrev pub HoldsFactLaw : Type 0

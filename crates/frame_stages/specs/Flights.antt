@@ -12,7 +12,7 @@ use Rattle.stage_parts.specs.Packets.{loads_in, bytes_in, updates_in}
 use Rattle.stage_parts.specs.Parts.{cut_short}
 use Rattle.frame_stages.specs.declared.taking_back.Brought.{Brought}
 use Rattle.frame_stages.specs.declared.taking_back.Brought.TheVariants as brought
-use Rattle.frame_stages.specs.Answers.{IsDry}
+use Rattle.stage_parts.specs.Answers.{IsDry}
 
 -- How many frames were begun, how many pictures were wholly written, and how many bytes of the next one before a fault;
 -- the loads in hand, the update lists that go home with the next Sync, in the order in which they came, the numbers of

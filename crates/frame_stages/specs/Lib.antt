@@ -1,6 +1,5 @@
-pub mod Texts
 pub mod Looks
-pub mod Answers
+pub mod Stays
 pub mod Painting
 pub mod Works
 pub mod Culling

@@ -18,3 +18,7 @@ Saw number seen told sight seen' = Looked log_of number Shows seen told sight se
 abbrev pub SawMark : ℕ → Log → Option SceneState → Bool → Log → Type 0
 SawMark number seen told stopped seen' =
     Looked log_of number (λ scene out. out ≡ scene.shared.stopped) seen told stopped seen'
+
+-- a look found the stop mark exactly where the stage was over, whatever came after the look
+abbrev pub FoundMark : ℕ → Log → Option SceneState → Bool → Type 0
+FoundMark number seen told over = (seen' : Log) × SawMark number seen told over seen'

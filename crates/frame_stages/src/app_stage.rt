@@ -1,12 +1,13 @@
 //! The application.
 ghost use Rattle.std.specs.Prelude.{◌≡◌, ◌≤◌, ◌<◌, true, false, ℕ, length, Some, Ok, IfOk};
-ghost use Rattle.frame_stages.specs.declared.answers.Did.TheVariants as did;
-ghost use Rattle.frame_stages.specs.Answers.{is_over};
+ghost use Rattle.stage_parts.specs.declared.answers.Did.TheVariants as did;
+ghost use Rattle.stage_parts.specs.Answers.{is_over};
 ghost use Rattle.frame_stages.specs.Scripts.{most_lines};
 ghost use Rattle.frame_stages.specs.AppWorks.{opening_work, is_done};
-ghost use Rattle.frame_stages.specs.AppAnswers.{around, Polled, FoundMark};
+ghost use Rattle.frame_stages.specs.Looks.{FoundMark};
+ghost use Rattle.frame_stages.specs.AppAnswers.{around, Polled};
+ghost use Rattle.frame_stages.specs.Stays.{desk_place, end_place};
 
-use crate::answers::{Did, StageError};
 use crate::application::Application;
 use crate::script::Script;
 use crate::taking_back::Flight;
@@ -17,7 +18,7 @@ use pf_io::{Gate, NoMemory, Sink};
 use pf_model::AppLine;
 use pf_scene::Scene;
 use seat_lock::Desk;
-use stage_parts::Packet;
+use stage_parts::{Did, Packet, StageError};
 use std::alloc::Global;
 use std::marker::Model;
 
@@ -91,6 +92,20 @@ impl AppStage {
         self.parts.flight.into_stats()
     }
 
+    /// Whether it has closed: the closing Sync was made, and nothing more is asked of it but to send the End.
+    pub fn has_closed(&self) -> bool
+        ensures { result ≡ self.now.state.closed }
+    {
+        self.parts.has_closed()
+    }
+
+    /// Whether it has ended: the End was sent.
+    pub fn has_ended(&self) -> bool
+        ensures { result ≡ self.now.state.ended }
+    {
+        self.parts.ended
+    }
+
     /// One step: sends the packet that it holds, or takes the next step of its section. It takes a packet back and writes
     /// its picture before a Sync.
     pub fn poll<D: Desk<Scene>, S: SendEnd<Packet>, T: TakeEnd<Packet>, O: Sink, G: Gate>(
@@ -126,14 +141,11 @@ impl AppStage {
             (is_over result) }
 
         // It leaves all else of the desk and the links.
-        ensures number { D.number desk.new ≡ D.number desk.old }
-        ensures stands { D.stands desk.new ≡ D.stands desk.old }
-        ensures take_link { T.take_at from_draw.new ≡ T.take_at from_draw.old }
-        ensures take_room { T.take_room from_draw.new ≡ T.take_room from_draw.old }
-        ensures told_sent { T.told_sent from_draw.new ≡ T.told_sent from_draw.old }
-        ensures send_link { S.send_at to_cull.new ≡ S.send_at to_cull.old }
-        ensures send_room { S.room to_cull.new ≡ S.room to_cull.old }
-        ensures told_taken { S.told_taken to_cull.new ≡ S.told_taken to_cull.old }
+        ensures desk { desk_place (D.number desk.new) (D.stands desk.new) ≡ desk_place (D.number desk.old) (D.stands desk.old) }
+        ensures from_draw { end_place (T.take_at from_draw.new) (T.take_room from_draw.new) (T.told_sent from_draw.new)
+            ≡ end_place (T.take_at from_draw.old) (T.take_room from_draw.old) (T.told_sent from_draw.old) }
+        ensures to_cull { end_place (S.send_at to_cull.new) (S.room to_cull.new) (S.told_taken to_cull.new)
+            ≡ end_place (S.send_at to_cull.old) (S.room to_cull.old) (S.told_taken to_cull.old) }
     {
         self.parts.poll(desk, to_cull, from_draw, frames, gate)
     }

@@ -6,14 +6,15 @@ ghost use Rattle.pf_scene.specs.Scenes.{SceneState};
 ghost use Rattle.stage_parts.specs.Packets.{is_end};
 ghost use Rattle.stage_parts.specs.declared.packets.Packet.TheVariants as packet;
 ghost use Rattle.frame_stages.specs.declared.script.Next.TheVariants as next;
-ghost use Rattle.frame_stages.specs.declared.answers.Did.TheVariants as did;
-ghost use Rattle.frame_stages.specs.Answers.{did_of, is_over};
+ghost use Rattle.stage_parts.specs.declared.answers.Did.TheVariants as did;
+ghost use Rattle.stage_parts.specs.Answers.{did_of, is_over};
 ghost use Rattle.frame_stages.specs.Scripts.{next_step, IsNext, passed, SyncIsNext, synced_script};
 ghost use Rattle.frame_stages.specs.Flights.{HaveFirst, begun, IsTaken, IsFitFor};
+ghost use Rattle.frame_stages.specs.Looks.{FoundMark};
 ghost use Rattle.frame_stages.specs.AppWorks.{work_of, is_done, merges_in, holding, with_load};
-ghost use Rattle.frame_stages.specs.AppAnswers.{Ends, around, with_sent, with_back, IsBackFrom, Polled, FoundMark};
+ghost use Rattle.frame_stages.specs.AppAnswers.{Ends, around, with_sent, with_back, IsBackFrom, Polled};
+ghost use Rattle.frame_stages.specs.Stays.{desk_place, end_place};
 
-use crate::answers::{Did, StageError};
 use crate::app_turns::{Came, look, make_edit, make_frame, make_view, stop};
 use crate::script::{Next, Script};
 use crate::taking_back::{Brought, Flight, new_load};
@@ -23,7 +24,7 @@ use pf_io::{Gate, NoMemory, Sink, Stage};
 use pf_model::View;
 use pf_scene::Scene;
 use seat_lock::Desk;
-use stage_parts::{Load, Packet};
+use stage_parts::{Did, Load, Packet, StageError};
 
 /// The parts of the application's stage: its section, the frames in flight, whether a Sync stands since the last Frame,
 /// whether the End was sent, and the packet that it holds to send; how many merges the play has, the lens, the
@@ -60,9 +61,8 @@ impl Application {
             Polled k (Ok (did_of result)) (holding packet (work_of self.old)) (work_of self.new)
             (around seen told (with_sent (S.sent to.old) (S.room to.old) (S.told_taken to.old) ends))
             (around seen told (with_sent (S.sent to.new) (S.room to.old) (S.told_taken to.old) ends)) }
-        ensures link { S.send_at to.new ≡ S.send_at to.old }
-        ensures room { S.room to.new ≡ S.room to.old }
-        ensures other_end { S.told_taken to.new ≡ S.told_taken to.old }
+        ensures to { end_place (S.send_at to.new) (S.room to.new) (S.told_taken to.new)
+            ≡ end_place (S.send_at to.old) (S.room to.old) (S.told_taken to.old) }
     {
         let last = is_end(&packet);
         match to.push(packet) {
@@ -103,8 +103,7 @@ impl Application {
         ensures polled { (ends : Ends) → Polled (D.number desk.old) result (work_of self.old) (work_of self.new)
             (around (D.seen desk.old) (D.told desk.old) ends) (around (D.seen desk.new) (D.told desk.new) ends) }
         ensures on { is_over result ≡ false }
-        ensures number { D.number desk.new ≡ D.number desk.old }
-        ensures stands { D.stands desk.new ≡ D.stands desk.old }
+        ensures desk { desk_place (D.number desk.new) (D.stands desk.new) ≡ desk_place (D.number desk.old) (D.stands desk.old) }
     {
         match make_edit(desk, &mut self.script) {
             Came::Entered => Ok(Did::Did),
@@ -130,8 +129,7 @@ impl Application {
         ensures polled { (ends : Ends) → Polled (D.number desk.old) result (work_of self.old) (work_of self.new)
             (around (D.seen desk.old) (D.told desk.old) ends) (around (D.seen desk.new) (D.told desk.new) ends) }
         ensures on { is_over result ≡ false }
-        ensures number { D.number desk.new ≡ D.number desk.old }
-        ensures stands { D.stands desk.new ≡ D.stands desk.old }
+        ensures desk { desk_place (D.number desk.new) (D.stands desk.new) ≡ desk_place (D.number desk.old) (D.stands desk.old) }
     {
         match make_view(desk, channel, view) {
             Came::Entered => {
@@ -168,8 +166,7 @@ impl Application {
             Polled (D.number desk.old) result (work_of self.old) (work_of self.new)
             (around (D.seen desk.old) (D.told desk.old) ends) (around (D.seen desk.new) (D.told desk.new) ends) }
         ensures on { is_over result ≡ false }
-        ensures number { D.number desk.new ≡ D.number desk.old }
-        ensures stands { D.stands desk.new ≡ D.stands desk.old }
+        ensures desk { desk_place (D.number desk.new) (D.stands desk.new) ≡ desk_place (D.number desk.old) (D.stands desk.old) }
     {
         if !self.flight.has_room() {
             return Ok(Did::NotYet);
@@ -207,11 +204,9 @@ impl Application {
             (around (D.seen desk.new) (D.told desk.new) (with_back (T.taken from.new) (T.told_sent from.old)
             (record { bytes = O.written frames.new; faults = O.faults frames.new; at_fault = O.at_fault frames.new }) ends)) }
         ensures on { is_over result ≡ false }
-        ensures number { D.number desk.new ≡ D.number desk.old }
-        ensures stands { D.stands desk.new ≡ D.stands desk.old }
-        ensures link { T.take_at from.new ≡ T.take_at from.old }
-        ensures room { T.take_room from.new ≡ T.take_room from.old }
-        ensures other_end { T.told_sent from.new ≡ T.told_sent from.old }
+        ensures desk { desk_place (D.number desk.new) (D.stands desk.new) ≡ desk_place (D.number desk.old) (D.stands desk.old) }
+        ensures from { end_place (T.take_at from.new) (T.take_room from.new) (T.told_sent from.new)
+            ≡ end_place (T.take_at from.old) (T.take_room from.old) (T.told_sent from.old) }
     {
         match self.flight.bring_back(from, frames) {
             Brought::Nothing => self.sync_turn(asked, desk),
@@ -235,8 +230,7 @@ impl Application {
             Polled (D.number desk.old) result (work_of self.old) (work_of self.new)
             (around (D.seen desk.old) (D.told desk.old) ends) (around (D.seen desk.new) (D.told desk.new) ends) }
         ensures on { is_over result ≡ false }
-        ensures number { D.number desk.new ≡ D.number desk.old }
-        ensures stands { D.stands desk.new ≡ D.stands desk.old }
+        ensures desk { desk_place (D.number desk.new) (D.stands desk.new) ≡ desk_place (D.number desk.old) (D.stands desk.old) }
     {
         if self.flight.is_away() {
             return Ok(Did::NotYet);
@@ -280,11 +274,9 @@ impl Application {
             (around (D.seen desk.new) (D.told desk.new) (with_back (T.taken from.new) (T.told_sent from.old)
             (record { bytes = O.written frames.new; faults = O.faults frames.new; at_fault = O.at_fault frames.new }) ends)) }
         ensures on { is_over result ≡ false }
-        ensures number { D.number desk.new ≡ D.number desk.old }
-        ensures stands { D.stands desk.new ≡ D.stands desk.old }
-        ensures link { T.take_at from.new ≡ T.take_at from.old }
-        ensures room { T.take_room from.new ≡ T.take_room from.old }
-        ensures other_end { T.told_sent from.new ≡ T.told_sent from.old }
+        ensures desk { desk_place (D.number desk.new) (D.stands desk.new) ≡ desk_place (D.number desk.old) (D.stands desk.old) }
+        ensures from { end_place (T.take_at from.new) (T.take_room from.new) (T.told_sent from.new)
+            ≡ end_place (T.take_at from.old) (T.take_room from.old) (T.told_sent from.old) }
     {
         match self.flight.bring_back(from, frames) {
             Brought::Nothing => self.close_turn(merges, desk),
@@ -329,8 +321,7 @@ impl Application {
         ensures polled { (ends : Ends) → Polled (D.number desk.old) result (with_load load (work_of self.old)) (work_of self.new)
             (around (D.seen desk.old) (D.told desk.old) ends) (around (D.seen desk.new) (D.told desk.new) ends) }
         ensures on { is_over result ≡ false }
-        ensures number { D.number desk.new ≡ D.number desk.old }
-        ensures stands { D.stands desk.new ≡ D.stands desk.old }
+        ensures desk { desk_place (D.number desk.new) (D.stands desk.new) ≡ desk_place (D.number desk.old) (D.stands desk.old) }
     {
         let alloc = self.flight.allocator();
         match make_frame(alloc, desk, self.flight.ahead(), &mut load) {
@@ -362,8 +353,7 @@ impl Application {
         ensures polled { (ends : Ends) → Polled (D.number desk.old) result (with_load old (work_of self.old)) (work_of self.new)
             (around (D.seen desk.old) (D.told desk.old) ends) (around (D.seen desk.new) (D.told desk.new) ends) }
         ensures on { is_over result ≡ false }
-        ensures number { D.number desk.new ≡ D.number desk.old }
-        ensures stands { D.stands desk.new ≡ D.stands desk.old }
+        ensures desk { desk_place (D.number desk.new) (D.stands desk.new) ≡ desk_place (D.number desk.old) (D.stands desk.old) }
     {
         let alloc = self.flight.allocator();
         let Ok(mut fresh) = new_load(alloc, &self.lens, self.channels) else {
@@ -398,8 +388,7 @@ impl Application {
         ensures polled { (ends : Ends) → Polled (D.number desk.old) result (work_of self.old) (work_of self.new)
             (around (D.seen desk.old) (D.told desk.old) ends) (around (D.seen desk.new) (D.told desk.new) ends) }
         ensures on { is_over result ≡ false }
-        ensures number { D.number desk.new ≡ D.number desk.old }
-        ensures stands { D.stands desk.new ≡ D.stands desk.old }
+        ensures desk { desk_place (D.number desk.new) (D.stands desk.new) ≡ desk_place (D.number desk.old) (D.stands desk.old) }
     {
         match self.flight.take_load() {
             None => {
@@ -437,11 +426,9 @@ impl Application {
             (around (D.seen desk.new) (D.told desk.new) (with_back (T.taken from.new) (T.told_sent from.old)
             (record { bytes = O.written frames.new; faults = O.faults frames.new; at_fault = O.at_fault frames.new }) ends)) }
         ensures on { is_over result ≡ false }
-        ensures number { D.number desk.new ≡ D.number desk.old }
-        ensures stands { D.stands desk.new ≡ D.stands desk.old }
-        ensures link { T.take_at from.new ≡ T.take_at from.old }
-        ensures room { T.take_room from.new ≡ T.take_room from.old }
-        ensures other_end { T.told_sent from.new ≡ T.told_sent from.old }
+        ensures desk { desk_place (D.number desk.new) (D.stands desk.new) ≡ desk_place (D.number desk.old) (D.stands desk.old) }
+        ensures from { end_place (T.take_at from.new) (T.take_room from.new) (T.told_sent from.new)
+            ≡ end_place (T.take_at from.old) (T.take_room from.old) (T.told_sent from.old) }
     {
         match self.script.next() {
             Next::Edit => self.edit(desk),
@@ -478,11 +465,9 @@ impl Application {
             (around (D.seen desk.new) (D.told desk.new) (with_back (T.taken from.new) (T.told_sent from.old)
             (record { bytes = O.written frames.new; faults = O.faults frames.new; at_fault = O.at_fault frames.new }) ends)) }
         ensures on { is_over result ≡ false }
-        ensures number { D.number desk.new ≡ D.number desk.old }
-        ensures stands { D.stands desk.new ≡ D.stands desk.old }
-        ensures link { T.take_at from.new ≡ T.take_at from.old }
-        ensures room { T.take_room from.new ≡ T.take_room from.old }
-        ensures other_end { T.told_sent from.new ≡ T.told_sent from.old }
+        ensures desk { desk_place (D.number desk.new) (D.stands desk.new) ≡ desk_place (D.number desk.old) (D.stands desk.old) }
+        ensures from { end_place (T.take_at from.new) (T.take_room from.new) (T.told_sent from.new)
+            ≡ end_place (T.take_at from.old) (T.take_room from.old) (T.told_sent from.old) }
     {
         if merges < self.script.need() {
             return Ok(Did::NotYet);
@@ -521,20 +506,25 @@ impl Application {
               sink = record { bytes = O.written frames.new; faults = O.faults frames.new; at_fault = O.at_fault frames.new };
             })) }
         ensures on { is_over result ≡ false }
-        ensures number { D.number desk.new ≡ D.number desk.old }
-        ensures stands { D.stands desk.new ≡ D.stands desk.old }
-        ensures take_link { T.take_at from.new ≡ T.take_at from.old }
-        ensures take_room { T.take_room from.new ≡ T.take_room from.old }
-        ensures told_sent { T.told_sent from.new ≡ T.told_sent from.old }
-        ensures send_link { S.send_at to.new ≡ S.send_at to.old }
-        ensures send_room { S.room to.new ≡ S.room to.old }
-        ensures told_taken { S.told_taken to.new ≡ S.told_taken to.old }
+        ensures desk { desk_place (D.number desk.new) (D.stands desk.new) ≡ desk_place (D.number desk.old) (D.stands desk.old) }
+        ensures from { end_place (T.take_at from.new) (T.take_room from.new) (T.told_sent from.new)
+            ≡ end_place (T.take_at from.old) (T.take_room from.old) (T.told_sent from.old) }
+        ensures to { end_place (S.send_at to.new) (S.room to.new) (S.told_taken to.new)
+            ≡ end_place (S.send_at to.old) (S.room to.old) (S.told_taken to.old) }
     {
         match self.held.take() {
             Some(packet) => Ok(Did::of(self.send(packet, to))),
             None => self.go_on(merges, desk, from, frames, gate),
         }
     }
+
+    /// Whether it has closed: the End is held or was sent.
+    pub(crate) fn has_closed(&self) -> bool
+        ensures { result ≡ (work_of self.now).state.closed }
+    {
+        self.ended || self.held.as_ref().is_some_and(is_end)
+    }
+
     /// Whether it is over: the End was sent, or a fault cut a picture short.
     fn is_done(&self) -> bool
         ensures value { result ≡ is_done (work_of self.now).state }
@@ -576,14 +566,11 @@ impl Application {
         ensures done { is_done (work_of self.old).state ≡ true → result ≡ Ok did.Over }
         ensures looked { is_done (work_of self.old).state ≡ false → FoundMark (D.number desk.old) (D.seen desk.old) (D.told desk.old)
             (is_over result) }
-        ensures number { D.number desk.new ≡ D.number desk.old }
-        ensures stands { D.stands desk.new ≡ D.stands desk.old }
-        ensures take_link { T.take_at from.new ≡ T.take_at from.old }
-        ensures take_room { T.take_room from.new ≡ T.take_room from.old }
-        ensures told_sent { T.told_sent from.new ≡ T.told_sent from.old }
-        ensures send_link { S.send_at to.new ≡ S.send_at to.old }
-        ensures send_room { S.room to.new ≡ S.room to.old }
-        ensures told_taken { S.told_taken to.new ≡ S.told_taken to.old }
+        ensures desk { desk_place (D.number desk.new) (D.stands desk.new) ≡ desk_place (D.number desk.old) (D.stands desk.old) }
+        ensures from { end_place (T.take_at from.new) (T.take_room from.new) (T.told_sent from.new)
+            ≡ end_place (T.take_at from.old) (T.take_room from.old) (T.told_sent from.old) }
+        ensures to { end_place (S.send_at to.new) (S.room to.new) (S.told_taken to.new)
+            ≡ end_place (S.send_at to.old) (S.room to.old) (S.told_taken to.old) }
     {
         if self.is_done() {
             return Ok(Did::Over);

@@ -1,19 +1,20 @@
 //! The database process.
-ghost use Rattle.std.specs.Prelude.{◌≡◌, ℕ, ◌≤◌, ◌↔◌, IsTrue, true, false, List, [], length, Some, Ok, OnOk, OnErr, IfSome};
+ghost use Rattle.std.specs.Prelude.{◌≡◌, ℕ, ◌≤◌, ◌↔◌, IsTrue, true, false, List, [], length, Some, Ok, OnOk, OnErr};
 ghost use Rattle.std.specs.List.{list_all};
 ghost use Rattle.pf_model.specs.declared.lines.BaseLine.{BaseLine};
 ghost use Rattle.pf_model.specs.declared.lines.BaseStep.TheVariants as base;
 ghost use Rattle.pf_history.specs.Logs.{state_of};
 ghost use Rattle.play_format.specs.Plays.{base_fits, open_after};
-ghost use Rattle.frame_stages.specs.Answers.{is_over};
-ghost use Rattle.frame_stages.specs.DbaseWorks.{opening_work, is_ended, DbaseHolds};
+ghost use Rattle.stage_parts.specs.Answers.{is_over};
+ghost use Rattle.frame_stages.specs.Looks.{FoundMark};
+ghost use Rattle.frame_stages.specs.DbaseWorks.{opening_work, is_ended, has_ended, DbaseHolds};
 ghost use Rattle.frame_stages.specs.DbaseLines.{kind_of, next_line};
 ghost use Rattle.frame_stages.specs.Copies.{HoldsCopies};
-ghost use Rattle.frame_stages.specs.DbaseAnswers.{Passes, GivesUp, Tries, IsDbaseAnswer};
-ghost use Rattle.frame_stages.specs.declared.answers.Did.TheVariants as did;
+ghost use Rattle.frame_stages.specs.DbaseAnswers.{DbaseAdds, Passes, GivesUp, Tries, IsDbaseAnswer};
+ghost use Rattle.stage_parts.specs.declared.answers.Did.TheVariants as did;
 ghost use Rattle.frame_stages.specs.declared.next_line.NextLine.TheVariants as next;
+ghost use Rattle.frame_stages.specs.Stays.{desk_place};
 
-use crate::answers::{Did, StageError};
 use crate::dbase_turns::{enter, set_mark};
 use crate::filling::{fill, hand_of};
 use crate::in_hand::InHand;
@@ -23,6 +24,7 @@ use pf_io::{Gate, NoMemory, Stage};
 use pf_model::BaseLine;
 use pf_scene::{Outcome, Scene, Sight};
 use seat_lock::Desk;
+use stage_parts::{Did, StageError};
 use std::alloc::Global;
 use std::collections::VecDeque;
 use std::marker::Model;
@@ -83,6 +85,13 @@ impl DbaseStage {
             failed: false,
             hand: InHand::Nothing,
         })
+    }
+
+    /// Whether it has ended: each line of its section is passed. Where memory ran out it has not.
+    pub fn has_ended(&self) -> bool
+        ensures { result ≡ has_ended self.now }
+    {
+        self.is_ended() && !self.failed
     }
 
     /// Whether no line is left.
@@ -152,8 +161,7 @@ impl DbaseStage {
         ensures tries { Tries (D.number desk.old) result self.old self.new
             (record { seen = D.seen desk.old; told = D.told desk.old })
             (record { seen = D.seen desk.new; told = D.told desk.new }) }
-        ensures number { D.number desk.new ≡ D.number desk.old }
-        ensures stands { D.stands desk.new ≡ D.stands desk.old }
+        ensures desk { desk_place (D.number desk.new) (D.stands desk.new) ≡ desk_place (D.number desk.old) (D.stands desk.old) }
     {
         let InHand::Merge(merge) = mem::replace(&mut self.hand, InHand::Nothing) else {
             unreachable!();
@@ -190,8 +198,7 @@ impl DbaseStage {
         ensures tries { Tries (D.number desk.old) result self.old self.new
             (record { seen = D.seen desk.old; told = D.told desk.old })
             (record { seen = D.seen desk.new; told = D.told desk.new }) }
-        ensures number { D.number desk.new ≡ D.number desk.old }
-        ensures stands { D.stands desk.new ≡ D.stands desk.old }
+        ensures desk { desk_place (D.number desk.new) (D.stands desk.new) ≡ desk_place (D.number desk.old) (D.stands desk.old) }
     {
         match self.next() {
             NextLine::End => unreachable!(),
@@ -215,6 +222,9 @@ impl DbaseStage {
             → DbaseHolds lines channels (D.number desk.old) self.old (D.seen desk.old)
             → DbaseHolds lines channels (D.number desk.old) self.new (D.seen desk.new) }
 
+        // It adds at most one entry, which is a merge of its own.
+        ensures adds { DbaseAdds (D.number desk.old) (D.seen desk.old) (D.seen desk.new) }
+
         // The scene's copies stay accounted for.
         ensures counted { HoldsCopies (D.told desk.old) → HoldsCopies (D.told desk.new) }
 
@@ -223,12 +233,11 @@ impl DbaseStage {
             (record { seen = D.seen desk.old; told = D.told desk.old })
             (record { seen = D.seen desk.new; told = D.told desk.new }) }
         ensures ended { is_ended self.old.rest ≡ true → result ≡ Ok did.Over }
-        ensures looked { is_ended self.old.rest ≡ false
-            → IfSome (D.told desk.old) (λ scene. is_over result ≡ scene.shared.stopped) }
+        ensures looked { is_ended self.old.rest ≡ false → FoundMark (D.number desk.old) (D.seen desk.old) (D.told desk.old)
+            (is_over result) }
 
         // It leaves all else of the desk.
-        ensures number { D.number desk.new ≡ D.number desk.old }
-        ensures stands { D.stands desk.new ≡ D.stands desk.old }
+        ensures desk { desk_place (D.number desk.new) (D.stands desk.new) ≡ desk_place (D.number desk.old) (D.stands desk.old) }
     {
         if self.is_ended() {
             return Ok(Did::Over);

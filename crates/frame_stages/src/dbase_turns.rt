@@ -2,7 +2,7 @@
 ghost use Rattle.std.specs.Prelude.{◌≡◌};
 ghost use Rattle.seat_lock.specs.Log.{Found};
 ghost use Rattle.frame_stages.specs.Copies.{HoldsCopies};
-ghost use Rattle.frame_stages.specs.DbaseAnswers.{Marks, Entered};
+ghost use Rattle.frame_stages.specs.DbaseAnswers.{SetsMark, Entered};
 
 use pf_history::{Merge, Reply};
 use pf_scene::{MergeAct, Outcome, Scene, StopAct};
@@ -23,7 +23,7 @@ pub(crate) fn enter<D: Desk<Scene>>(desk: &mut D, merge: Merge) -> Outcome<Reply
 /// Sets the stop mark of the scene that is found.
 pub(crate) fn set_mark<D: Desk<Scene>>(desk: &mut D)
     ensures counted { HoldsCopies (D.told desk.old) → HoldsCopies (D.told desk.new) }
-    ensures marks { Marks (D.told desk.old) (D.told desk.new) }
+    ensures marks { SetsMark (D.told desk.old) (D.told desk.new) }
     ensures found { Found (D.number desk.old) (D.seen desk.old) (D.seen desk.new) }
     ensures number { D.number desk.new ≡ D.number desk.old }
     ensures stands { D.stands desk.new ≡ D.stands desk.old }

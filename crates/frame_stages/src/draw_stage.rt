@@ -3,12 +3,12 @@ ghost use Rattle.std.specs.Prelude.{◌≡◌, ◌+◌, true, false, List, [], �
 ghost use Rattle.seat_lock.specs.Log.{Found};
 ghost use Rattle.stage_parts.specs.Parts.{DrawPart};
 ghost use Rattle.frame_stages.specs.Looks.{SawMark};
-ghost use Rattle.frame_stages.specs.Answers.{is_over, IsFull, IsDry, Waits, Moves, PassesOn};
+ghost use Rattle.stage_parts.specs.Answers.{is_over, IsFull, IsDry, WaitsToPass, MovesOne, PassesOn};
 ghost use Rattle.frame_stages.specs.Works.{IsGivenAsBefore};
-ghost use Rattle.frame_stages.specs.declared.answers.Did.TheVariants as did;
+ghost use Rattle.stage_parts.specs.declared.answers.Did.TheVariants as did;
 ghost use Rattle.stage_parts.specs.declared.packets.Packet.TheVariants as packet;
+ghost use Rattle.frame_stages.specs.Stays.{desk_place, end_place};
 
-use crate::answers::{Did, StageError};
 use crate::looks::is_stopped;
 use crate::painting::paint;
 use depth_raster::Raster;
@@ -18,7 +18,7 @@ use pf_io::{Gate, NoMemory, Stage};
 use pf_scene::Scene;
 use ppm_out::Image;
 use seat_lock::Desk;
-use stage_parts::{Load, Packet};
+use stage_parts::{Did, Load, Packet, StageError};
 use std::alloc::Global;
 use std::marker::Model;
 use std::thread::Threads;
@@ -72,9 +72,8 @@ impl DrawStage {
         ensures still { result ≡ false → self.new.state ≡ record self.old.state { held = Some packet } }
         ensures unsent { result ≡ false → S.sent to.new ≡ S.sent to.old }
         ensures full { result ≡ false → IsFull (S.room to.old) (S.told_taken to.old) (S.sent to.old) }
-        ensures link { S.send_at to.new ≡ S.send_at to.old }
-        ensures room { S.room to.new ≡ S.room to.old }
-        ensures other_end { S.told_taken to.new ≡ S.told_taken to.old }
+        ensures to { end_place (S.send_at to.new) (S.room to.new) (S.told_taken to.new)
+            ≡ end_place (S.send_at to.old) (S.room to.old) (S.told_taken to.old) }
     {
         match to.push(packet) {
             Ok(()) => true,
@@ -113,9 +112,8 @@ impl DrawStage {
         ensures still { result ≡ false → self.new.state ≡ self.old.state }
         ensures none { result ≡ false → T.taken from.new ≡ T.taken from.old }
         ensures dry { result ≡ false → IsDry (T.told_sent from.old) (T.taken from.old) }
-        ensures link { T.take_at from.new ≡ T.take_at from.old }
-        ensures room { T.take_room from.new ≡ T.take_room from.old }
-        ensures other_end { T.told_sent from.new ≡ T.told_sent from.old }
+        ensures from { end_place (T.take_at from.new) (T.take_room from.new) (T.told_sent from.new)
+            ≡ end_place (T.take_at from.old) (T.take_room from.old) (T.told_sent from.old) }
     {
         match from.pop() {
             None => false,
@@ -142,22 +140,27 @@ impl DrawStage {
         ensures given { IsGivenAsBefore self.old self.new }
         ensures part { DrawPart self.old.lens self.old.back self.old.state (T.taken from.old) (S.sent to.old)
             → DrawPart self.new.lens self.new.back self.new.state (T.taken from.new) (S.sent to.new) }
-        ensures moves { Moves result
+        ensures moves { MovesOne result
             (record { state = self.old.state; taken = T.taken from.old; sent = S.sent to.old })
             (record { state = self.new.state; taken = T.taken from.new; sent = S.sent to.new })
-            (Waits self.old.state.held (IsDry (T.told_sent from.old) (T.taken from.old))
+            (WaitsToPass self.old.state.held (IsDry (T.told_sent from.old) (T.taken from.old))
             (IsFull (S.room to.old) (S.told_taken to.old) (S.sent to.old))) }
-        ensures take_link { T.take_at from.new ≡ T.take_at from.old }
-        ensures take_room { T.take_room from.new ≡ T.take_room from.old }
-        ensures told_sent { T.told_sent from.new ≡ T.told_sent from.old }
-        ensures send_link { S.send_at to.new ≡ S.send_at to.old }
-        ensures send_room { S.room to.new ≡ S.room to.old }
-        ensures told_taken { S.told_taken to.new ≡ S.told_taken to.old }
+        ensures from { end_place (T.take_at from.new) (T.take_room from.new) (T.told_sent from.new)
+            ≡ end_place (T.take_at from.old) (T.take_room from.old) (T.told_sent from.old) }
+        ensures to { end_place (S.send_at to.new) (S.room to.new) (S.told_taken to.new)
+            ≡ end_place (S.send_at to.old) (S.room to.old) (S.told_taken to.old) }
     {
         match self.held.take() {
             Some(packet) => self.send(packet, to),
             None => self.take(rt, from, gate),
         }
+    }
+
+    /// Whether it has ended: the End was taken.
+    pub fn has_ended(&self) -> bool
+        ensures { result ≡ self.now.state.ended }
+    {
+        self.ended
     }
 
     /// One step: sends the packet that it holds, or takes one and holds what it makes of it. It takes no memory.
@@ -178,7 +181,7 @@ impl DrawStage {
         ensures answer { PassesOn result
             (record { state = self.old.state; taken = T.taken from.old; sent = S.sent to.old })
             (record { state = self.new.state; taken = T.taken from.new; sent = S.sent to.new })
-            (Waits self.old.state.held (IsDry (T.told_sent from.old) (T.taken from.old))
+            (WaitsToPass self.old.state.held (IsDry (T.told_sent from.old) (T.taken from.old))
             (IsFull (S.room to.old) (S.told_taken to.old) (S.sent to.old))) }
         ensures ended { self.old.state.ended ≡ true → result ≡ Ok did.Over }
         ensures looked { self.old.state.ended ≡ false
@@ -187,14 +190,11 @@ impl DrawStage {
         // It adds no entry, and leaves all else of the desk and the links.
         ensures found { Found (D.number desk.old) (D.seen desk.old) (D.seen desk.new) }
         ensures told { D.told desk.new ≡ D.told desk.old }
-        ensures number { D.number desk.new ≡ D.number desk.old }
-        ensures stands { D.stands desk.new ≡ D.stands desk.old }
-        ensures take_link { T.take_at from.new ≡ T.take_at from.old }
-        ensures take_room { T.take_room from.new ≡ T.take_room from.old }
-        ensures told_sent { T.told_sent from.new ≡ T.told_sent from.old }
-        ensures send_link { S.send_at to.new ≡ S.send_at to.old }
-        ensures send_room { S.room to.new ≡ S.room to.old }
-        ensures told_taken { S.told_taken to.new ≡ S.told_taken to.old }
+        ensures desk { desk_place (D.number desk.new) (D.stands desk.new) ≡ desk_place (D.number desk.old) (D.stands desk.old) }
+        ensures from { end_place (T.take_at from.new) (T.take_room from.new) (T.told_sent from.new)
+            ≡ end_place (T.take_at from.old) (T.take_room from.old) (T.told_sent from.old) }
+        ensures to { end_place (S.send_at to.new) (S.room to.new) (S.told_taken to.new)
+            ≡ end_place (S.send_at to.old) (S.room to.old) (S.told_taken to.old) }
     {
         if self.ended {
             return Ok(Did::Over);

@@ -4,7 +4,7 @@ ghost use Rattle.pf_model.specs.Merges.{judged, recorded};
 ghost use Rattle.pf_model.specs.Fits.{fits};
 ghost use Rattle.play_format.specs.Plays.{is_link};
 ghost use Rattle.frame_stages.specs.DbaseWorks.{HoldsBuffer};
-ghost use Rattle.frame_stages.specs.DbaseLines.{HasRoom, IsFilled, IsRanged, is_whole, is_open, CanFill, Fills};
+ghost use Rattle.frame_stages.specs.DbaseLines.{CountsOneMore, IsFilled, IsRanged, is_whole, is_open, CanFill, Fills};
 
 use crate::in_hand::InHand;
 use dbase_buffer::{Buffer, BufferError};
@@ -14,7 +14,7 @@ use std::alloc::Global;
 
 /// The buffer after an edit was judged in it.
 fn judge(mut buffer: Buffer, e: Edit) -> Result<Buffer, NoMemory>
-    requires room { HasRoom buffer }
+    requires room { CountsOneMore buffer }
     requires fits { fits e ≡ true }
     ensures { IfOk result (λ b. b ≡ judged buffer e) }
 {

@@ -2,7 +2,6 @@
 //! asynchronous database process.
 #![tactic(auto)]
 
-mod answers;
 mod app_stage;
 mod app_turns;
 mod application;
@@ -20,9 +19,8 @@ mod painting;
 mod script;
 mod taking_back;
 
-pub use answers::{Did, StageError};
 pub use app_stage::AppStage;
 pub use cull_stage::CullStage;
 pub use dbase_stage::DbaseStage;
 pub use draw_stage::DrawStage;
-pub use stage_parts::{Load, Packet};
+pub use stage_parts::{Did, Load, Packet, StageError};

@@ -4,7 +4,7 @@ ghost use Rattle.std.specs.Vec.{vec_len, vec_capacity};
 ghost use Rattle.stage_parts.specs.Loads.{Each, AreImages};
 ghost use Rattle.stage_parts.specs.Parts.{cut_short};
 ghost use Rattle.stage_parts.specs.declared.packets.Packet.TheVariants as packet;
-ghost use Rattle.frame_stages.specs.Answers.{IsDry};
+ghost use Rattle.stage_parts.specs.Answers.{IsDry};
 ghost use Rattle.frame_stages.specs.AppTurns.{Comes, LeavesHome};
 ghost use Rattle.frame_stages.specs.Copies.{HoldsCopies, AreHomeward};
 ghost use Rattle.pf_history.specs.declared.commands.Command.TheVariants as command;

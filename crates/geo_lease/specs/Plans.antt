@@ -86,7 +86,3 @@ abbrev pub name_at : List (ℕ × ℕ) → ℕ → Option ℕ
 name_at [] i = None
 name_at (pair ∷ pairs) zero = Some pair.0
 name_at (pair ∷ pairs) (suc i) = name_at pairs i
-
--- the geodes of the pairs
-abbrev pub names_of : List (ℕ × ℕ) → List ℕ
-names_of pairs = map (λ pair. pair.0) pairs

@@ -44,7 +44,7 @@ pub struct Keeper<T> {
 }
 
 impl<T> Keeper<T> {
-    ghost use Rattle.std.specs.Prelude.{◌+◌, ◌*◌, ◌/◌, ◌<◌, ◌≤◌, ◌↔◌, true, length, get_or, slice_get, is_some, IsTrue, IfOk, MatchBool, All};
+    ghost use Rattle.std.specs.Prelude.{◌+◌, ◌*◌, ◌/◌, ◌<◌, ◌≤◌, ◌↔◌, true, length, get_or, slice_get, is_some, IsTrue, IfOk, OnErr, MatchBool, All};
     ghost use Rattle.geo_lease.specs.Plans.{with_slots};
     ghost use Rattle.geo_lease.specs.Calls.{Chosen, IsIdle};
     ghost use Rattle.geo_lease.specs.Tokens.{keeper_view, current_slots, geodes_of, content_of};
@@ -114,9 +114,10 @@ impl<T> Keeper<T> {
         names: &[u16],
     ) -> Result<Vec<(u16, usize)>, AllocError>
         requires { All (λ geode. is_some (content_of self.now geode) ≡ true) names.now }
-        ensures { IfOk result (λ places. places.items ≡ with_slots (current_slots self.now) names.now) }
+        ensures places { IfOk result (λ places. places.items ≡ with_slots (current_slots self.now) names.now) }
+        ensures asked { OnErr result (0 < length names.now) }
     {
-        let mut places = Vec::with_capacity(alloc, names.len())?;
+        let mut places = Vec::new(alloc);
         for name in names {
             let Some(slot) = self.current[usize::from(*name)] else {
                 unreachable!()

@@ -26,6 +26,7 @@ impl<T> Leases<T> {
     ghost use Rattle.std.specs.Prelude.{◌+◌, ◌*◌, ◌≤◌, ◌≢◌, [], ◌∷◌, replicate, true, false, slice_set, None};
     ghost use Rattle.std.specs.Prelude.{IfOk, IfErr, All, Contains, is_some};
     ghost use Rattle.atomic_table.specs.Table.{rest};
+    ghost use Rattle.std.specs.Result.{IsErrOf};
     ghost use Rattle.geo_lease.specs.declared.view.Plan.{Plan};
     ghost use Rattle.geo_lease.specs.declared.view.Role.TheVariants.{Keeps, Turns};
     ghost use Rattle.geo_lease.specs.Plans.{HasPlace, IsFree, plan_of, with_slots, slot_at};
@@ -96,7 +97,8 @@ impl<T> Leases<T> {
         found
     }
 
-    /// Grants a lease for a frame: it records what each named geode contains now. The memory for it is taken first.
+    /// Grants a lease for a frame: it records what each named geode contains now. The memory for it is taken first, and
+    /// none where no geode is named.
     pub fn grant(
         &self,
         alloc: Global,
@@ -122,6 +124,7 @@ impl<T> Leases<T> {
         ensures named { IfOk result (λ lease. (g : ℕ) → Contains names.now g →
             is_some (slot_at g (lease_slots lease)) ≡ true) }
         ensures refused { IfErr result (λ error. Refused error (keeper_view keeper.old) (keeper_view keeper.new)) }
+        ensures memory { IsErrOf result GrantError.NoMemory → 0 < length names.now }
         ensures above { IfOk result (λ lease. (keeper_view keeper.new).above ≡ frame + 1) }
         ensures still { IfErr result (λ error. (keeper_view keeper.new).above ≡ (keeper_view keeper.old).above) }
     {

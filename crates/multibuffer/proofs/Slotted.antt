@@ -25,16 +25,10 @@ equal_false a b l = grind (arith, nat_tests)
 
 -- slots without a node
 
-pub no_nodes : (id : ℕ) (slots : List (Option Node)) → ((k : ℕ) → get_or slots k None ≡ None) → nodes_from id slots ≡ []
-no_nodes id [] h = refl
-no_nodes id (None ∷ slots) h = no_nodes (suc id) slots (λ k. h (suc k))
-no_nodes id (Some n ∷ slots) h = absurd (let e : Some n ≡ None = h 0 in cc)
-
-pub none_more : (slots : List (Option Node)) → ((k : ℕ) → get_or slots k None ≡ None) → (k : ℕ) → get_or (slots ++ None ∷ []) k None ≡ None
-none_more [] h zero = refl
-none_more [] h (suc k) = refl
-none_more (s ∷ slots) h zero = h 0
-none_more (s ∷ slots) h (suc k) = none_more slots (λ j. h (suc j)) k
+pub slot_more : (id : ℕ) (slots : List (Option Node)) → nodes_from id (slots ++ None ∷ []) ≡ nodes_from id slots
+slot_more id [] = refl
+slot_more id (None ∷ slots) = slot_more (suc id) slots
+slot_more id (Some n ∷ slots) = ap (λ ns. (id, n) ∷ ns) (slot_more (suc id) slots)
 
 -- the ids of slots
 

@@ -16,7 +16,7 @@ use Rattle.pf_model.proofs.Places.{node_at_step}
 use Rattle.pf_model.proofs.Histories.{limits_empty}
 use Rattle.bound_cache.specs.Caches.{CacheState, box_at, touched_at, AreBoxesOf, ChangesAreTouched, StandBelow}
 use Rattle.bound_cache.proofs.Parts.{none_box}
-use Rattle.multibuffer.specs.StageCopies.{HasRightBoxes, entry_at, is_named}
+use Rattle.multibuffer.specs.StageCopies.{HasRightBoxes, IsTended, entry_at, is_named}
 use Rattle.multibuffer.proofs.Handing.{handed, handed_entry, handed_more, handed_all}
 
 -- a node set or cleared below a number that is above its id
@@ -165,26 +165,39 @@ pub boxes_still : (was : Nodes) (kept boxes : ℕ → Option Bounds) → AreBoxe
 boxes_still was kept boxes right same = record { each = λ k. same k ∙ right.each k }
 
 -- the boxes of a cache that was cleaned after a list was taken
-pub boxes_after : (was nodes : Nodes) (before taken clean : CacheState) → HasRightBoxes (record { nodes = was; boxes = before.boxes; high = before.high })
+pub boxes_after : (was nodes : Nodes) (before taken clean : CacheState) → StandBelow (node_at was) before.high → AreBoxesOf (node_at was) (box_at before)
     → ((k : ℕ) → box_at taken k ≡ box_at before k) → ChangesAreTouched (node_at was) (node_at nodes) (touched_at taken) → before.high ≤ taken.high
-    → (StandBelow (node_at was) before.high → StandBelow (node_at nodes) taken.high)
     → (AreBoxesOf (node_at was) (box_at taken) → ChangesAreTouched (node_at was) (node_at nodes) (touched_at taken) → StandBelow (node_at was) taken.high → AreBoxesOf (node_at nodes) (box_at clean))
-    → clean.high ≡ taken.high → HasRightBoxes (record { nodes = nodes; boxes = clean.boxes; high = clean.high })
-boxes_after was nodes before taken clean right same told higher stand cleans high = record {
-  each = (cleans (boxes_still was (box_at before) (box_at taken) (record { each = right.each }) same) told (λ id l. right.stand id (omega arith))).each;
-  stand = subst (λ (h : ℕ). StandBelow (node_at nodes) h) (sym high) (stand right.stand);
+    → HasRightBoxes (record { nodes = nodes; boxes = clean.boxes })
+boxes_after was nodes before taken clean stand right same told higher cleans = record {
+  each = (cleans (boxes_still was (box_at before) (box_at taken) right same) told (λ id l. stand id (omega arith))).each;
+}
+
+-- what a clean leaves: nothing is touched, and the nodes stand where they stood for it
+pub tended_after : (nodes : Nodes) (taken clean : CacheState) → ((k : ℕ) → touched_at clean k ≡ false) → StandBelow (node_at nodes) taken.high → clean.high ≡ taken.high → IsTended nodes clean
+tended_after nodes taken clean none stand high = record {
+  untouched = none;
+  stand = subst (λ (h : ℕ). StandBelow (node_at nodes) h) (sym high) stand;
 }
 
 -- the copy before the first list: its one node is touched, and the boxes are brought to it
+pub record Opened (nodes : Nodes) (clean : CacheState) : Type 0 where
+  pub right : HasRightBoxes (record { nodes = nodes; boxes = clean.boxes })
+  pub tended : IsTended nodes clean
+
 pub opened : (nodes : Nodes) (fresh touched clean : CacheState) → nodes ≡ ((0, scene_node) ∷ []) → ((k : ℕ) → box_at fresh k ≡ None) → ((k : ℕ) → box_at touched k ≡ box_at fresh k)
     → ((k : ℕ) → touched_at touched k ≡ (k == 0 || touched_at fresh k)) → touched.high ≡ max fresh.high (0 + 1)
     → ((was : Look) → AreBoxesOf was (box_at touched) → ChangesAreTouched was (node_at nodes) (touched_at touched) → StandBelow was touched.high → KeepsLimits (node_at nodes) → AreBoxesOf (node_at nodes) (box_at clean))
-    → clean.high ≡ touched.high → HasRightBoxes (record { nodes = nodes; boxes = clean.boxes; high = clean.high })
-opened nodes fresh touched clean lone none same touches rises cleans high =
-    boxes_after [] nodes fresh touched clean (record { each = λ k. none k ∙ sym (none_box (node_at []) k refl); stand = λ k l. refl })
-    same told (let l : fresh.high ≤ max fresh.high (0 + 1) = le-max_left fresh.high (0 + 1) in subst (λ (h : ℕ). fresh.high ≤ h) (sym rises) l)
-    (λ s. subst (λ (h : ℕ). StandBelow (node_at nodes) h) (sym rises) (stand_more [] nodes 0 fresh.high (Some scene_node) looks s))
-    (λ right changed stand. cleans (node_at []) right changed stand limits) high
+    → ((k : ℕ) → touched_at clean k ≡ false) → clean.high ≡ touched.high → Opened nodes clean
+opened nodes fresh touched clean lone none same touches rises cleans untouched high = record {
+  right =
+      boxes_after [] nodes fresh touched clean (λ k l. refl) (record { each = λ k. none k ∙ sym (none_box (node_at []) k refl) })
+      same told (let l : fresh.high ≤ max fresh.high (0 + 1) = le-max_left fresh.high (0 + 1) in subst (λ (h : ℕ). fresh.high ≤ h) (sym rises) l)
+      (λ right changed stand. cleans (node_at []) right changed stand limits);
+  tended =
+      tended_after nodes touched clean untouched
+      (subst (λ (h : ℕ). StandBelow (node_at nodes) h) (sym rises) (stand_more [] nodes 0 fresh.high (Some scene_node) looks (λ k l. refl))) high;
+}
   where
     looks : (k : ℕ) → node_at nodes k ≡ cond (k == 0) (Some scene_node) None
     looks k = ap (λ (ns : Nodes). node_at ns k) lone ∙ node_at_step k (0, scene_node) [] ∙ ap (λ b. cond b (Some scene_node) None) (eq_turned 0 k)

@@ -1,7 +1,10 @@
 //! The nodes of a copy, in a slot for each id.
-ghost use Rattle.std.specs.Prelude.{◌≡◌, ℕ, ◌<◌, ◌==◌, None, [], if◌then◌else◌, slice_index_or, slice_set, length, IfOk};
+ghost use Rattle.std.specs.Prelude.{◌≡◌, ℕ, ◌<◌, ◌≤◌, ◌==◌, None, [], if◌then◌else◌, slice_index_or, slice_set, length, IfOk};
+ghost use Rattle.std.specs.Option.{option_copied};
+ghost use Rattle.std.specs.Vec.{vec_len, vec_capacity};
 ghost use Rattle.pf_model.specs.Graphs.{node_at};
 ghost use Rattle.pf_model.specs.Copies.{updated};
+ghost use Rattle.multibuffer.specs.Slots.{nodes_from};
 ghost use Rattle.multibuffer.specs.StageCopies.{entry_at};
 
 use pf_io::NoMemory;
@@ -14,14 +17,16 @@ use update_lists::Updates;
 /// The number of ids.
 const IDS: usize = 65_536;
 
-/// Nodes by their ids, in rising order of these.
+/// Nodes by their ids, in rising order of these. There is memory for the slots of all ids, and as many are written as the
+/// greatest id that was ever named asks.
 #[derive(Debug, Drop)]
 pub(crate) struct NodeTable {
     slots: Vec<Option<Node>>,
 }
 
 impl Model for NodeTable {
-    ghost use Rattle.std.specs.Prelude.{◌≡◌, length};
+    ghost use Rattle.std.specs.Prelude.{◌≤◌};
+    ghost use Rattle.std.specs.Vec.{vec_capacity};
     ghost use Rattle.pf_model.specs.Graphs.{Nodes};
     ghost use Rattle.multibuffer.specs.Slots.{nodes_from};
 
@@ -29,19 +34,29 @@ impl Model for NodeTable {
 
     ghost view = { λ t. nodes_from 0 t.slots.items };
 
-    ghost invariant = { λ t. length t.slots.items ≡ 65536 };
+    ghost invariant = { λ t. 65536 ≤ vec_capacity t.slots };
 }
 
-/// So many slots without a node.
-fn empty_slots(alloc: Global, count: usize) -> Result<Vec<Option<Node>>, NoMemory>
-    ensures count { IfOk result (λ v. length v.items ≡ count) }
-    ensures none { IfOk result (λ v. (k : ℕ) → slice_index_or v.items k None ≡ None) }
+/// Writes further slots without a node, until there are this many; there is memory for them.
+fn lengthen(slots: &mut Vec<Option<Node>>, count: usize)
+    requires { count ≤ vec_capacity slots.old }
+    ensures count { count ≤ vec_len slots.new }
+    ensures capacity { vec_capacity slots.new ≡ vec_capacity slots.old }
+    ensures nodes { nodes_from 0 slots.new.items ≡ nodes_from 0 slots.old.items }
 {
-    let mut slots = Vec::with_capacity(alloc, count)?;
-    for place in 0..count {
-        slots.push(None)?;
+    for place in slots.len()..count {
+        slots.push_reserved(None);
     }
-    Ok(slots)
+}
+
+/// The node in a slot, none past the last that is written.
+fn node_in(slots: &[Option<Node>], place: usize) -> Option<&Node>
+    ensures { option_copied result ≡ slice_index_or slots.now place None }
+{
+    match slots.get(place) {
+        Some(slot) => slot.as_ref(),
+        None => None,
+    }
 }
 
 impl NodeTable {
@@ -49,7 +64,7 @@ impl NodeTable {
     pub(crate) fn new(alloc: Global) -> Result<NodeTable, NoMemory>
         ensures { IfOk result (λ t. t ≡ []) }
     {
-        let slots = empty_slots(alloc, IDS)?;
+        let slots = Vec::with_capacity(alloc, IDS)?;
         Ok(NodeTable { slots })
     }
 
@@ -59,6 +74,7 @@ impl NodeTable {
         ensures looks { (k : ℕ) → node_at self.new k ≡ (if k == id then node else node_at self.old k) }
         ensures stood { result ≡ node_at self.old id }
     {
+        lengthen(&mut self.slots, id as usize + 1);
         mem::replace(&mut self.slots[id as usize], node)
     }
 
@@ -87,6 +103,6 @@ impl NodeView for NodeTable {
     ghost look = { λ nodes. node_at nodes };
 
     fn node(&self, id: u16) -> Option<&Node> {
-        self.slots[id as usize].as_ref()
+        node_in(self.slots.as_slice(), id as usize)
     }
 }

@@ -23,15 +23,13 @@ pub struct StageCopy {
 }
 
 impl Model for StageCopy {
-    ghost use Rattle.std.specs.Prelude.{◌≡◌, ℕ, false};
-    ghost use Rattle.bound_cache.specs.Caches.{touched_at};
-    ghost use Rattle.multibuffer.specs.StageCopies.{CopyState};
+    ghost use Rattle.multibuffer.specs.StageCopies.{CopyState, IsTended};
 
     ghost Value = { CopyState };
 
-    ghost view = { λ c. record { nodes = c.nodes; boxes = c.cache.boxes; high = c.cache.high } };
+    ghost view = { λ c. record { nodes = c.nodes; boxes = c.cache.boxes } };
 
-    ghost invariant = { λ c. (id : ℕ) → touched_at c.cache id ≡ false };
+    ghost invariant = { λ c. IsTended c.nodes c.cache };
 }
 
 /// Exchanges each entry of an update list with what stands under its id, and touches the id.

@@ -3,5 +3,6 @@ mod ByteSums
 mod Readings
 mod Tellings
 mod Whys
+mod Arguments
 mod Dues
 mod Runs

@@ -61,6 +61,7 @@ no_play_by : (left left' : Option (List ℕ)) (v : List ℕ) (s : Stop) → Gave
     ((r : Refusal) × (s ≡ stop.Refused r)) ⊎ (s ≡ stop.NoMemory) → HasNoPlay None left left' s
 no_play_by left left' v s gave refused (inl (r, is)) =
     subst (HasNoPlay None left left') (sym is) (
+      refl,
       refused_alike left v r (read_alike left left' v gave.taken gave.whole) (refused r is),
       (v, gave.taken, ended_out left' v gave.whole),
     )

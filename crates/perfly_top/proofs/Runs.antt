@@ -5,10 +5,12 @@ use Rattle.play_format.specs.Plays.{Script}
 use Rattle.play_check.specs.Stuck.{IsStuck}
 use Rattle.pf_history.specs.Logs.{Log, Recorded, IsLegal}
 use Rattle.pf_history.proofs.Freeing.{freed_law}
-use Rattle.pipe_core.specs.declared.played.PlayEnd.{PlayEnd}
-use Rattle.pipe_core.specs.declared.played.PlayEnd.TheVariants as end
+use Rattle.pipe_plays.specs.declared.played.PlayEnd.{PlayEnd}
+use Rattle.pipe_plays.specs.declared.played.PlayEnd.TheVariants as end
 use Rattle.program_words.specs.declared.words.Words.{Words}
-use Rattle.perfly_top.specs.Program.{FreesLate, IsPart, IsPlayed}
+use Rattle.std.specs.Io.KnownBytes.{append_known}
+use Rattle.perfly_top.specs.Calls.{AddsSome}
+use Rattle.perfly_top.specs.Program.{told, IsSummed, FreesLate, IsPart, IsPlayed}
 use Rattle.perfly_top.specs.Runs.{IsRun}
 
 -- what a legal history frees stands in no later frame
@@ -35,3 +37,16 @@ played_of words play ended h' h stats frames frames' same run done can =
       retired = run.front;
       freed = freed_late play.channels h.entries run.legal;
     })
+
+-- what was told of a run was told of the history that is handed on
+pub whole_of : (words : Words) (play : Script) (h' h : Recorded) (frames report report' : Option (List ℕ)) (sum : ℕ) → h' ≡ h →
+    IsSummed words play h.entries frames sum → report' ≡ append_known report (told words play h.entries sum) →
+    (s : ℕ) × IsSummed words play h'.entries frames s × (report' ≡ append_known report (told words play h'.entries s))
+whole_of words play h' h frames report report' sum same summed tells =
+    subst (λ (r : Recorded). (s : ℕ) × IsSummed words play r.entries frames s × (report' ≡ append_known report (told words play r.entries s))) (sym same) (sum, summed, tells)
+
+pub some_of : (words : Words) (play : Script) (h' h : Recorded) (frames report report' : Option (List ℕ)) (sum : ℕ) → h' ≡ h →
+    IsSummed words play h.entries frames sum → AddsSome report report' (told words play h.entries sum) →
+    (s : ℕ) × IsSummed words play h'.entries frames s × AddsSome report report' (told words play h'.entries s)
+some_of words play h' h frames report report' sum same summed tells =
+    subst (λ (r : Recorded). (s : ℕ) × IsSummed words play r.entries frames s × AddsSome report report' (told words play r.entries s)) (sym same) (sum, summed, tells)

@@ -10,7 +10,6 @@ use Rattle.play_check.specs.Stuck.{IsStuck, AreStuckLines}
 use Rattle.play_gen.specs.Lines.{generated_text}
 use Rattle.pf_history.specs.Logs.{Log}
 use Rattle.program_words.specs.declared.words.Words.{Words}
-use Rattle.program_words.specs.Meaning.{meaning_of_words}
 
 -- the bytes of a stream, where it tells them
 abbrev pub Bytes : Type 0
@@ -32,23 +31,26 @@ abbrev pub IsReadOut : Bytes → Bytes → Type 0
 IsReadOut left left' = (taken : List ℕ) × (left ≡ prepend_known taken left') × ((length taken ≡ 16777217) ⊎ IsAtEnd left')
 
 -- The words mean this, and the text that is to be played spells this play.
-pub record IsGiven (texts : List (List ℕ)) (left left' : Bytes) (words : Words) (play : Script) : Type 0 where
-  pub meaning : meaning_of_words texts ≡ Some words
+pub record IsGiven (meant : Option Words) (left left' : Bytes) (words : Words) (play : Script) : Type 0 where
+  pub meaning : meant ≡ Some words
   pub spelled : IfSome (given_text words.make left) (λ text. Reads text play)
   pub read : IsReadFor words.make left left'
 
--- The words are right, and the text has no reading: this is its first wrong line, with the first cause against it.
-pub record IsRefused (texts : List (List ℕ)) (left left' : Bytes) (refusal : Refusal) : Type 0 where
+-- The words are right and give no number to make, and the text has no reading: this is its first wrong line, with the
+-- first cause against it.
+pub record IsRefused (meant : Option Words) (left left' : Bytes) (refusal : Refusal) : Type 0 where
   pub words : Words
-  pub meaning : meaning_of_words texts ≡ Some words
+  pub meaning : meant ≡ Some words
+  pub unmade : words.make ≡ None
   pub no_play : IfSome (given_text words.make left) (λ text. (first_refusal text ≡ Some refusal) × ¬ HasReading text)
   pub read : IsReadOut left left'
 
--- The play is stuck, and these are its lines.
-pub record IsBarred (texts : List (List ℕ)) (left left' : Bytes) (app dbase : ℕ) : Type 0 where
+-- The play is stuck, and these are its lines. The words give no number to make.
+pub record IsBarred (meant : Option Words) (left left' : Bytes) (app dbase : ℕ) : Type 0 where
   pub words : Words
   pub play : Script
-  pub given : IsGiven texts left left' words play
+  pub given : IsGiven meant left left' words play
+  pub unmade : words.make ≡ None
   pub stuck : IsStuck play.app play.dbase
   pub lines : AreStuckLines play.app play.dbase app dbase
 

@@ -8,12 +8,11 @@ use Rattle.play_format.specs.Reads.{Reads, HasReading}
 use Rattle.play_check.specs.Stuck.{IsStuck}
 use Rattle.pf_history.specs.Logs.{Log}
 use Rattle.program_words.specs.declared.words.Words.{Words}
-use Rattle.program_words.specs.Meaning.{meaning_of_words}
 use Rattle.perfly_top.specs.declared.stop.Stop.{Stop}
 use Rattle.perfly_top.specs.declared.stop.Stop.TheVariants as stop
 use Rattle.perfly_top.specs.Messages.{message_of}
 use Rattle.perfly_top.specs.Calls.{Bytes, given_text, IsGiven, IsRefused, IsBarred, IsTold, AddsSome}
-use Rattle.perfly_top.specs.Program.{told, IsTellable, IsPart, IsPlayed}
+use Rattle.perfly_top.specs.Program.{told, IsSummed, IsPart, IsPlayed}
 
 -- the status that a call ends with where it doesn't come to its end
 abbrev pub status_of : Stop → ℕ
@@ -33,14 +32,14 @@ stuck_of (stop.Stuck app dbase) = Some (app, dbase)
 stuck_of _ = None
 
 -- why a call stops before it plays, and what it has read of its source by then
-abbrev pub IsWhy : List (List ℕ) → (left left' : Bytes) → Stop → Type 0
-IsWhy texts left left' stop.Words = (meaning_of_words texts ≡ None) × (left' ≡ left)
-IsWhy texts left left' (stop.Refused r) = IsRefused texts left left' r
-IsWhy texts left left' (stop.Stuck app dbase) = IsBarred texts left left' app dbase
-IsWhy texts left left' stop.ReadFault =
-    (words : Words) × (meaning_of_words texts ≡ Some words) × (words.make ≡ None) × TakesFront left left'
-IsWhy texts left left' stop.FrameFault = ⊥
-IsWhy texts left left' stop.NoMemory = TakesFront left left'
+abbrev pub IsWhy : Option Words → (left left' : Bytes) → Stop → Type 0
+IsWhy meant left left' stop.Words = (meant ≡ None) × (left' ≡ left)
+IsWhy meant left left' (stop.Refused r) = IsRefused meant left left' r
+IsWhy meant left left' (stop.Stuck app dbase) = IsBarred meant left left' app dbase
+IsWhy meant left left' stop.ReadFault =
+    (words : Words) × (meant ≡ Some words) × (words.make ≡ None) × TakesFront left left'
+IsWhy meant left left' stop.FrameFault = ⊥
+IsWhy meant left left' stop.NoMemory = TakesFront left left'
 
 -- The call stopped for a reason that its status tells, and said so.
 pub record IsStopped (status : ℕ) (refusal : Option Refusal) (stuck : Option (ℕ × ℕ)) (report report' : Bytes) (old new : ℕ) : Type 0 where
@@ -51,37 +50,46 @@ pub record IsStopped (status : ℕ) (refusal : Option Refusal) (stuck : Option (
   pub message : IsTold report report' old new (message_of why)
 
 -- The play that was given was begun.
-pub record IsBegun (texts : List (List ℕ)) (left left' : Bytes) (log : Log) (frames frames' : Bytes) : Type 0 where
+pub record IsBegun (meant : Option Words) (left left' : Bytes) (log : Log) (frames frames' : Bytes) : Type 0 where
   pub words : Words
   pub play : Script
-  pub given : IsGiven texts left left' words play
+  pub given : IsGiven meant left left' words play
   pub can_end : ¬ IsStuck play.app play.dbase
   pub part : IsPart words play log frames frames'
 
 -- The play that was given was played to its end, and told: the headline.
-pub record IsDone (texts : List (List ℕ)) (left left' : Bytes) (log : Log) (frames frames' report report' : Bytes) : Type 0 where
+pub record IsDone (meant : Option Words) (left left' : Bytes) (log : Log) (frames frames' report report' : Bytes) : Type 0 where
   pub words : Words
   pub play : Script
-  pub given : IsGiven texts left left' words play
+  pub given : IsGiven meant left left' words play
   pub played : IsPlayed words play log frames frames'
-  pub told : IsTellable words frames → report' ≡ append_known report (told words play log)
+  pub sum : ℕ
+  pub summed : IsSummed words play log frames sum
+  pub told : report' ≡ append_known report (told words play log sum)
 
 -- The play that was given was played to its end, and some of what is to be told of it was told.
-pub record IsDoneUntold (texts : List (List ℕ)) (left left' : Bytes) (log : Log) (frames frames' report report' : Bytes) : Type 0 where
+pub record IsDoneUntold (meant : Option Words) (left left' : Bytes) (log : Log) (frames frames' report report' : Bytes) : Type 0 where
   pub words : Words
   pub play : Script
-  pub given : IsGiven texts left left' words play
+  pub given : IsGiven meant left left' words play
   pub played : IsPlayed words play log frames frames'
-  pub told : IsTellable words frames → AddsSome report report' (told words play log)
+  pub sum : ℕ
+  pub summed : IsSummed words play log frames sum
+  pub told : AddsSome report report' (told words play log sum)
 
 -- The statuses that a call may end with, by what it is given: but for faults and want of memory there is one.
-pub record IsDue (texts : List (List ℕ)) (left : Bytes) (status : ℕ) : Type 0 where
-  pub wrong_words : meaning_of_words texts ≡ None → (status ≡ 1) ⊎ (status ≡ 7)
-  pub no_play : (words : Words) (text : List ℕ) → meaning_of_words texts ≡ Some words → given_text words.make left ≡ Some text →
+pub record IsDue (meant : Option Words) (left : Bytes) (status : ℕ) : Type 0 where
+  pub wrong_words : meant ≡ None → (status ≡ 1) ⊎ (status ≡ 7)
+  pub no_play : (words : Words) (text : List ℕ) → meant ≡ Some words → given_text words.make left ≡ Some text →
       ¬ HasReading text → (status ≡ 2) ⊎ (status ≡ 4) ⊎ (status ≡ 7)
-  pub stuck : (words : Words) (text : List ℕ) (play : Script) → meaning_of_words texts ≡ Some words →
+  pub stuck : (words : Words) (text : List ℕ) (play : Script) → meant ≡ Some words →
       given_text words.make left ≡ Some text → Reads text play → IsStuck play.app play.dbase →
       (status ≡ 3) ⊎ (status ≡ 4) ⊎ (status ≡ 7)
-  pub played : (words : Words) (text : List ℕ) (play : Script) → meaning_of_words texts ≡ Some words →
+  pub played : (words : Words) (text : List ℕ) (play : Script) → meant ≡ Some words →
       given_text words.make left ≡ Some text → Reads text play → ¬ IsStuck play.app play.dbase →
       (status ≡ 0) ⊎ (status ≡ 4) ⊎ (status ≡ 5) ⊎ (status ≡ 6) ⊎ (status ≡ 7)
+
+-- a call with a number to make plays what it made, so that it ends at its end, by a fault of a sink, or for want of memory
+abbrev pub IsDueMade : Option Words → ℕ → Type 0
+IsDueMade meant status =
+    (words : Words) (n : ℕ) → meant ≡ Some words → words.make ≡ Some n → (status ≡ 0) ⊎ (status ≡ 5) ⊎ (status ≡ 6) ⊎ (status ≡ 7)

@@ -1,6 +1,7 @@
 pub mod Stops
 pub mod Messages
 pub mod Sums
+pub mod Arguments
 pub mod Calls
 pub mod Readings
 pub mod Program

@@ -11,7 +11,7 @@ use Rattle.pf_history.specs.Fits.{FitsPlay, FitsWholly}
 use Rattle.pf_history.specs.Cuts.{found_by_frames}
 use Rattle.pf_history.specs.CutLaws.{has_serial, is_among, sync_entry}
 use Rattle.stage_parts.specs.Pictures.{pictures}
-use Rattle.pipe_core.specs.Played.{AddsFront}
+use Rattle.pipe_plays.specs.Played.{AddsFront}
 use Rattle.play_report.specs.Reports.{report, summary}
 use Rattle.program_words.specs.declared.words.Words.{Words}
 use Rattle.perfly_top.specs.Sums.{sum_of_bytes}
@@ -20,15 +20,14 @@ use Rattle.perfly_top.specs.Sums.{sum_of_bytes}
 abbrev pub stream_of : Script → Log → List ℕ
 stream_of play log = concat (pictures play.channels play.lens play.back log)
 
--- what the report sink gets: the report, or with a number to make the summary
-abbrev pub told : Words → Script → Log → List ℕ
-told words play log =
-    option_map_or (λ n. summary play.lens play.channels n log (sum_of_bytes (stream_of play log))) words.make
-    (report play.lens play.channels log)
+-- what the report sink gets: the report, or with a number to make the summary, which has a sum
+abbrev pub told : Words → Script → Log → ℕ → List ℕ
+told words play log sum =
+    option_map_or (λ n. summary play.lens play.channels n log sum) words.make (report play.lens play.channels log)
 
--- A summary has the sum of the bytes that the frame sink took, so it is known where that sink tells its bytes.
-abbrev pub IsTellable : Words → Option (List ℕ) → Type 0
-IsTellable words frames = IsSome words.make → IsSome frames
+-- The sum of a summary is that of the bytes of the pictures, where the frame sink tells its bytes.
+abbrev pub IsSummed : Words → Script → Log → Option (List ℕ) → ℕ → Type 0
+IsSummed words play log frames sum = IsSome words.make → IsSome frames → sum ≡ sum_of_bytes (stream_of play log)
 
 -- A node is freed only when no undelivered frame names it: where a Sync of r replies a serial, only the first r frames
 -- have a node of it.

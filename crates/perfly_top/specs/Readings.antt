@@ -15,7 +15,7 @@ pub record Gave (left left' : Bytes) (bytes : List ℕ) : Type 0 where
 -- why there is no play, and what was read by then
 abbrev pub HasNoPlay : Option ℕ → (left left' : Bytes) → Stop → Type 0
 HasNoPlay make left left' (stop.Refused r) =
-    IfSome (given_text make left) (λ text. (first_refusal text ≡ Some r) × ¬ HasReading text) × IsReadOut left left'
+    (make ≡ None) × IfSome (given_text make left) (λ text. (first_refusal text ≡ Some r) × ¬ HasReading text) × IsReadOut left left'
 HasNoPlay make left left' stop.ReadFault = (make ≡ None) × TakesFront left left'
 HasNoPlay make left left' stop.NoMemory = TakesFront left left'
 HasNoPlay make left left' _ = ⊥

@@ -1,5 +1,5 @@
 -- What a run of a play leaves.
-use Rattle.std.specs.Prelude.{◌≡◌, ◌≢◌, ℕ, List, Option, Some}
+use Rattle.std.specs.Prelude.{◌≡◌, ◌≢◌, ℕ, List, Option}
 use Rattle.std.specs.Io.KnownBytes.{append_known}
 use Rattle.pf_io.specs.Causes.{Calm, Rose}
 use Rattle.draw_list.specs.declared.stats.Stats.{Stats}
@@ -7,12 +7,14 @@ use Rattle.play_format.specs.Plays.{Script}
 use Rattle.pf_history.specs.Logs.{Log, IsLegal}
 use Rattle.pf_history.specs.Fits.{FitsPlay, FitsWholly}
 use Rattle.stage_parts.specs.Pictures.{frame_numbers}
-use Rattle.pipe_core.specs.Played.{AddsFront}
-use Rattle.pipe_core.specs.declared.played.PlayEnd.{PlayEnd}
-use Rattle.pipe_core.specs.declared.played.PlayEnd.TheVariants as end
-use Rattle.program_words.specs.declared.words.Words.{Words}
-use Rattle.perfly_top.specs.Sums.{sum_of_bytes}
+use Rattle.pipe_plays.specs.Played.{AddsFront}
+use Rattle.pipe_plays.specs.declared.played.PlayEnd.{PlayEnd}
+use Rattle.pipe_plays.specs.declared.played.PlayEnd.TheVariants as end
 use Rattle.perfly_top.specs.Program.{stream_of}
+
+-- the numbers are those of the frames of a history
+abbrev pub HasNumbers : Script → List Stats → Log → Type 0
+HasNumbers play stats log = stats ≡ frame_numbers play.channels play.lens log
 
 -- The history is one of the play, and the stream is a front of its pictures; where the play came to its end, the history
 -- fits it wholly, the stream is all pictures, and the numbers are those of the frames.
@@ -22,15 +24,10 @@ pub record IsRun (play : Script) (ahead : ℕ) (ended : PlayEnd) (log : Log) (st
   pub wholly : ended ≡ end.Done → FitsWholly play.channels ahead play.app play.dbase log
   pub front : AddsFront play log old new
   pub whole : ended ≡ end.Done → new ≡ append_known old (stream_of play log)
-  pub numbers : ended ≡ end.Done → stats ≡ frame_numbers play.channels play.lens log
+  pub numbers : ended ≡ end.Done → HasNumbers play stats log
 
 -- it ended by a fault of the sink exactly where the count of its faults rose, after which nothing was written
 pub record EndsByFault (ended : PlayEnd) (before now : ℕ) (at_fault written : Option (List ℕ)) : Type 0 where
   pub fault : ended ≡ end.FrameFault → Rose before now
   pub last : ended ≡ end.FrameFault → at_fault ≡ written
   pub calm : ended ≢ end.FrameFault → Calm before now
-
--- the numbers and the sum are those of the frames of a history, the sum where a summary is to be told
-pub record IsSummedUp (words : Words) (play : Script) (stats : List Stats) (sum : ℕ) (log : Log) : Type 0 where
-  pub numbers : stats ≡ frame_numbers play.channels play.lens log
-  pub added : (n : ℕ) → words.make ≡ Some n → sum ≡ sum_of_bytes (stream_of play log)

@@ -1,4 +1,6 @@
 -- Why a call ends, by the error of a part.
+use Rattle.std.specs.declared.io.ErrorKind.{ErrorKind}
+use Rattle.std.specs.declared.io.ErrorKind.TheVariants as kind
 use Rattle.pf_io.specs.declared.source.ReadError.{ReadError}
 use Rattle.pf_io.specs.declared.source.ReadError.TheVariants as read_error
 use Rattle.play_format.specs.declared.refusal.ParseError.{ParseError}
@@ -19,3 +21,8 @@ stop_of_read read_error.NoMemory = stop.NoMemory
 abbrev pub stop_of_parse : ParseError → Stop
 stop_of_parse (parse_error.Refused r) = stop.Refused r
 stop_of_parse parse_error.NoMemory = stop.NoMemory
+
+-- arguments that cannot be read, as where one is no text, are wrong words, unless memory ran out
+abbrev pub stop_of_arguments : ErrorKind → Stop
+stop_of_arguments kind.OutOfMemory = stop.NoMemory
+stop_of_arguments _ = stop.Words

@@ -1,12 +1,12 @@
 //! How a call ends, and what it says.
-ghost use Rattle.std.specs.Prelude.{◌≡◌, ◌≢◌, ◌⊎◌, ◌↔◌, None, IsSome, OnOk, OnErr};
+ghost use Rattle.std.specs.Prelude.{◌≡◌, ◌≢◌, ◌⊎◌, ◌↔◌, true, None, IsSome, OnOk, OnErr};
 ghost use Rattle.std.specs.Io.KnownBytes.{append_known};
 ghost use Rattle.pf_io.specs.Causes.{Calm, Rose};
 ghost use Rattle.play_format.specs.Plays.{Script};
 ghost use Rattle.perfly_top.specs.Calls.{IsTold, AddsSome};
 ghost use Rattle.perfly_top.specs.Endings.{status_of, refusal_of, stuck_of, IsStopped};
 ghost use Rattle.perfly_top.specs.Program.{told};
-ghost use Rattle.perfly_top.specs.Runs.{IsSummedUp};
+ghost use Rattle.perfly_top.specs.Runs.{HasNumbers};
 ghost use Rattle.perfly_top.specs.Messages.{message_of};
 
 use crate::messages::say_why;
@@ -105,6 +105,7 @@ fn write_out<P: Sink>(report: &mut P, text: &[u8]) -> Result<(), Failed>
     ensures told { IsTold (P.written report.old) (P.written report.new) (P.faults report.old) (P.faults report.new) text.now }
     ensures calm { OnOk result (Calm (P.faults report.old) (P.faults report.new)) }
     ensures whole { OnOk result (P.written report.new ≡ append_known (P.written report.old) text.now) }
+    ensures flushed { OnOk result (P.flushed report.new ≡ true) }
     ensures fault { OnErr result (Rose (P.faults report.old) (P.faults report.new)) }
 {
     match write_all(report, text) {
@@ -119,6 +120,7 @@ fn deliver<P: Sink>(report: &mut P, text: &[u8]) -> u8
     ensures whole { result ≡ DONE → P.written report.new ≡ append_known (P.written report.old) text.now }
     ensures some { result ≡ REPORT_FAULT → AddsSome (P.written report.old) (P.written report.new) text.now }
     ensures calm { result ≡ DONE → Calm (P.faults report.old) (P.faults report.new) }
+    ensures flushed { result ≡ DONE → P.flushed report.new ≡ true }
     ensures fault { result ≡ REPORT_FAULT → Rose (P.faults report.old) (P.faults report.new) }
 {
     match write_out(report, text) {
@@ -131,13 +133,14 @@ fn deliver<P: Sink>(report: &mut P, text: &[u8]) -> u8
 pub(crate) fn tell<P: Sink>(alloc: Global, words: Words, run: Run, report: &mut P) -> Ended
     ensures one_of { (result.status ≡ DONE) ⊎ (result.status ≡ REPORT_FAULT) ⊎ (result.status ≡ NO_MEMORY) }
     ensures history { result.history ≡ run.played.history }
-    ensures whole { (play : Script) → IsSummedUp words play run.played.stats.items run.sum run.played.history.entries
+    ensures whole { (play : Script) → HasNumbers play run.played.stats.items run.played.history.entries
         → result.status ≡ DONE
-        → P.written report.new ≡ append_known (P.written report.old) (told words play run.played.history.entries) }
-    ensures some { (play : Script) → IsSummedUp words play run.played.stats.items run.sum run.played.history.entries
+        → P.written report.new ≡ append_known (P.written report.old) (told words play run.played.history.entries run.sum) }
+    ensures some { (play : Script) → HasNumbers play run.played.stats.items run.played.history.entries
         → result.status ≡ REPORT_FAULT
-        → AddsSome (P.written report.old) (P.written report.new) (told words play run.played.history.entries) }
+        → AddsSome (P.written report.old) (P.written report.new) (told words play run.played.history.entries run.sum) }
     ensures calm { result.status ≡ DONE → Calm (P.faults report.old) (P.faults report.new) }
+    ensures flushed { result.status ≡ DONE → P.flushed report.new ≡ true }
     ensures fault { result.status ≡ REPORT_FAULT → Rose (P.faults report.old) (P.faults report.new) }
     ensures stopped { result.status ≡ NO_MEMORY → IsStopped result.status result.refusal result.stuck
         (P.written report.old) (P.written report.new) (P.faults report.old) (P.faults report.new) }

@@ -1,7 +1,8 @@
-//! The whole of perfly behind one call.
+//! The whole of perfly behind one call: `run`, from the arguments to the status, over `perfly`.
 #![tactic(auto)]
 
 mod ending;
+mod exit;
 mod loading;
 mod messages;
 mod playing;
@@ -13,7 +14,5 @@ mod top;
 pub use ending::{
     DONE, Ended, FRAME_FAULT, NO_MEMORY, READ_FAULT, REFUSED, REPORT_FAULT, STUCK, WORDS,
 };
+pub use exit::run;
 pub use top::perfly;
-
-#[cfg(test)]
-mod tests;

@@ -42,11 +42,11 @@ pub(crate) fn prepared<I: Source>(
     words: &[String],
     input: &mut I,
 ) -> Result<Task, Stop>
-    ensures given { IfOk result (λ t. IsGiven (map string_bytes words.now) (I.left input.old) (I.left input.new) t.words t.play) }
+    ensures given { IfOk result (λ t. IsGiven (meaning_of_words (map string_bytes words.now)) (I.left input.old) (I.left input.new) t.words t.play) }
     ensures can_end { IfOk result (λ t. ¬ IsStuck t.play.app t.play.dbase) }
     ensures some { IfOk result (λ t. 1 ≤ t.words.ahead) }
     ensures few { IfOk result (λ t. t.words.ahead ≤ 4) }
-    ensures why { IfErr result (λ s. IsWhy (map string_bytes words.now) (I.left input.old) (I.left input.new) s) }
+    ensures why { IfErr result (λ s. IsWhy (meaning_of_words (map string_bytes words.now)) (I.left input.old) (I.left input.new) s) }
     ensures unread { (w : Words) (n : ℕ) → meaning_of_words (map string_bytes words.now) ≡ Some w → w.make ≡ Some n
         → I.left input.new ≡ I.left input.old }
     ensures fault { result ≡ Err stop.ReadFault → Rose (I.faults input.old) (I.faults input.new) }

@@ -4,6 +4,7 @@ ghost use Rattle.std.specs.Prelude.{◌≡◌};
 use pf_io::{NoMemory, ReadError};
 use play_format::{ParseError, Refusal};
 use program_words::WordsError;
+use std::io::{self, ErrorKind};
 
 /// Why a call ends before all is told.
 #[derive(Clone, Copy, Debug, PartialEq, Eq)]
@@ -67,6 +68,21 @@ impl From<ParseError> for Stop {
         match error {
             ParseError::Refused(refusal) => Stop::Refused(refusal),
             ParseError::NoMemory => Stop::NoMemory,
+        }
+    }
+}
+
+impl From<io::Error> for Stop {
+    ghost use Rattle.std.specs.IoError.{error_kind};
+    ghost use Rattle.perfly_top.specs.Stops.{stop_of_arguments};
+
+    ghost from_gives = { λ error s. s ≡ stop_of_arguments (error_kind error) };
+
+    /// Why a call ends whose arguments cannot be read.
+    fn from(error: io::Error) -> Stop {
+        match error.kind() {
+            ErrorKind::OutOfMemory => Stop::NoMemory,
+            _ => Stop::Words,
         }
     }
 }

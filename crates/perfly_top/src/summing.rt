@@ -1,8 +1,8 @@
 //! A sink that adds up the bytes that it passes on.
-ghost use Rattle.std.specs.Prelude.{◌≡◌, ◌<◌, ◌≤◌, List, ℕ, length, Option, None, Some, IfOk};
+ghost use Rattle.std.specs.Prelude.{◌≡◌, ◌<◌, ◌≤◌, Bool, List, ℕ, length, Option, None, Some, IfOk};
 ghost use Rattle.std.specs.Borrow.{GName};
 ghost use Rattle.pf_io.specs.Causes.{HasCause};
-ghost use Rattle.pf_io.specs.Streams.{Writes, MarksFault};
+ghost use Rattle.pf_io.specs.Streams.{Writes, MarksFault, flushed_after_write, flushed_after_flush};
 ghost use Rattle.perfly_top.specs.Sums.{sum_of_bytes, IsSumSince};
 
 use pf_io::{Failed, Sink};
@@ -29,6 +29,8 @@ pub(crate) trait Held {
 
     ghost at_failure: { Self → Option (List ℕ) };
 
+    ghost is_flushed: { Self → Bool };
+
     ghost loan: { Self → GName };
 
     /// As `Sink::write`.
@@ -38,14 +40,16 @@ pub(crate) trait Held {
         ensures bound { IfOk result (λ n. (0 < n) × (n ≤ length piece.now)) }
         ensures bytes { Writes (bytes self.old) (bytes self.new) result piece.now }
         ensures cause { HasCause (failed self.old) (failed self.new) result }
-        ensures last { MarksFault (at_failure self.old) (at_failure self.new) (bytes self.new) result };
+        ensures last { MarksFault (at_failure self.old) (at_failure self.new) (bytes self.new) result }
+        ensures flushed { is_flushed self.new ≡ flushed_after_write (is_flushed self.old) result };
 
     /// As `Sink::flush`.
     fn end(&mut self) -> Result<(), Failed>
         ensures same { loan self.new ≡ loan self.old }
         ensures bytes { bytes self.new ≡ bytes self.old }
         ensures cause { HasCause (failed self.old) (failed self.new) result }
-        ensures last { MarksFault (at_failure self.old) (at_failure self.new) (bytes self.new) result };
+        ensures last { MarksFault (at_failure self.old) (at_failure self.new) (bytes self.new) result }
+        ensures flushed { is_flushed self.new ≡ flushed_after_flush (is_flushed self.old) result };
 }
 
 /// A sink that is lent.
@@ -59,6 +63,8 @@ impl<'a, O: Sink> Held for Lent<'a, O> {
     ghost failed = { λ s. O.faults s.sink.now };
 
     ghost at_failure = { λ s. O.at_fault s.sink.now };
+
+    ghost is_flushed = { λ s. O.flushed s.sink.now };
 
     ghost loan = { λ s. s.sink.ghost_name };
 
@@ -97,6 +103,8 @@ impl<H: Held, S: Start> Sink for Summing<H, S> {
     ghost faults = { λ s. H.failed s.held };
 
     ghost at_fault = { λ s. H.at_failure s.held };
+
+    ghost flushed = { λ s. H.is_flushed s.held };
 
     fn write(&mut self, piece: &[u8]) -> Result<usize, Failed> {
         let taken = self.held.put(piece)?;

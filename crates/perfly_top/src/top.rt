@@ -1,5 +1,5 @@
 //! The whole of perfly as one call.
-ghost use Rattle.std.specs.Prelude.{◌≡◌, ◌≢◌, ◌↔◌, ◌⊎◌, ◌≤◌, ℕ, None, Some, IsSome, IfSome, map};
+ghost use Rattle.std.specs.Prelude.{◌≡◌, ◌≢◌, ◌↔◌, ◌⊎◌, ◌≤◌, ℕ, true, None, Some, IsSome, IfSome, map};
 ghost use Rattle.std.specs.String.{string_bytes};
 ghost use Rattle.std.specs.Io.KnownBytes.{append_known};
 ghost use Rattle.pf_io.specs.Causes.{Calm, Rose};
@@ -8,8 +8,8 @@ ghost use Rattle.play_check.specs.Stuck.{IsStuck};
 ghost use Rattle.program_words.specs.declared.words.Words.{Words};
 ghost use Rattle.program_words.specs.Meaning.{meaning_of_words};
 ghost use Rattle.perfly_top.specs.Calls.{IsRefused, IsBarred, IsUntouched, AddsSome};
-ghost use Rattle.perfly_top.specs.Program.{told, IsTellable, IsPart, IsPlayed};
-ghost use Rattle.perfly_top.specs.Endings.{IsStopped, IsBegun, IsDone, IsDoneUntold, IsDue};
+ghost use Rattle.perfly_top.specs.Program.{told, IsSummed, IsPart, IsPlayed};
+ghost use Rattle.perfly_top.specs.Endings.{IsStopped, IsBegun, IsDone, IsDoneUntold, IsDue, IsDueMade};
 
 use crate::ending::{
     DONE, Ended, FRAME_FAULT, NO_MEMORY, READ_FAULT, REFUSED, REPORT_FAULT, STUCK, WORDS, stopped,
@@ -41,15 +41,19 @@ fn played<R: Threads + Sync, O: Sink, P: Sink, G: Gate>(
     ensures part { IsPart task.words task.play result.history.entries (O.written frames.old) (O.written frames.new) }
     ensures played { (result.status ≡ DONE) ⊎ (result.status ≡ REPORT_FAULT)
         → IsPlayed task.words task.play result.history.entries (O.written frames.old) (O.written frames.new) }
-    ensures whole { result.status ≡ DONE → IsTellable task.words (O.written frames.old)
-        → P.written report.new ≡ append_known (P.written report.old) (told task.words task.play result.history.entries) }
-    ensures some_told { result.status ≡ REPORT_FAULT → IsTellable task.words (O.written frames.old)
-        → AddsSome (P.written report.old) (P.written report.new) (told task.words task.play result.history.entries) }
+    ensures whole { result.status ≡ DONE → (sum : ℕ)
+        × IsSummed task.words task.play result.history.entries (O.written frames.old) sum
+        × (P.written report.new ≡ append_known (P.written report.old) (told task.words task.play result.history.entries sum)) }
+    ensures some_told { result.status ≡ REPORT_FAULT → (sum : ℕ)
+        × IsSummed task.words task.play result.history.entries (O.written frames.old) sum
+        × AddsSome (P.written report.old) (P.written report.new) (told task.words task.play result.history.entries sum) }
     ensures frame_fault { result.status ≡ FRAME_FAULT → Rose (O.faults frames.old) (O.faults frames.new) }
     ensures frame_last { result.status ≡ FRAME_FAULT → O.at_fault frames.new ≡ O.written frames.new }
     ensures frame_calm { result.status ≢ FRAME_FAULT → Calm (O.faults frames.old) (O.faults frames.new) }
     ensures report_fault { result.status ≡ REPORT_FAULT → Rose (P.faults report.old) (P.faults report.new) }
     ensures report_calm { result.status ≡ DONE → Calm (P.faults report.old) (P.faults report.new) }
+    ensures frames_flushed { result.status ≡ DONE → O.flushed frames.new ≡ true }
+    ensures report_flushed { result.status ≡ DONE → P.flushed report.new ≡ true }
     ensures stopped { result.status ≢ DONE → result.status ≢ REPORT_FAULT
         → IsStopped result.status result.refusal result.stuck
         (P.written report.old) (P.written report.new) (P.faults report.old) (P.faults report.new) }
@@ -80,17 +84,19 @@ pub fn perfly<R: Threads + Sync, I: Source, O: Sink, P: Sink, G: Gate>(
     ensures one_of { result.status ≤ NO_MEMORY }
 
     // Done, the headline: the play that was given was played to its end, and told.
-    ensures done { result.status ≡ DONE → IsDone (map string_bytes words.now) (I.left input.old) (I.left input.new)
+    ensures done { result.status ≡ DONE → IsDone (meaning_of_words (map string_bytes words.now)) (I.left input.old) (I.left input.new)
         result.history.entries (O.written frames.old) (O.written frames.new) (P.written report.old) (P.written report.new) }
     ensures report_calm { result.status ≡ DONE → Calm (P.faults report.old) (P.faults report.new) }
+    ensures frames_flushed { result.status ≡ DONE → O.flushed frames.new ≡ true }
+    ensures report_flushed { result.status ≡ DONE → P.flushed report.new ≡ true }
 
     // What was given cannot be played. The words are read first, and nothing of the source where they are wrong.
     ensures wrong_words { result.status ≡ WORDS
         → (meaning_of_words (map string_bytes words.now) ≡ None) × (I.left input.new ≡ I.left input.old) }
     ensures refused { result.status ≡ REFUSED → IfSome result.refusal (λ r.
-        IsRefused (map string_bytes words.now) (I.left input.old) (I.left input.new) r) }
+        IsRefused (meaning_of_words (map string_bytes words.now)) (I.left input.old) (I.left input.new) r) }
     ensures stuck { result.status ≡ STUCK → IfSome result.stuck (λ lines.
-        IsBarred (map string_bytes words.now) (I.left input.old) (I.left input.new) lines.0 lines.1) }
+        IsBarred (meaning_of_words (map string_bytes words.now)) (I.left input.old) (I.left input.new) lines.0 lines.1) }
     ensures refusal { IsSome result.refusal ↔ result.status ≡ REFUSED }
     ensures stuck_lines { IsSome result.stuck ↔ result.status ≡ STUCK }
 
@@ -102,28 +108,29 @@ pub fn perfly<R: Threads + Sync, I: Source, O: Sink, P: Sink, G: Gate>(
     ensures frame_calm { result.status ≢ FRAME_FAULT → Calm (O.faults frames.old) (O.faults frames.new) }
     ensures report_fault { result.status ≡ REPORT_FAULT → Rose (P.faults report.old) (P.faults report.new) }
     ensures untold { result.status ≡ REPORT_FAULT
-        → IsDoneUntold (map string_bytes words.now) (I.left input.old) (I.left input.new)
+        → IsDoneUntold (meaning_of_words (map string_bytes words.now)) (I.left input.old) (I.left input.new)
         result.history.entries (O.written frames.old) (O.written frames.new) (P.written report.old) (P.written report.new) }
 
     // What is left where the play did not come to its end.
     ensures early { 1 ≤ result.status → result.status ≤ READ_FAULT
         → IsUntouched result.history.entries (O.written frames.old) (O.written frames.new) }
     ensures begun { result.status ≡ FRAME_FAULT
-        → IsBegun (map string_bytes words.now) (I.left input.old) (I.left input.new)
+        → IsBegun (meaning_of_words (map string_bytes words.now)) (I.left input.old) (I.left input.new)
         result.history.entries (O.written frames.old) (O.written frames.new) }
     ensures part { result.status ≡ NO_MEMORY
         → IsUntouched result.history.entries (O.written frames.old) (O.written frames.new)
-        ⊎ IsBegun (map string_bytes words.now) (I.left input.old) (I.left input.new)
+        ⊎ IsBegun (meaning_of_words (map string_bytes words.now)) (I.left input.old) (I.left input.new)
         result.history.entries (O.written frames.old) (O.written frames.new) }
     ensures part_read { TakesFront (I.left input.old) (I.left input.new) }
     ensures unread { (w : Words) (n : ℕ) → meaning_of_words (map string_bytes words.now) ≡ Some w → w.make ≡ Some n
-        → (result.status ≢ READ_FAULT) × (I.left input.new ≡ I.left input.old) }
+        → I.left input.new ≡ I.left input.old }
     ensures stopped { result.status ≢ DONE → result.status ≢ REPORT_FAULT
         → IsStopped result.status result.refusal result.stuck
         (P.written report.old) (P.written report.new) (P.faults report.old) (P.faults report.new) }
 
     // Each call ends as is due, but for faults and want of memory.
-    ensures due { IsDue (map string_bytes words.now) (I.left input.old) result.status }
+    ensures due { IsDue (meaning_of_words (map string_bytes words.now)) (I.left input.old) result.status }
+    ensures made { IsDueMade (meaning_of_words (map string_bytes words.now)) result.status }
 {
     match prepared(alloc, words, input) {
         Err(stop) => stopped(report, stop, History::new(alloc)),

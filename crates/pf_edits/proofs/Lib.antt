@@ -1,3 +1,4 @@
+pub mod Cells
 pub mod Slots
 pub mod Counts
 pub mod Marks

@@ -1,8 +1,8 @@
 -- What stands under each id after a change of the slab and of the keys.
-use Rattle.std.proofs.Common.{◌≡◌, ◌≢◌, ℕ, zero, suc, zero-add, ◌++◌, ◌+◌, ◌<◌, ◌≤◌, Bool, true, false, cond, ◌==◌, ◌⊎◌, inl, inr, List, [], ◌∷◌, length, get_or, set, Option, Some, None, is_some, refl, sym, ◌∙◌, ap, subst, arith}
+use Rattle.std.proofs.Common.{◌≡◌, ◌≢◌, ℕ, suc, zero-add, ◌+◌, ◌<◌, ◌≤◌, Bool, true, false, cond, ◌==◌, ◌⊎◌, inl, inr, List, [], ◌∷◌, length, get_or, set, Option, Some, None, is_some, refl, sym, ◌∙◌, ap, subst, arith}
 use Rattle.std.specs.Option.{option_and_then}
 use Rattle.std.specs.List.{count_by}
-use Rattle.std.proofs.lemmas.List.{ext_get_or, get_or-set_same, get_or-set_other, length-set, get_or_read}
+use Rattle.std.proofs.lemmas.List.{ext_get_or, get_or-set_same, get_or-set_other, length-set}
 use Rattle.std.proofs.lemmas.Bool.{eqb-true}
 use Rattle.std.proofs.lemmas.List.Sums.{sum_by-set, sum_by-cons}
 use Rattle.std.proofs.Math.ListN.{get_or-map, length-map}
@@ -86,6 +86,7 @@ module _ (slab after : Slab Record) (keys : List (Option ℕ)) (id key : ℕ) (i
       apart = λ a b k ea eb. apart a b k ea eb (eqb_tells a id) (eqb_tells b id);
       counted = ap (count_by is_some) put_slots ∙ counted;
       roomy = let c : 4097 ≤ slab.capacity = indexed.roomy in omega arith;
+      narrow = let c : slab.capacity ≤ 65535 = indexed.narrow in omega arith;
     }
       where
         counted : count_by is_some (set (slots_of slab keys) id (Some r)) ≡ slab_len after
@@ -146,6 +147,7 @@ module _ (slab after : Slab Record) (keys : List (Option ℕ)) (id key : ℕ) (i
       apart = λ a b k ea eb. apart a b k ea eb (eqb_tells a id) (eqb_tells b id);
       counted = ap (count_by is_some) take_slots ∙ counted;
       roomy = let c : 4097 ≤ slab.capacity = indexed.roomy in omega arith;
+      narrow = let c : slab.capacity ≤ 65535 = indexed.narrow in omega arith;
     }
       where
         counted : count_by is_some (set (slots_of slab keys) id None) ≡ slab_len after
@@ -186,25 +188,17 @@ no_count (x ∷ xs) none =
     sum_by-cons (λ (o : Option Record). cond (is_some o) 1 0) x xs
     ∙ ap (λ o. cond (is_some o) 1 0 + count_by is_some xs) (none 0) ∙ zero-add (count_by is_some xs) ∙ no_count xs (λ b. none (suc b))
 
-pub empty_indexed : (slab : Slab Record) (keys : List (Option ℕ)) → length keys ≡ 65536 → ((k : ℕ) → get_or keys k None ≡ None) → slab_len slab ≡ 0 → 4097 ≤ slab.capacity → IsIndexed keys slab
-empty_indexed slab keys wide none len cap = record {
+pub empty_indexed : (slab : Slab Record) (keys : List (Option ℕ)) → length keys ≡ 65536 → ((k : ℕ) → get_or keys k None ≡ None) → slab_len slab ≡ 0 → 4097 ≤ slab.capacity → slab.capacity ≤ 65535 → IsIndexed keys slab
+empty_indexed slab keys wide none len cap narrow = record {
   wide = wide;
   there = λ a k e. absurd (let f : None ≡ Some k = sym (none a) ∙ e in cc);
   apart = λ a b k e f. absurd (let f : None ≡ Some k = sym (none a) ∙ e in cc);
   counted = no_count (slots_of slab keys) (no_slot slab keys none) ∙ sym len;
   roomy = cap;
+  narrow = narrow;
 }
 
-pub none_more : (keys : List (Option ℕ)) → ((k : ℕ) → get_or keys k None ≡ None) → (new : Option ℕ) → new ≡ None → (k : ℕ) → get_or (keys ++ new ∷ []) k None ≡ None
-none_more [] none new e zero = e
-none_more [] none new e (suc k) = refl
-none_more (x ∷ xs) none new e zero = none 0
-none_more (x ∷ xs) none new e (suc k) = none_more xs (λ j. none (suc j)) new e k
-
 -- What is read of the keys
-
-pub key_at : (keys : List (Option ℕ)) (i id : ℕ) (x : Option ℕ) → length keys ≡ 65536 → i ≡ id → id < 65536 → x ≡ get_or keys i x → get_or keys id None ≡ x
-key_at keys i id x wide same within read = ap (λ j. get_or keys j None) (sym same) ∙ sym (get_or_read keys i x (omega arith) read None)
 
 pub no_record : (slab : Slab Record) (keys : List (Option ℕ)) (id : ℕ) → get_or keys id None ≡ None → record_at (slots_of slab keys) id ≡ None
 no_record slab keys id none = slot_at slab keys id ∙ ap (option_and_then (get slab)) none

@@ -1,5 +1,5 @@
 -- The records of the working graph: what stands under each id.
-use Rattle.std.specs.Prelude.{◌≡◌, ℕ, ◌≤◌, List, map, length, count_by, Option, Some, None, is_some, true, slice_index_or}
+use Rattle.std.specs.Prelude.{◌≡◌, ℕ, ◌≤◌, ◌-◌, ◌==◌, if◌then◌else◌, List, map, length, count_by, Option, Some, None, is_some, true, slice_index_or}
 use Rattle.std.specs.List.{All, sum_by}
 use Rattle.std.specs.Option.{option_and_then, option_map_or}
 use Rattle.pf_model.specs.Totals.{triangles_of}
@@ -23,14 +23,19 @@ record_at slots id = slice_index_or slots id None
 abbrev pub slots_of : Slab Record → List (Option ℕ) → Slots
 slots_of slab keys = map (option_and_then (get slab)) keys
 
--- Each of the 65,536 ids has no key or that of a record of its own; all records have a key, and there is room for all
--- nodes of a graph.
+-- the key that a cell has: none, or one less than the cell
+abbrev pub key_in : ℕ → Option ℕ
+key_in cell = if cell == 0 then None else Some (cell - 1)
+
+-- Each of the 65,536 ids has no key or that of a record of its own; all records have a key, there is room for all nodes
+-- of a graph, and each key fits a cell.
 pub record IsIndexed (keys : List (Option ℕ)) (slab : Slab Record) : Type 0 where
   pub wide : length keys ≡ 65536
   pub there : (a key : ℕ) → slice_index_or keys a None ≡ Some key → is_some (get slab key) ≡ true
   pub apart : (a b key : ℕ) → slice_index_or keys a None ≡ Some key → slice_index_or keys b None ≡ Some key → a ≡ b
   pub counted : count_by is_some (slots_of slab keys) ≡ slab_len slab
   pub roomy : 4097 ≤ slab.capacity
+  pub narrow : slab.capacity ≤ 65535
 
 -- the number of triangles of a record
 abbrev pub slot_triangles : Option Record → ℕ

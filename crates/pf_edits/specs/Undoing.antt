@@ -1,5 +1,8 @@
 -- What undoes an edit.
-use Rattle.std.specs.Prelude.{◌≡◌, ℕ, ◌-◌, ◌==◌, ⊤, true, false, if◌then◌else◌, List, [], ◌∷◌, take, length, None, is_some}
+use Rattle.std.specs.Prelude.{◌≡◌, ℕ, ◌-◌, ◌==◌, ⊤, true, false, if◌then◌else◌, List, [], ◌∷◌, take, length, Option, Some, None, is_some}
+use Rattle.std.specs.Option.{option_map_or}
+use Rattle.pf_model.specs.declared.edits.Edit.{Edit}
+use Rattle.pf_model.specs.declared.edits.Edit.TheVariants as edit
 use Rattle.pf_model.specs.Graphs.{Look, SceneGraph, node_at, change, put, without}
 use Rattle.pf_model.specs.Limits.{has_child, IsGraphWithinLimits}
 use Rattle.pf_model.specs.NodeEdits.{with_children, with_kind}
@@ -60,12 +63,18 @@ abbrev pub before_all : SceneGraph → List Undo → SceneGraph
 before_all g [] = g
 before_all g (u ∷ us) = before_all (graph_before u.id u.older g) us
 
--- the children that a node had before an edit that may have taken some away
-abbrev pub older_children : Older → List ℕ
-older_children older.Made = []
-older_children (older.Deleted r) = r.node.children
-older_children (older.Children cs) = cs
-older_children (older.Kind k) = []
+-- the child that an edit takes away from the node that it names
+abbrev pub lost_child : Edit → Option ℕ
+lost_child (edit.Remove parent child) = Some child
+lost_child (edit.Replace parent child by) = Some child
+lost_child e = None
+
+-- the children of the node that an edit names whose link may be gone after it
+abbrev pub lost_children : Edit → Older → List ℕ
+lost_children e older.Made = []
+lost_children e (older.Deleted r) = r.node.children
+lost_children e (older.Children cs) = option_map_or (λ c. c ∷ []) (lost_child e) []
+lost_children e (older.Kind k) = []
 
 -- those of these nodes that are not its children do not have the id noted as a parent
 abbrev pub AreSettled : Look → (ℕ → List ℕ) → ℕ → List ℕ → Type 0

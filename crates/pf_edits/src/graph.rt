@@ -9,14 +9,14 @@ ghost use Rattle.pf_model.specs.Edits.{fault_of, after, Refuses};
 ghost use Rattle.pf_model.specs.Merges.{merge_fault, after_all};
 ghost use Rattle.pf_model.specs.Fits.{fits};
 ghost use Rattle.std.specs.List.{list_all};
-ghost use Rattle.pf_edits.specs.Refusals.{RefusesAll};
+ghost use Rattle.pf_edits.specs.Refusals.{RefusesAll, BeginsWell};
 
 use crate::climb::extent_at;
 use crate::errors::EditsError;
 use crate::faults::find_node;
 use crate::work::Work;
 use pf_io::NoMemory;
-use pf_model::{Edit, EditError, EditList, Gone, Node, NodeView};
+use pf_model::{Edit, EditError, EditList, Fault, Gone, Node, NodeView};
 use std::alloc::Global;
 use std::marker::Model;
 use std::mem;
@@ -101,6 +101,14 @@ impl WorkGraph {
         mem::replace(&mut self.work.gone, Vec::new(alloc))
     }
 
+    /// The fault of an edit, or none. It takes no memory, and the graph stays as it is.
+    pub fn judge(&mut self, e: &Edit) -> Option<Fault>
+        ensures fault { result ≡ fault_of self.old e.now }
+        ensures unchanged { self.new ≡ self.old }
+    {
+        self.work.judge(e)
+    }
+
     /// Applies an edit, or refuses it for its fault, or where it has none for want of memory, and stays as it was.
     pub fn edit(&mut self, e: &Edit) -> Result<(), EditError>
         requires serials { self.old.next_serial < 2 ^ 32 - 1 }
@@ -112,17 +120,19 @@ impl WorkGraph {
         ensures unchanged { OnErr result (self.new ≡ self.old) }
     {
         let undo = self.work.edit(e)?;
-        self.work.settle(&undo);
+        self.work.settle(e, &undo);
         Ok(())
     }
 
     /// Applies all edits of a list in order, or refuses it for the first fault or for want of memory and stays as it was.
+    /// Room is made edit by edit, each after it was judged: want of memory comes only where the first edit has no fault.
     pub fn edits(&mut self, es: &EditList) -> Result<(), EditsError>
         requires serials { self.old.next_serial + length es.now < 2 ^ 32 }
         requires fits { list_all fits es.now ≡ true }
         ensures done { OnOk result (merge_fault self.old es.now ≡ None) }
         ensures after { OnOk result (self.new ≡ after_all self.old es.now) }
         ensures fault { IfErr result (λ r. RefusesAll r (merge_fault self.old es.now)) }
+        ensures memory { IsErrOf result EditsError.NoMemory → BeginsWell self.old es.now }
         ensures unchanged { OnErr result (self.new ≡ self.old) }
     {
         self.work.edits(es.as_slice())

@@ -7,6 +7,7 @@ pub(crate) mod extents;
 pub(crate) mod faults;
 pub mod graph;
 pub(crate) mod judge;
+pub(crate) mod keys;
 pub(crate) mod links;
 pub(crate) mod nodes;
 pub(crate) mod parents;

@@ -5,6 +5,7 @@ ghost use Rattle.pf_model.specs.Totals.{triangles_of};
 ghost use Rattle.pf_edits.specs.Tables.{record_at, triangles_in};
 
 use crate::extents::Extent;
+use crate::keys::Keys;
 use crate::parents::Parents;
 use pf_io::NoMemory;
 use pf_model::{Kind, Node};
@@ -23,7 +24,7 @@ pub(crate) struct Record {
 /// Records by their ids, with room for as many as a graph has nodes, and the number of all their triangles.
 #[derive(Debug, Drop)]
 pub(crate) struct Records {
-    keys: Vec<Option<usize>>,
+    keys: Keys,
     slab: Slab<Record>,
     tris: u32,
 }
@@ -35,9 +36,9 @@ impl Model for Records {
 
     ghost Value = { Table };
 
-    ghost view = { λ r. record { slots = slots_of r.slab r.keys.items; spare = r.slab.capacity - slab_len r.slab } };
+    ghost view = { λ r. record { slots = slots_of r.slab r.keys; spare = r.slab.capacity - slab_len r.slab } };
 
-    ghost invariant = { λ r. IsKept r.keys.items r.slab r.tris };
+    ghost invariant = { λ r. IsKept r.keys r.slab r.tris };
 }
 
 impl Records {
@@ -47,9 +48,14 @@ impl Records {
         ensures empty { IfOk result (λ r. count_by is_some r.slots ≡ 0) }
         ensures room { IfOk result (λ r. 0 < r.spare) }
     {
+        let slab = Slab::with_capacity(alloc, 4_097)?;
+        // Keys are below the capacity, and have to find room in their table.
+        if slab.capacity() > 65_535 {
+            return Err(NoMemory);
+        }
         Ok(Records {
-            keys: no_keys(alloc)?,
-            slab: Slab::with_capacity(alloc, 4_097)?,
+            keys: Keys::new(alloc)?,
+            slab,
             tris: 0,
         })
     }
@@ -74,7 +80,7 @@ impl Records {
     pub(crate) fn find(&self, id: u16) -> Option<&Record>
         ensures { option_copied result ≡ record_at self.now.slots id }
     {
-        let key = self.keys[usize::from(id)]?;
+        let key = self.keys.get(id)?;
         self.slab.get(key)
     }
 
@@ -86,7 +92,7 @@ impl Records {
     {
         let more = triangles(&entry.node.kind);
         let key = self.slab.insert_reserved(entry);
-        self.keys[usize::from(id)] = Some(key);
+        self.keys.set(id, key);
         self.tris += more;
     }
 
@@ -96,9 +102,9 @@ impl Records {
         ensures after { (b : ℕ) → record_at self.new.slots b ≡ (if b == id then None else record_at self.old.slots b) }
         ensures room { OnSome result (0 < self.new.spare) }
     {
-        match self.keys[usize::from(id)] {
+        match self.keys.get(id) {
             Some(key) => {
-                self.keys[usize::from(id)] = None;
+                self.keys.clear(id);
                 let record = self.slab.remove(key);
                 self.tris -= triangles(&record.node.kind);
                 Some(record)
@@ -117,16 +123,4 @@ fn triangles(kind: &Kind) -> u32
         Kind::Geode { geom, .. } | Kind::Glass { geom, .. } => geom.len() as u32,
         _ => 0,
     }
-}
-
-/// A table of ids without keys.
-fn no_keys(alloc: Global) -> Result<Vec<Option<usize>>, NoMemory>
-    ensures length { IfOk result (λ v. length v.items ≡ 65536) }
-    ensures none { IfOk result (λ v. (id : ℕ) → slice_index_or v.items id None ≡ None) }
-{
-    let mut keys = Vec::with_capacity(alloc, 65_536)?;
-    for count in 0..65_536usize {
-        keys.push(None)?;
-    }
-    Ok(keys)
 }

@@ -1,7 +1,7 @@
 //! Edits undone, one by one and all of a merge.
 ghost use Rattle.std.specs.Prelude.{◌≡◌, ◌+◌, ◌-◌, ◌^◌, ◌<◌, ◌≤◌, ◌∷◌, ◌++◌, [], ℕ, true, None, Some, IfOk, IfErr, OnOk, OnErr, length, reverse};
 ghost use Rattle.std.specs.List.{fold, list_all};
-ghost use Rattle.std.specs.Vec.{vec_len, vec_capacity};
+ghost use Rattle.std.specs.Result.{IsErrOf};
 ghost use Rattle.pf_model.specs.Limits.{IsGraphWithinLimits};
 ghost use Rattle.pf_model.specs.Edits.{fault_of, effect, Refuses};
 ghost use Rattle.pf_model.specs.Merges.{merge_fault};
@@ -10,7 +10,7 @@ ghost use Rattle.pf_edits.specs.Ways.{is_in};
 ghost use Rattle.pf_edits.specs.Extents.{parents_of};
 ghost use Rattle.pf_edits.specs.Working.{told, IsWorking};
 ghost use Rattle.pf_edits.specs.Undoing.{graph_before, parents_before, CanUndo, AllUndoable, before_all};
-ghost use Rattle.pf_edits.specs.Refusals.{RefusesAll};
+ghost use Rattle.pf_edits.specs.Refusals.{RefusesAll, BeginsWell};
 
 use crate::errors::EditsError;
 use crate::links::relink_freely;
@@ -114,12 +114,33 @@ impl Work {
         }
     }
 
-    /// Makes an edit and notes what undoes it.
+    /// Makes an edit without fault and notes what undoes it. Only want of memory can stop it.
+    fn apply_noted(&mut self, e: &Edit, done: &mut Vec<Undo>) -> Result<(), EditError>
+        requires working { IsWorking self.old }
+        requires serials { self.old.next_serial < 2 ^ 32 - 1 }
+        requires fits { fits e.now ≡ true }
+        requires none { None ≡ fault_of (told self.old) e.now }
+        requires undoable { AllUndoable (told self.old) (parents_of self.old.records.slots) (reverse done.old.items) }
+        ensures working { IsWorking self.new }
+        ensures undoable { AllUndoable (told self.new) (parents_of self.new.records.slots) (reverse done.new.items) }
+        ensures before { before_all (told self.new) (reverse done.new.items)
+            ≡ before_all (told self.old) (reverse done.old.items) }
+        ensures after { OnOk result (told self.new ≡ effect (told self.old) e.now) }
+        ensures memory { IfErr result (λ r. r ≡ EditError.NoMemory) }
+    {
+        done.reserve(1)?;
+        let undo = self.apply(e)?;
+        match done.push(undo) {
+            Ok(()) => Ok(()),
+            Err(_) => unreachable!(),
+        }
+    }
+
+    /// Makes an edit and notes what undoes it, or refuses it. All its faults are tested before memory is asked.
     fn step(&mut self, e: &Edit, done: &mut Vec<Undo>) -> Result<(), EditError>
         requires working { IsWorking self.old }
         requires serials { self.old.next_serial < 2 ^ 32 - 1 }
         requires fits { fits e.now ≡ true }
-        requires room { vec_len done.old < vec_capacity done.old }
         requires undoable { AllUndoable (told self.old) (parents_of self.old.records.slots) (reverse done.old.items) }
         ensures working { IsWorking self.new }
         ensures undoable { AllUndoable (told self.new) (parents_of self.new.records.slots) (reverse done.new.items) }
@@ -128,14 +149,12 @@ impl Work {
         ensures done { OnOk result (fault_of (told self.old) e.now ≡ None) }
         ensures after { OnOk result (told self.new ≡ effect (told self.old) e.now) }
         ensures fault { IfErr result (λ r. Refuses r (fault_of (told self.old) e.now)) }
-        ensures len { OnOk result (vec_len done.new ≡ vec_len done.old + 1) }
-        ensures capacity { vec_capacity done.old ≤ vec_capacity done.new }
+        ensures memory { IsErrOf result EditError.NoMemory → fault_of (told self.old) e.now ≡ None }
     {
-        let undo = self.edit(e)?;
-        match done.push(undo) {
-            Ok(()) => Ok(()),
-            Err(_) => unreachable!(),
+        if let Some(fault) = self.judge(e) {
+            return Err(EditError::Fault(fault));
         }
+        self.apply_noted(e, done)
     }
 
     /// Makes all edits of a list in order, or none of them.
@@ -147,9 +166,10 @@ impl Work {
         ensures done { OnOk result (merge_fault (told self.old) es.now ≡ None) }
         ensures after { OnOk result (told self.new ≡ fold effect (told self.old) es.now) }
         ensures fault { IfErr result (λ r. RefusesAll r (merge_fault (told self.old) es.now)) }
+        ensures memory { IsErrOf result EditsError.NoMemory → BeginsWell (told self.old) es.now }
         ensures unchanged { OnErr result (told self.new ≡ told self.old) }
     {
-        let mut done = Vec::with_capacity(*self.gone.allocator(), es.len())?;
+        let mut done = Vec::new(*self.gone.allocator());
         let mut place: u32 = 0;
         for e in es {
             place += 1;
@@ -159,7 +179,7 @@ impl Work {
                 return Err(EditsError::at(place, error));
             }
         }
-        self.settle_all(done.as_slice());
+        self.settle_all(es, done.as_slice());
         Ok(())
     }
 }

@@ -1,10 +1,11 @@
 //! Entries of parents whose link is gone, taken out once nothing is undone any more.
-ghost use Rattle.std.specs.Prelude.{◌≡◌, ◌==◌, ◌&&◌, ℕ, true, false};
+ghost use Rattle.std.specs.Prelude.{◌≡◌, ◌==◌, ◌&&◌, ◌∷◌, [], ℕ, true, false};
+ghost use Rattle.std.specs.Option.{option_map_or};
 ghost use Rattle.pf_model.specs.Limits.{has_child};
 ghost use Rattle.pf_edits.specs.Ways.{is_in};
 ghost use Rattle.pf_edits.specs.Extents.{look_of, parents_of, extent_at, IsSound};
 ghost use Rattle.pf_edits.specs.Working.{told, IsWorking};
-ghost use Rattle.pf_edits.specs.Undoing.{older_children, AreSettled};
+ghost use Rattle.pf_edits.specs.Undoing.{lost_child, lost_children, AreSettled};
 
 use crate::climb::has_child;
 use crate::records::Records;
@@ -65,17 +66,39 @@ fn asked_link(e: &Edit) -> Option<(u16, u16)> {
     }
 }
 
+/// The child that an edit takes away from the node that it names.
+fn lost_child(e: &Edit) -> Option<u16>
+    ensures { result ≡ lost_child e.now }
+{
+    match e {
+        Edit::Remove { child, .. } | Edit::Replace { child, .. } => Some(*child),
+        _ => None,
+    }
+}
+
+/// Forgets the parent of a child that an edit took away from it.
+fn settle_child(records: &mut Records, parent: u16, child: Option<u16>)
+    requires { IsSound records.old.slots }
+    ensures nodes { (b : ℕ) → look_of records.new.slots b ≡ look_of records.old.slots b }
+    ensures sound { IsSound records.new.slots }
+    ensures settled { AreSettled (look_of records.new.slots) (parents_of records.new.slots) parent (option_map_or (λ c. c ∷ []) child []) }
+{
+    if let Some(child) = child {
+        settle_link(records, parent, child);
+    }
+}
+
 impl Work {
     /// Forgets the links that an edit took away.
-    pub(crate) fn settle(&mut self, u: &Undo)
+    pub(crate) fn settle(&mut self, e: &Edit, u: &Undo)
         requires { IsWorking self.old }
         ensures working { IsWorking self.new }
         ensures told { told self.new ≡ told self.old }
         ensures settled { AreSettled (look_of self.new.records.slots) (parents_of self.new.records.slots) u.now.id
-            (older_children u.now.older) }
+            (lost_children e.now u.now.older) }
     {
         match &u.older {
-            Older::Children(children) => settle_links(&mut self.records, u.id, children.as_slice()),
+            Older::Children(_) => settle_child(&mut self.records, u.id, lost_child(e)),
             Older::Deleted(record) => {
                 settle_links(&mut self.records, u.id, record.node.children.as_slice());
             }
@@ -84,13 +107,13 @@ impl Work {
     }
 
     /// Forgets the links that edits took away.
-    pub(crate) fn settle_all(&mut self, done: &[Undo])
+    pub(crate) fn settle_all(&mut self, es: &[Edit], done: &[Undo])
         requires { IsWorking self.old }
         ensures working { IsWorking self.new }
         ensures told { told self.new ≡ told self.old }
     {
-        for undo in done {
-            self.settle(undo);
+        for (e, undo) in es.iter().zip(done) {
+            self.settle(e, undo);
         }
     }
 

@@ -275,7 +275,7 @@ impl Work {
     }
 
     /// Makes an edit without fault. Only want of memory can stop it.
-    fn apply(&mut self, e: &Edit) -> Result<Undo, NoMemory>
+    pub(crate) fn apply(&mut self, e: &Edit) -> Result<Undo, NoMemory>
         requires working { IsWorking self.old }
         requires serials { self.old.next_serial < 2 ^ 32 - 1 }
         requires fits { fits e.now ≡ true }

@@ -10,4 +10,5 @@ pub mod Props
 pub mod Reach
 pub mod Arrays
 pub mod Away
+pub mod Channels
 mod Rows

@@ -68,3 +68,7 @@ abbrev pub LimitsLaw : Type 0
 LimitsLaw =
     (channels : ℕ) (log : Log) →
     AllByRecursion (λ e. command_fits e.1.command ≡ true) log → IsGraphWithinLimits (state_of channels log).graph
+
+-- no reply reads a view, so a history that is legal for one number of channels is legal for every other
+abbrev pub ChannelsLaw : Type 0
+ChannelsLaw = (channels others : ℕ) (log : Log) → IsLegal channels log → IsLegal others log

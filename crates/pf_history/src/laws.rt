@@ -1,5 +1,5 @@
 //! Laws of histories, each the contract of a call that does nothing.
-ghost use Rattle.pf_history.specs.Laws.{OwnEntryLaw, LegalEntryLaw, PreparationLaw, CountsLaw, NeverFallLaw, GravesLaw, LimitsLaw};
+ghost use Rattle.pf_history.specs.Laws.{OwnEntryLaw, LegalEntryLaw, PreparationLaw, CountsLaw, NeverFallLaw, GravesLaw, LimitsLaw, ChannelsLaw};
 ghost use Rattle.pf_history.specs.FitLaws.{FitLaw, SeatLaw, FramesLaw};
 ghost use Rattle.pf_history.specs.CutLaws.{CopyLaw, CutsLaw, CutsStayLaw, FreedLaw};
 ghost use Rattle.pf_history.specs.Away.{AwayLaw};
@@ -39,6 +39,11 @@ pub fn graves_name_begun_frames()
 /// limits.
 pub fn graphs_reached_are_within_limits()
     ensures { LimitsLaw }
+{}
+
+/// A history that is legal for one number of channels is legal for every other, since no reply reads a view.
+pub fn legal_for_any_channels()
+    ensures { ChannelsLaw }
 {}
 
 /// What the stages keep of turns and asks says that a history fits its play, and wholly where nothing is still asked.

@@ -1,5 +1,5 @@
 -- Sources and sinks over memory, which fail where they are told to.
-use Rattle.std.specs.Prelude.{◌==◌, ℕ, ◌-◌, min, nat_lt, List, length, take, drop, filter, fold, position, remove, Option, Some, None, Contains}
+use Rattle.std.specs.Prelude.{◌==◌, ℕ, ◌+◌, ◌-◌, min, nat_lt, Bool, if◌then◌else◌, List, length, take, drop, filter, fold, position, remove, Option, Some, None, Contains}
 use Rattle.std.specs.Option.{option_map, option_map_or}
 use Rattle.pf_io.specs.Causes.{counted}
 
@@ -26,20 +26,28 @@ after_fault place plan =
 abbrev pub reach : FaultPlan → ℕ → ℕ → ℕ
 reach plan place most = fold (λ n p. min n (p - place)) most (filter (λ p. nat_lt place p) plan.places)
 
--- a source: its bytes, the place of the next read, and where reads fail
+-- a source: its bytes, the place of the next read, how many reads found the end, and where reads fail
 pub record MemoryInput : Type 0 where
   pub bytes : List ℕ
   pub place : ℕ
+  pub ends : ℕ
   pub plan : FaultPlan
+
+-- the source after a read that took n bytes
+abbrev pub after_read : ℕ → MemoryInput → MemoryInput
+after_read n source =
+    record source { place = source.place + n; ends = if n == 0 then counted source.ends else source.ends }
 
 -- the bytes that a source has left
 abbrev pub left_in : MemoryInput → Option (List ℕ)
 left_in source = Some (drop source.place source.bytes)
 
--- a sink: the bytes written, how many there is room for, and where writes and flushes fail
+-- a sink: the bytes written, how many there is room for, whether its last call that succeeded was a flush, and where
+-- writes and flushes fail
 pub record MemoryOutput : Type 0 where
   pub bytes : List ℕ
   pub room : ℕ
+  pub flushed : Bool
   pub plan : FaultPlan
 
 -- the bytes that a sink had at its last fault, or none where there was no fault

@@ -1,7 +1,8 @@
 -- What a read takes from the bytes that a source has left, and what a write adds to the bytes of a sink.
 -- Each is an equation of the known bytes: a stream that tells none is `None` before and after.
-use Rattle.std.specs.Prelude.{◌≡◌, ℕ, ◌<◌, List, length, take, Option, Result, MatchResult}
+use Rattle.std.specs.Prelude.{◌≡◌, ◌==◌, ℕ, ◌<◌, Bool, true, false, if◌then◌else◌, List, length, take, Option, Result, Ok, Err, MatchResult}
 use Rattle.std.specs.Io.KnownBytes.{prepend_known, append_known, IsAtEnd}
+use Rattle.pf_io.specs.Causes.{counted}
 
 -- `Ok(n)` took the next n bytes, and none only at the end; `Err` took none
 abbrev pub Reads : {E : Type 0} → Option (List ℕ) → Option (List ℕ) → Result ℕ E → List ℕ → Type 0
@@ -9,6 +10,21 @@ Reads old new result into =
     MatchResult result
     (λ n. (old ≡ prepend_known (take n into) new) × (n ≡ 0 → IsAtEnd new))
     (λ _. new ≡ old)
+
+-- the count of the reads that found the end, after one more answer: `Ok(0)` found it
+abbrev pub ends_after : {E : Type 0} → ℕ → Result ℕ E → ℕ
+ends_after ends (Ok n) = if n == 0 then counted ends else ends
+ends_after ends (Err error) = ends
+
+-- whether the last call that succeeded was a flush, after one more write
+abbrev pub flushed_after_write : {A E : Type 0} → Bool → Result A E → Bool
+flushed_after_write flushed (Ok n) = false
+flushed_after_write flushed (Err error) = flushed
+
+-- the same after one more flush
+abbrev pub flushed_after_flush : {A E : Type 0} → Bool → Result A E → Bool
+flushed_after_flush flushed (Ok done) = true
+flushed_after_flush flushed (Err error) = flushed
 
 -- some of the next bytes were taken
 abbrev pub TakesFront : Option (List ℕ) → Option (List ℕ) → Type 0

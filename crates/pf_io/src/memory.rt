@@ -1,10 +1,11 @@
 //! A source and a sink over memory, which fail where they are told to and nowhere else.
-ghost use Rattle.std.specs.Prelude.{◌≡◌, ◌↔◌, ℕ, ◌+◌, ◌-◌, ◌<◌, ◌≤◌, ◌⊎◌, min, [], ◌++◌, length, take, vec_len, vec_capacity, Contains, IfSome, IfOk, IsErr, OnErr, OnOk, Some};
+ghost use Rattle.std.specs.Prelude.{◌≡◌, ◌↔◌, ℕ, ◌+◌, ◌-◌, ◌<◌, ◌≤◌, ◌⊎◌, min, [], ◌++◌, length, take, true, false, vec_len, vec_capacity, Contains, IfSome, IfOk, IsErr, OnErr, OnOk, Some};
 ghost use Rattle.pf_io.specs.Causes.{HasCause};
-ghost use Rattle.pf_io.specs.Streams.{Reads, Writes, MarksFault};
-ghost use Rattle.pf_io.specs.Memory.{MemoryInput, MemoryOutput, fresh_plan, left_in, kept_at_fault, after_fault, reach, IsDue};
+ghost use Rattle.pf_io.specs.Streams.{Reads, Writes, MarksFault, ends_after, flushed_after_write, flushed_after_flush};
+ghost use Rattle.pf_io.specs.Memory.{MemoryInput, MemoryOutput, fresh_plan, left_in, after_read, kept_at_fault, after_fault, reach, IsDue};
 
 use crate::faults::Faults;
+use crate::source::note_end;
 use crate::{Failed, NoMemory, Sink, Source};
 use std::alloc::Global;
 use std::marker::Model;
@@ -15,13 +16,14 @@ use std::marker::Model;
 pub struct MemSource {
     bytes: Vec<u8>,
     place: usize,
+    ends: u64,
     faults: Faults,
 }
 
 impl Model for MemSource {
     ghost Value = { MemoryInput };
 
-    ghost view = { λ s. record { bytes = s.bytes.items; place = s.place; plan = s.faults } };
+    ghost view = { λ s. record { bytes = s.bytes.items; place = s.place; ends = s.ends; plan = s.faults } };
 
     ghost invariant = { λ s. s.place ≤ vec_len s.bytes };
 }
@@ -29,11 +31,12 @@ impl Model for MemSource {
 impl MemSource {
     /// A source of `bytes` that fails at the places of `fail_at`.
     pub fn new(bytes: Vec<u8>, fail_at: Vec<u64>) -> MemSource
-        ensures { result ≡ record { bytes = bytes.items; place = 0; plan = fresh_plan fail_at.items } }
+        ensures { result ≡ record { bytes = bytes.items; place = 0; ends = 0; plan = fresh_plan fail_at.items } }
     {
         MemSource {
             bytes,
             place: 0,
+            ends: 0,
             faults: Faults::new(fail_at),
         }
     }
@@ -44,16 +47,19 @@ impl Source for MemSource {
 
     ghost faults = { λ s. s.plan.count };
 
+    ghost ends = { λ s. s.ends };
+
     fn read(&mut self, into: &mut [u8]) -> Result<usize, Failed>
         requires { 0 < length into.old }
         ensures bound { IfOk result (λ n. n ≤ length into.new) }
         ensures bytes { Reads (left_in self.old) (left_in self.new) result into.new }
         ensures cause { HasCause self.old.plan.count self.new.plan.count result }
+        ensures ends { self.new.ends ≡ ends_after self.old.ends result }
 
         // It fails at the places of the plan and nowhere else.
         ensures due { IsErr result ↔ Contains self.old.plan.places self.old.place }
         ensures fault { OnErr result (self.new ≡ record self.old { plan = after_fault self.old.place self.old.plan }) }
-        ensures moved { IfOk result (λ n. self.new ≡ record self.old { place = self.old.place + n }) }
+        ensures moved { IfOk result (λ n. self.new ≡ after_read n self.old) }
         ensures count { IfOk result (λ n. n ≡ reach self.old.plan self.old.place
             (min (length into.old) (length self.old.bytes - self.old.place))) }
     {
@@ -64,6 +70,7 @@ impl Source for MemSource {
         let count = self.faults.reach(self.place, into.len().min(rest.len()));
         into[..count].copy_from_slice(&rest[..count]);
         self.place += count;
+        note_end(&mut self.ends, count);
         Ok(count)
     }
 }
@@ -75,13 +82,14 @@ impl Source for MemSource {
 pub struct MemSink {
     bytes: Vec<u8>,
     room: usize,
+    flushed: bool,
     faults: Faults,
 }
 
 impl Model for MemSink {
     ghost Value = { MemoryOutput };
 
-    ghost view = { λ s. record { bytes = s.bytes.items; room = s.room; plan = s.faults } };
+    ghost view = { λ s. record { bytes = s.bytes.items; room = s.room; flushed = s.flushed; plan = s.faults } };
 
     ghost invariant = { λ s. (vec_len s.bytes ≤ s.room) × (s.room ≤ vec_capacity s.bytes)
         × IfSome s.faults.last (λ place. place ≤ vec_len s.bytes) };
@@ -90,11 +98,12 @@ impl Model for MemSink {
 impl MemSink {
     /// A sink with the memory for `room` bytes, that fails at the places of `fail_at`.
     pub fn new(alloc: Global, room: usize, fail_at: Vec<u64>) -> Result<MemSink, NoMemory>
-        ensures { IfOk result (λ s. s ≡ record { bytes = []; room = room; plan = fresh_plan fail_at.items }) }
+        ensures { IfOk result (λ s. s ≡ record { bytes = []; room = room; flushed = false; plan = fresh_plan fail_at.items }) }
     {
         Ok(MemSink {
             bytes: Vec::with_capacity(alloc, room)?,
             room,
+            flushed: false,
             faults: Faults::new(fail_at),
         })
     }
@@ -114,18 +123,22 @@ impl Sink for MemSink {
 
     ghost at_fault = { kept_at_fault };
 
+    ghost flushed = { λ s. s.flushed };
+
     fn write(&mut self, piece: &[u8]) -> Result<usize, Failed>
         requires { 0 < length piece.now }
         ensures bound { IfOk result (λ n. (0 < n) × (n ≤ length piece.now)) }
         ensures bytes { Writes (Some self.old.bytes) (Some self.new.bytes) result piece.now }
         ensures cause { HasCause self.old.plan.count self.new.plan.count result }
         ensures last { MarksFault (kept_at_fault self.old) (kept_at_fault self.new) (Some self.new.bytes) result }
+        ensures flushed { self.new.flushed ≡ flushed_after_write self.old.flushed result }
 
         // It fails at the places of the plan and where the room is full, and nowhere else.
         ensures due { IsErr result ↔ (IsDue self.old ⊎ (self.old.room ≤ length self.old.bytes)) }
         ensures fault { OnErr result
             (self.new ≡ record self.old { plan = after_fault (length self.old.bytes) self.old.plan }) }
-        ensures moved { IfOk result (λ n. self.new ≡ record self.old { bytes = self.old.bytes ++ take n piece.now }) }
+        ensures moved { IfOk result (λ n. self.new
+            ≡ record self.old { bytes = self.old.bytes ++ take n piece.now; flushed = false }) }
         ensures count { IfOk result (λ n. n ≡ reach self.old.plan (length self.old.bytes)
             (min (length piece.now) (self.old.room - length self.old.bytes))) }
     {
@@ -135,6 +148,7 @@ impl Sink for MemSink {
         }
         let count = self.faults.reach(place, piece.len().min(self.room - place));
         self.bytes.extend_from_slice(&piece[..count]).unwrap();
+        self.flushed = false;
         Ok(count)
     }
 
@@ -142,16 +156,18 @@ impl Sink for MemSink {
         ensures bytes { Some self.new.bytes ≡ Some self.old.bytes }
         ensures cause { HasCause self.old.plan.count self.new.plan.count result }
         ensures last { MarksFault (kept_at_fault self.old) (kept_at_fault self.new) (Some self.new.bytes) result }
+        ensures flushed { self.new.flushed ≡ flushed_after_flush self.old.flushed result }
 
         // It fails at the places of the plan and nowhere else.
         ensures due { IsErr result ↔ IsDue self.old }
         ensures fault { OnErr result
             (self.new ≡ record self.old { plan = after_fault (length self.old.bytes) self.old.plan }) }
-        ensures quiet { OnOk result (self.new ≡ self.old) }
+        ensures quiet { OnOk result (self.new ≡ record self.old { flushed = true }) }
     {
         if self.faults.is_due(self.bytes.len()) {
             return Err(self.faults.strike(self.bytes.len()));
         }
+        self.flushed = true;
         Ok(())
     }
 }

@@ -1,8 +1,8 @@
 //! Where bytes go to.
-ghost use Rattle.std.specs.Prelude.{◌≡◌, ℕ, ◌<◌, ◌≤◌, List, Option, length, take, IfOk, IfErr, OnOk, OnErr};
+ghost use Rattle.std.specs.Prelude.{◌≡◌, ℕ, ◌<◌, ◌≤◌, Bool, List, Option, length, take, IfOk, IfErr, OnOk, OnErr};
 ghost use Rattle.std.specs.Io.KnownBytes.{append_known};
 ghost use Rattle.pf_io.specs.Causes.{HasCause};
-ghost use Rattle.pf_io.specs.Streams.{Writes, MarksFault, AppendsFront};
+ghost use Rattle.pf_io.specs.Streams.{Writes, MarksFault, AppendsFront, flushed_after_write, flushed_after_flush};
 
 use crate::Failed;
 use std::error::Error;
@@ -19,6 +19,9 @@ pub trait Sink {
     // The bytes that were written at its last fault, where it tells them.
     ghost at_fault: { Self → Option (List ℕ) };
 
+    // Whether its last call that succeeded was a flush.
+    ghost flushed: { Self → Bool };
+
     /// Writes the first bytes of `piece`, which isn't empty, and answers their number, 1 at least. A device that takes
     /// nothing of a piece is a fault.
     fn write(&mut self, piece: &[u8]) -> Result<usize, Failed>
@@ -26,13 +29,15 @@ pub trait Sink {
         ensures bound { IfOk result (λ n. (0 < n) × (n ≤ length piece.now)) }
         ensures bytes { Writes (written self.old) (written self.new) result piece.now }
         ensures cause { HasCause (faults self.old) (faults self.new) result }
-        ensures last { MarksFault (at_fault self.old) (at_fault self.new) (written self.new) result };
+        ensures last { MarksFault (at_fault self.old) (at_fault self.new) (written self.new) result }
+        ensures flushed { flushed self.new ≡ flushed_after_write (flushed self.old) result };
 
     /// Sees to it that no byte waits in a buffer.
     fn flush(&mut self) -> Result<(), Failed>
         ensures bytes { written self.new ≡ written self.old }
         ensures cause { HasCause (faults self.old) (faults self.new) result }
-        ensures last { MarksFault (at_fault self.old) (at_fault self.new) (written self.new) result };
+        ensures last { MarksFault (at_fault self.old) (at_fault self.new) (written self.new) result }
+        ensures flushed { flushed self.new ≡ flushed_after_flush (flushed self.old) result };
 }
 
 /// A fault cut a write short.

@@ -1,8 +1,8 @@
 //! Where bytes come from.
-ghost use Rattle.std.specs.Prelude.{◌≡◌, ℕ, ◌+◌, ◌<◌, ◌≤◌, ◌⊎◌, List, Option, length, vec_len, IfOk, OnOk, OnErr, IsErrOf};
+ghost use Rattle.std.specs.Prelude.{◌≡◌, ◌==◌, ℕ, ◌+◌, ◌<◌, ◌≤◌, ◌⊎◌, if◌then◌else◌, List, Option, length, vec_len, IfOk, OnOk, OnErr, IsErrOf};
 ghost use Rattle.std.specs.Io.KnownBytes.{prepend_known, IsAtEnd};
-ghost use Rattle.pf_io.specs.Causes.{Rose, Calm, HasCause};
-ghost use Rattle.pf_io.specs.Streams.{Reads, TakesFront};
+ghost use Rattle.pf_io.specs.Causes.{Rose, Calm, HasCause, counted};
+ghost use Rattle.pf_io.specs.Streams.{Reads, TakesFront, ends_after};
 
 use crate::{Failed, NoMemory};
 use std::alloc::{AllocError, Global};
@@ -17,13 +17,26 @@ pub trait Source {
     // How many faults it has reported, up to the last value of the count.
     ghost faults: { Self → ℕ };
 
+    // How many reads have found the end, up to the last value of the count.
+    ghost ends: { Self → ℕ };
+
     /// Reads the next bytes into the front of `into`, which isn't empty, and answers their number; 0 is the end of
     /// input.
     fn read(&mut self, into: &mut [u8]) -> Result<usize, Failed>
         requires { 0 < length into.old }
         ensures bound { IfOk result (λ n. n ≤ length into.new) }
         ensures bytes { Reads (left self.old) (left self.new) result into.new }
-        ensures cause { HasCause (faults self.old) (faults self.new) result };
+        ensures cause { HasCause (faults self.old) (faults self.new) result }
+        ensures ends { ends self.new ≡ ends_after (ends self.old) result };
+}
+
+/// Notes a read that answered a number of bytes: it found the end where there were none.
+pub(crate) fn note_end(ends: &mut u64, count: usize)
+    ensures { ends.new ≡ (if count == 0 then counted ends.old else ends.old) }
+{
+    if count == 0 {
+        *ends = ends.saturating_add(1);
+    }
 }
 
 /// The most bytes that a play has.
@@ -80,7 +93,7 @@ impl From<AllocError> for ReadError {
 }
 
 /// Reads a source to its end, or to [`READ_LIMIT`] bytes, whichever is first. Every read but the last takes at least
-/// one byte.
+/// one byte, and none comes after the one that found the end.
 pub fn read_all<S: Source>(alloc: Global, source: &mut S) -> Result<Vec<u8>, ReadError>
     ensures taken { IfOk result (λ v. S.left source.old ≡ prepend_known v.items (S.left source.new)) }
     ensures whole { IfOk result (λ v. (vec_len v ≡ READ_LIMIT)
@@ -90,6 +103,11 @@ pub fn read_all<S: Source>(alloc: Global, source: &mut S) -> Result<Vec<u8>, Rea
     ensures failed { IsErrOf result ReadError.Failed → Rose (S.faults source.old) (S.faults source.new) }
     ensures front { OnErr result (TakesFront (S.left source.old) (S.left source.new)) }
     ensures no_memory { IsErrOf result ReadError.NoMemory → Calm (S.faults source.old) (S.faults source.new) }
+
+    // One read finds the end, where the bytes are all; else none does.
+    ensures one_end { IfOk result (λ v. vec_len v < READ_LIMIT → S.ends source.new ≡ counted (S.ends source.old)) }
+    ensures limit { IfOk result (λ v. vec_len v ≡ READ_LIMIT → S.ends source.new ≡ S.ends source.old) }
+    ensures no_end { OnErr result (S.ends source.new ≡ S.ends source.old) }
 {
     let mut bytes = Vec::new(alloc);
     let mut piece = [0; PIECE];

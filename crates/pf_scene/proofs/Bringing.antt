@@ -13,7 +13,7 @@ use Rattle.pf_model.specs.Copies.{UpdateList}
 use Rattle.pf_history.specs.Away.{arrays_of, arrays_in, arrays_in_all}
 use Rattle.cycle_buffer.specs.Cycles.{CycleState, CyclesState, cycle_at, written_at, out_at, out_of, most_of, after_home}
 use Rattle.pf_scene.specs.Stock.{Written}
-use Rattle.pf_scene.specs.Counts.{IsAsLong, FitsHome, ListFits, ListsFit}
+use Rattle.pf_scene.specs.Counts.{IsAsLong, AreAsMany, FitsHome, ListFits, ListsFit}
 use Rattle.pf_scene.proofs.Written.{no_cycle}
 use Rattle.pf_scene.proofs.Trimmed.{none_out}
 
@@ -89,21 +89,26 @@ list_still_fits v w next (u ∷ us) same h = (still_fits v w next u.1 same h.0, 
 pub record IsBringing {X : Type 0} (fits : ℕ → X → Type 0) (count : ℕ → X → ℕ) (c d : CyclesState) (all rest : List X) : Type 0 where
   pub written : (s : ℕ) → written_at d s ≡ written_at c s
   pub most : most_of d ≡ most_of c
+  pub counts : AreAsMany c d
   pub fit : (next : ℕ) → AllByRecursion (fits next) all → AllByRecursion (fits next) rest
   pub out : (next : ℕ) → AllByRecursion (fits next) all → (s : ℕ) → out_at d s - sum_by (count s) rest ≡ out_at c s - sum_by (count s) all
 
+as_many : (c d e : CyclesState) → AreAsMany c d → AreAsMany d e → AreAsMany c e
+as_many c d e h k = record { begins = k.begins ∙ h.begins; counts = λ s. k.counts s ∙ h.counts s }
+
 pub bringing_all : {X : Type 0} (fits : ℕ → X → Type 0) (count : ℕ → X → ℕ) (c : CyclesState) (all : List X) → IsBringing fits count c c all all
-bringing_all fits count c all = record { written = λ s. refl; most = refl; fit = λ next h. h; out = λ next h s. refl }
+bringing_all fits count c all = record { written = λ s. refl; most = refl; counts = record { begins = refl; counts = λ s. refl }; fit = λ next h. h; out = λ next h s. refl }
 
 pub bringing_more : {X : Type 0} (fits : ℕ → X → Type 0) (count : ℕ → X → ℕ) (c d e : CyclesState) (all rest less : List X) (x : X) → IsBringing fits count c d all rest
     → ((next : ℕ) → AllByRecursion (fits next) rest → fits next x × AllByRecursion (fits next) less)
     → ((s : ℕ) → sum_by (count s) rest ≡ sum_by (count s) less + count s x)
-    → ((s : ℕ) → written_at e s ≡ written_at d s) → most_of e ≡ most_of d
+    → ((s : ℕ) → written_at e s ≡ written_at d s) → most_of e ≡ most_of d → AreAsMany d e
     → ((next : ℕ) → fits next x → (s : ℕ) → out_at e s ≡ out_at d s - count s x)
     → IsBringing fits count c e all less
-bringing_more fits count c d e all rest less x b parts sums written most out = record {
+bringing_more fits count c d e all rest less x b parts sums written most counts out = record {
   written = λ s. written s ∙ b.written s;
   most = most ∙ b.most;
+  counts = as_many c d e b.counts counts;
   fit = λ next h. (parts next (b.fit next h)).1;
   out = λ next h s. by (out_at c s) (out_at d s) (out_at e s) (sum_by (count s) all) (sum_by (count s) rest) (sum_by (count s) less) (count s x)
       (b.out next h s) (sums s) (out next (parts next (b.fit next h)).0 s);
@@ -162,13 +167,13 @@ none_left (x ∷ xs) h = absurd (omega (arith, h))
 -- the node at a place comes home, and the rest is still to come
 pub node_brought : (c d e : CyclesState) (us : UpdateList) (olds news : List (Option Node)) (i : ℕ) (o none : Option Node) → IsBringingNodes c d us (drop i olds)
     → drop i olds ≡ o ∷ drop (i + 1) olds → news ≡ set olds i none
-    → ((s : ℕ) → written_at e s ≡ written_at d s) → most_of e ≡ most_of d
+    → ((s : ℕ) → written_at e s ≡ written_at d s) → most_of e ≡ most_of d → AreAsMany d e
     → ((next : ℕ) → FitsHome (written_at d) next o → (s : ℕ) → out_at e s ≡ out_at d s - arrays_of s o)
     → IsBringingNodes c e us (drop (i + 1) news)
-node_brought c d e us olds news i o none b split is written most out =
+node_brought c d e us olds news i o none b split is written most counts out =
     bringing_more (λ next p. FitsHome (written_at c) next p) arrays_of c d e (nodes_in us) (drop i olds) (drop (i + 1) news) o b
     (λ next h. parts next (subst (λ (xs : List (Option Node)). AllByRecursion (FitsHome (written_at c) next) xs) split h))
-    (λ s. sums s) written most
+    (λ s. sums s) written most counts
     (λ next h s. out next (still_fits (written_at c) (written_at d) next o b.written h) s)
   where
     rest_same : drop (i + 1) news ≡ drop (i + 1) olds
@@ -200,13 +205,13 @@ all_last P [] x h = (h.0, tt)
 all_last P (y ∷ xs) x h = let r = all_last P xs x h.1 in (r.0, (h.0, r.1))
 
 pub lists_brought_more : (c d e : CyclesState) (all rest less : List UpdateList) (us : UpdateList) → IsBringingLists c d all rest → rest ≡ less ++ us ∷ []
-    → ((s : ℕ) → written_at e s ≡ written_at d s) → most_of e ≡ most_of d
+    → ((s : ℕ) → written_at e s ≡ written_at d s) → most_of e ≡ most_of d → AreAsMany d e
     → ((next : ℕ) → ListFits (written_at d) next us → (s : ℕ) → out_at e s ≡ out_at d s - arrays_in s us)
     → IsBringingLists c e all less
-lists_brought_more c d e all rest less us b split written most out =
+lists_brought_more c d e all rest less us b split written most counts out =
     bringing_more (λ next vs. ListFits (written_at c) next vs) arrays_in c d e all rest less us b
     (λ next h. all_last (ListFits (written_at c) next) less us (subst (λ (xs : List UpdateList). AllByRecursion (ListFits (written_at c) next) xs) split h))
-    (λ s. ap (sum_by (arrays_in s)) split ∙ sum_by_push (arrays_in s) less us) written most
+    (λ s. ap (sum_by (arrays_in s)) split ∙ sum_by_push (arrays_in s) less us) written most counts
     (λ next h s. out next (list_still_fits (written_at c) (written_at d) next us b.written h) s)
 
 pub lists_brought : (c d : CyclesState) (all rest : List UpdateList) → IsBringingLists c d all rest → rest ≡ []

@@ -77,7 +77,7 @@ verts_count g id ts n found ok =
     let right : has_kind (λ k. option_map_or (λ (us : List Tri). length us == length ts) (geom_of k) false) (node_at g.nodes id) ≡ true = not_false (has_kind (λ k. option_map_or (λ (us : List Tri). length us == length ts) (geom_of k) false) (node_at g.nodes id)) (when_not (not (has_kind (λ k. option_map_or (λ (us : List Tri). length us == length ts) (geom_of k) false) (node_at g.nodes id))) (fault.Many (length ts)) passed) in
     subst (λ (o : Option Node). has_kind (λ k. option_map_or (λ (us : List Tri). length us == length ts) (geom_of k) false) o ≡ true) found right
 
-size_after : (g : SceneGraph) (e : Edit) (n : Node) → node_at g.nodes (named_by e) ≡ Some n → None ≡ fault_of g e → size (node_after g.time e n).kind ≡ size n.kind
+pub size_after : (g : SceneGraph) (e : Edit) (n : Node) → node_at g.nodes (named_by e) ≡ Some n → None ≡ fault_of g e → size (node_after g.time e n).kind ≡ size n.kind
 size_after g (edit.Make id kind) n found ok = refl
 size_after g (edit.Add parent child) n found ok = refl
 size_after g (edit.Insert parent place child) n found ok = refl
@@ -96,14 +96,14 @@ size_after g (edit.Run id) n found ok = size_run g.time n.kind
 size_after g (edit.Stop id) n found ok = size_stopped g.time (length n.children) n.kind
 size_after g (edit.Verts id ts) n found ok = size_geom ts n.kind (verts_count g id ts n found ok)
 
-serial_kept : (time : ℕ) (e : Edit) (n : Node) → (node_after time e n).serial ≡ n.serial
+pub serial_kept : (time : ℕ) (e : Edit) (n : Node) → (node_after time e n).serial ≡ n.serial
 serial_kept time (edit.Make id kind) n = refl
 serial_kept time e n = refl
 
 -- The cycles
 
 -- kinds of the same number of triangles are both geodes or neither
-geode_by_size : (k j : Kind) → size k ≡ size j → is_geode j ≡ true → is_geode k ≡ true
+pub geode_by_size : (k j : Kind) → size k ≡ size j → is_geode j ≡ true → is_geode k ≡ true
 geode_by_size k j same h = by (geom_of k) (geom_of j) same h
   where
     by : (a b : Option (List Tri)) → option_map length a ≡ option_map length b → is_some b ≡ true → is_some a ≡ true
@@ -120,7 +120,7 @@ sized_effect w g (edit.Make id kind) within ok cycle sized b =
     subst (λ (o : Option Node). IsSized w o) (sym (node_at_put_any (record { serial = g.next_serial; born = g.time; kind = kind; children = [] }) id g.nodes b)) (by (b == id))
   where
     by : (t : Bool) → IsSized w (cond t (Some (record { serial = g.next_serial; born = g.time; kind = kind; children = [] })) (node_at g.nodes b))
-    by true = λ geode. ap (option_map length) (cycle geode)
+    by true = λ geode. ap (option_map length) cycle
     by false = sized b
 sized_effect w g (edit.Delete id) within ok cycle sized b =
     subst (λ (o : Option Node). IsSized w o) (sym (node_at_without id g.nodes b within.rising)) (by (b == id))

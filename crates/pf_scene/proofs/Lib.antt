@@ -2,12 +2,14 @@ pub mod Written
 pub mod Filling
 pub mod Serials
 pub mod Edited
+pub mod Owned
 pub mod Opened
 pub mod Kept
 pub mod Loops
 pub mod Taken
 pub mod Rooms
 pub mod Trimmed
+pub mod Counted
 pub mod Bringing
 pub mod Accounts
 pub mod Homes

@@ -92,7 +92,7 @@ preparing_more v w x first serial es i e l is p cycle others same = record {
     most e = omega arith
 
     there : (e : Edit) (u : Written) → ((s : ℕ) → s < serial_after serial e → u s ≡ x s) → HasCycle x serial e → HasCycle u serial e
-    there (edit.Make id kind) u agree h = λ geode. agree serial (omega arith) ∙ h geode
+    there (edit.Make id kind) u agree h = agree serial (omega arith) ∙ h
     there e u agree h = h
 
     here : (u : Written) → ((s : ℕ) → s < serial_after serial e → u s ≡ x s) → HasCycle u serial e
@@ -177,12 +177,14 @@ settling_more v w x g named at within settling new others lengths = record {
 -- The cycles of these deleted nodes are dropped, and no others.
 pub record IsForgetting (v w : Written) (gone : List Gone) : Type 0 where
   pub others : (s : ℕ) → among s (map (λ (x : Gone). x.serial) gone) ≡ false → w s ≡ v s
+  pub dropped : (s : ℕ) → among s (map (λ (x : Gone). x.serial) gone) ≡ true → w s ≡ None
   pub none : (s : ℕ) → v s ≡ None → w s ≡ None
 
 pub forgetting_more : (v w x : Written) (gone : List Gone) (i : ℕ) (g : Gone) → i < length gone → g ≡ get_or gone i g → IsForgetting v w (take i gone)
     → x g.serial ≡ None → ((s : ℕ) → s ≢ g.serial → x s ≡ w s) → IsForgetting v x (take (i + 1) gone)
 forgetting_more v w x gone i g l is f dropped others = subst (λ (gs : List Gone). IsForgetting v x gs) (sym (front_at gone i g l is)) (record {
   others = λ s h. let halves = apart s (take i gone) h in others s (λ e. differ s g.serial e halves.1) ∙ f.others s halves.0;
+  dropped = λ s h. here s (nat_eq s g.serial) refl (last s (take i gone) h);
   none = λ s h. by s (nat_eq s g.serial) refl (f.none s h);
 })
   where
@@ -191,6 +193,23 @@ forgetting_more v w x gone i g l is f dropped others = subst (λ (gs : List Gone
 
     equal : (a b : ℕ) → nat_eq a b ≡ true → a ≡ b
     equal a b h = grind (arith, nat_tests)
+
+    last : (s : ℕ) (gs : List Gone) → among s (map (λ (y : Gone). y.serial) (gs ++ g ∷ [])) ≡ true → nat_eq s g.serial ≡ false → among s (map (λ (y : Gone). y.serial) gs) ≡ true
+    last s [] h apart = absurd (none (nat_eq s g.serial) h apart)
+      where
+        none : (t : Bool) → (t || false) ≡ true → t ≡ false → ⊥
+        none true h e = absurd (cc)
+        none false h e = absurd (cc)
+    last s (y ∷ ys) h apart = one (nat_eq s y.serial) (λ k. last s ys k apart) h
+      where
+        one : (t : Bool) → (among s (map (λ (z : Gone). z.serial) (ys ++ g ∷ [])) ≡ true → among s (map (λ (z : Gone). z.serial) ys) ≡ true)
+            → (t || among s (map (λ (z : Gone). z.serial) (ys ++ g ∷ []))) ≡ true → (t || among s (map (λ (z : Gone). z.serial) ys)) ≡ true
+        one true rest h = refl
+        one false rest h = rest h
+
+    here : (s : ℕ) (t : Bool) → nat_eq s g.serial ≡ t → (nat_eq s g.serial ≡ false → among s (map (λ (y : Gone). y.serial) (take i gone)) ≡ true) → x s ≡ None
+    here s true e h = ap x (equal s g.serial e) ∙ dropped
+    here s false e h = others s (λ q. differ s g.serial q e) ∙ f.dropped s (h e)
 
     by : (s : ℕ) (t : Bool) → nat_eq s g.serial ≡ t → w s ≡ None → x s ≡ None
     by s true e h = ap x (equal s g.serial e) ∙ dropped

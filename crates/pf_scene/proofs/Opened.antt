@@ -1,6 +1,7 @@
 -- What accepted edits leave of the geodes and of the deleted nodes.
-use Rattle.std.proofs.Common.{◌≡◌, ℕ, ◌+◌, ◌<◌, ◌≤◌, Bool, true, false, cond, ◌&&◌, ◌==◌, ◌||◌, nat_eq, List, [], ◌∷◌, ◌++◌, map, length, Option, Some, None, is_some, refl, sym, ◌∙◌, ap, subst, arith}
+use Rattle.std.proofs.Common.{◌≡◌, ◌⊎◌, inl, inr, ℕ, ◌+◌, ◌<◌, ◌≤◌, Bool, true, false, cond, ◌&&◌, ◌==◌, ◌||◌, nat_eq, List, [], ◌∷◌, ◌++◌, map, length, Option, Some, None, is_some, refl, sym, ◌∙◌, ap, subst, arith}
 use Rattle.std.specs.Prelude.{⊤}
+use Rattle.std.proofs.lemmas.Bool.{cases_lt}
 use Rattle.std.proofs.lemmas.Bool.Decides.{nat_tests}
 use Rattle.std.specs.List.{AllByRecursion, list_all, fold}
 use Rattle.std.specs.Option.{option_map, option_map_or}
@@ -25,14 +26,12 @@ use Rattle.pf_model.proofs.EditLimits.{limits_effect}
 use Rattle.pf_history.proofs.Lists.{all_append}
 use Rattle.update_lists.specs.Marks.{among}
 use Rattle.update_lists.specs.Taking.{IsWritten}
-use Rattle.pf_scene.specs.Stock.{Written, serial_behind, HaveCycles, IsSized, IsStocked, IsOpen}
+use Rattle.pf_scene.specs.Stock.{Written, serial_behind, HaveCycles, HasNoGeode, IsSized, IsStocked, IsOpen}
 use Rattle.pf_scene.proofs.Serials.{apart_serials}
 use Rattle.pf_scene.proofs.Edited.{sized_effect, serial_effect, gone_effect}
+use Rattle.pf_scene.proofs.Owned.{gone_serials, AreOwned, owned_effect, owned_all}
 
 -- The serials of deleted nodes
-
-abbrev pub gone_serials : List Gone → List ℕ
-gone_serials gone = map (λ (x : Gone). x.serial) gone
 
 -- No node has the serial of a deleted one, and those were given.
 pub record IsGoneApart (g : SceneGraph) : Type 0 where
@@ -152,6 +151,17 @@ opened w N (e ∷ es) k g within fit ok cycles gone sized exact =
       gone = all.gone;
     }
 
+-- each cycle stays one of a geode or of a deleted node
+still_owned : (w : Written) (es : List Edit) (k : ℕ) (g : SceneGraph) → IsGraphWithinLimits g → list_all fits es ≡ true → None ≡ fault_from k g es
+    → HaveCycles w g.next_serial es → AreOwned w g → AreOwned w (fold effect g es)
+still_owned w [] k g within fit ok cycles owned = owned
+still_owned w (e ∷ es) k g within fit ok cycles owned =
+    let good = no_fault_first k (fault_of g e) (fault_from (k + 1) (effect g e) es) ok in
+    let rest = no_fault_rest k (fault_of g e) (fault_from (k + 1) (effect g e) es) ok in
+    let later : HaveCycles w (effect g e).next_serial es = subst (λ (s : ℕ). HaveCycles w s es) (sym (serial_effect g e)) cycles.1 in
+    still_owned w es (k + 1) (effect g e) (limits_effect g e within (first_half (fits e) (list_all fits es) fit) good) (second_half (fits e) (list_all fits es) fit) rest later
+    (owned_effect w g e within good cycles.0 owned)
+
 pub serials_behind : (g : SceneGraph) (es : List Edit) → (fold effect g es).next_serial ≡ serial_behind g.next_serial es
 serials_behind g [] = refl
 serials_behind g (e ∷ es) = serials_behind (effect g e) es ∙ ap (λ s. serial_behind s es) (serial_effect g e)
@@ -177,8 +187,13 @@ still_written v w g within same id h = by (node_at g.nodes id) refl h
 pub restocked : (v w : Written) (g : SceneGraph) → IsGraphWithinLimits g → IsStocked v g → ((s : ℕ) → s < g.next_serial → w s ≡ v s) → ((s : ℕ) → g.next_serial ≤ s → w s ≡ None) → IsStocked w g
 restocked v w g within stocked same none = record {
   contents = λ id. still_written v w g within same id (stocked.contents id);
+  owned = λ s lone. owned s lone (cases_lt s g.next_serial);
   fresh = none;
 }
+  where
+    owned : (s : ℕ) → HasNoGeode s g → (s < g.next_serial) ⊎ (g.next_serial ≤ s) → w s ≡ None
+    owned s lone (inl l) = same s l ∙ stocked.owned s lone
+    owned s lone (inr l) = none s l
 
 none_gone : (g : SceneGraph) → g.gone ≡ [] → IsGoneApart g
 none_gone g empty = record {
@@ -192,10 +207,12 @@ pub opening : (v w : Written) (g : SceneGraph) (es : List Edit) → IsGraphWithi
 opening v w g es within stocked empty fit ok same cycles none =
     let exact : (id : ℕ) → IsWritten w (node_at g.nodes id) = λ id. still_written v w g within same id (stocked.contents id) in
     let all = opened w (λ _. ⊤) es 1 g within fit (sym ok) cycles (none_gone g empty) (λ id. sized_written w (node_at g.nodes id) (exact id)) (λ id _. exact id) in
+    let fresh : (s : ℕ) → (fold effect g es).next_serial ≤ s → w s ≡ None = λ s l. none s (subst (λ (n : ℕ). n ≤ s) (serials_behind g es) l) in
     record {
       sized = all.sized;
       others = λ id out. all.others id tt out;
-      fresh = λ s l. none s (subst (λ (n : ℕ). n ≤ s) (serials_behind g es) l);
+      fresh = fresh;
+      owned = owned_all w (fold effect g es) (still_owned w es 1 g within fit (sym ok) cycles (λ s l lone out. same s l ∙ stocked.owned s lone)) fresh;
       apart = all.gone.apart;
     }
 
@@ -258,13 +275,18 @@ still_there w x n gone apart others h = λ geode. others n.serial apart ∙ h ge
 pub followed : (v w x : Written) (g h : SceneGraph) (named : List ℕ) → IsOpen v g named
     → ((id : ℕ) → among id named ≡ true → IsWritten w (node_at g.nodes id)) → ((id : ℕ) → IsWritten v (node_at g.nodes id) → IsWritten w (node_at g.nodes id))
     → ((s : ℕ) → option_map length (w s) ≡ option_map length (v s))
-    → ((s : ℕ) → among s (gone_serials g.gone) ≡ false → x s ≡ w s) → ((s : ℕ) → w s ≡ None → x s ≡ None)
+    → ((s : ℕ) → among s (gone_serials g.gone) ≡ false → x s ≡ w s) → ((s : ℕ) → among s (gone_serials g.gone) ≡ true → x s ≡ None) → ((s : ℕ) → w s ≡ None → x s ≡ None)
     → h ≡ record g { gone = [] } → IsStocked x h
-followed v w x g h named opens named_are kept lengths others none is = subst (λ (k : SceneGraph). IsStocked x k) (sym is) (record {
+followed v w x g h named opens named_are kept lengths others dropped none is = subst (λ (k : SceneGraph). IsStocked x k) (sym is) (record {
   contents = λ id. here id (node_at g.nodes id) refl (written id (among id named) refl);
+  owned = λ s lone. owned s lone (among s (gone_serials g.gone)) refl;
   fresh = λ s l. none s (none_by_length (w s) (v s) (lengths s) (opens.fresh s l));
 })
   where
+    owned : (s : ℕ) → HasNoGeode s g → (t : Bool) → among s (gone_serials g.gone) ≡ t → x s ≡ None
+    owned s lone true e = dropped s e
+    owned s lone false e = none s (none_by_length (w s) (v s) (lengths s) (opens.owned s lone e))
+
     written : (id : ℕ) (t : Bool) → among id named ≡ t → IsWritten w (node_at g.nodes id)
     written id true e = named_are id e
     written id false e = kept id (opens.others id e)
@@ -272,3 +294,8 @@ followed v w x g h named opens named_are kept lengths others none is = subst (λ
     here : (id : ℕ) (o : Option Node) → node_at g.nodes id ≡ o → IsWritten w (node_at g.nodes id) → IsWritten x (node_at g.nodes id)
     here id None e h = subst (λ (o : Option Node). IsWritten x o) (sym e) tt
     here id (Some n) e h = subst (λ (o : Option Node). IsWritten x o) (sym e) (still_there w x n g.gone (opens.apart id n e) others (subst (λ (o : Option Node). IsWritten w o) e h))
+
+-- the time is nothing to the cycles
+pub stocked_at : (w : Written) (g h : SceneGraph) (time : ℕ) → h ≡ record g { time = time } → IsStocked w g → IsStocked w h
+stocked_at w g h time is stocked =
+    subst (λ (k : SceneGraph). IsStocked w k) (sym is) (record { contents = stocked.contents; owned = stocked.owned; fresh = stocked.fresh })

@@ -10,10 +10,11 @@ use Rattle.pf_history.specs.Objects.{FrameState}
 use Rattle.pf_history.specs.Logs.{Log}
 use Rattle.pf_scene.specs.Worlds.{WorldState}
 use Rattle.pf_scene.specs.Stock.{Written}
-use Rattle.pf_scene.specs.Counts.{are_accounted, FitsHome, FitHome}
-use Rattle.pf_scene.specs.Scenes.{SceneState, IsScene, with_cycle}
+use Rattle.pf_scene.specs.Counts.{are_accounted, AreTrimmed, FitsHome, FitHome}
+use Rattle.pf_scene.specs.Scenes.{SceneState, IsScene, KeepsScene, with_cycle}
 use Rattle.pf_scene.proofs.Accounts.{AreKept, same_accounted, kept_trimmed}
-use Rattle.pf_scene.proofs.Homes.{StayLong, home_later}
+use Rattle.pf_scene.proofs.Homes.{home_later}
+use Rattle.pf_scene.proofs.Counted.{counted_refused}
 use Rattle.pf_scene.proofs.Kept.{scene_recycled}
 
 -- A refusal
@@ -23,16 +24,19 @@ abbrev pub state_with : WorldState → List Viewpoint → (frames retired merges
 state_with w views frames retired merges =
     record { graph = w.graph; views = views; frames = frames; retired = retired; merges = merges; graves = w.graves }
 
--- where the world is as before but for its cycles, whose lengths stay
-pub scene_refused : (ahead channels : ℕ) (log log' : Log) (w x : WorldState) (views : List Viewpoint) (frames retired merges weight : ℕ)
-    → IsScene ahead channels log (state_with w views frames retired merges) w.marks weight (written_at w.cycles) → log' ≡ log → x ≡ record w { cycles = x.cycles }
-    → StayLong w.graph.next_serial (written_at w.cycles) (written_at x.cycles)
-    → IsScene ahead channels log' (state_with x views frames retired merges) x.marks weight (written_at x.cycles)
-scene_refused ahead channels log log' w x views frames retired merges weight scene logs is long =
-    subst (λ (y : WorldState). IsScene ahead channels log' (state_with y views frames retired merges) y.marks weight (written_at x.cycles)) (sym is)
-    (subst (λ (es : Log). IsScene ahead channels es (state_with w views frames retired merges) w.marks weight (written_at x.cycles)) (sym logs)
-    (scene_recycled ahead channels log (state_with w views frames retired merges) w.marks weight (written_at w.cycles) (written_at x.cycles) scene
-    (home_later channels log w.graph.next_serial w.graph.next_serial (written_at w.cycles) (written_at x.cycles) scene.home (omega arith) long)))
+-- where the world is as before but for its cycles, which were trimmed
+pub scene_refused : (ahead channels : ℕ) (log log' : Log) (w x : WorldState) (views : List Viewpoint) (frames retired merges weight copies : ℕ)
+    → KeepsScene ahead channels log (state_with w views frames retired merges) w.marks weight copies w.cycles → log' ≡ log → x ≡ record w { cycles = x.cycles }
+    → AreTrimmed w.graph.next_serial w.cycles x.cycles → ((s : ℕ) → w.graph.next_serial ≤ s → written_at x.cycles s ≡ None)
+    → KeepsScene ahead channels log' (state_with x views frames retired merges) x.marks weight copies x.cycles
+scene_refused ahead channels log log' w x views frames retired merges weight copies keeps logs is trimmed none = record {
+  scene =
+      subst (λ (y : WorldState). IsScene ahead channels log' (state_with y views frames retired merges) y.marks weight (written_at x.cycles)) (sym is)
+      (subst (λ (es : Log). IsScene ahead channels es (state_with w views frames retired merges) w.marks weight (written_at x.cycles)) (sym logs)
+      (scene_recycled ahead channels log (state_with w views frames retired merges) w.marks weight (written_at w.cycles) (written_at x.cycles) keeps.scene
+      (home_later channels log w.graph.next_serial w.graph.next_serial (written_at w.cycles) (written_at x.cycles) keeps.scene.home (omega arith) trimmed.long)));
+  counted = counted_refused ahead copies w.graph.next_serial w.cycles x.cycles keeps.counted trimmed none;
+}
 
 -- what clauses see of a scene
 abbrev pub seen : (ahead channels : ℕ) → Log → (seat : ℕ) → Bool → CyclesState → ℕ → SceneState

@@ -26,6 +26,10 @@ use Rattle.pf_scene.specs.Frames.{IsCutOf, AllHaveRoom, drawn}
 abbrev pub seated : ℕ → Shared → Shared
 seated seat s = record s { seat = seat }
 
+-- nothing changed but the seat in charge
+abbrev pub with_seat : ℕ → SceneState → SceneState
+with_seat seat s = record s { shared = seated seat s.shared }
+
 -- When a command may be made
 
 -- The numbers of an edit are in range, and the weight can be borne.
@@ -77,14 +81,14 @@ DoesEdit e seat found left (outcome.Entered r) =
     MayEdit found.shared e × Enters (command.Edit e) seat found left × (r ≡ reply_of (state_in found.shared) (command.Edit e))
 DoesEdit e seat found left (outcome.NotNow back) = (left ≡ found) × (back ≡ e) × (MayEdit found.shared e → ⊥)
 DoesEdit e seat found left (outcome.NoMemory back) =
-    (left.shared ≡ seated seat found.shared) × (back ≡ e) × (KeepsCopies found → KeepsCopies left)
+    (left ≡ with_seat seat found) × (back ≡ e) × (KeepsCopies found → KeepsCopies left)
 
 abbrev pub DoesMerge : Merge → ℕ → SceneState → SceneState → Outcome Reply Merge → Type 0
 DoesMerge m seat found left (outcome.Entered r) =
     MayMerge found.shared m × Enters (command.Merge m) seat found left × (r ≡ reply_of (state_in found.shared) (command.Merge m))
 DoesMerge m seat found left (outcome.NotNow back) = (left ≡ found) × (back ≡ m) × (MayMerge found.shared m → ⊥)
 DoesMerge m seat found left (outcome.NoMemory back) =
-    (left.shared ≡ seated seat found.shared) × (back ≡ m) × (KeepsCopies found → KeepsCopies left)
+    (left ≡ with_seat seat found) × (back ≡ m) × (KeepsCopies found → KeepsCopies left)
 
 abbrev pub DoesView : ℕ → Viewpoint → ℕ → SceneState → SceneState → Outcome Reply (Unit {0}) → Type 0
 DoesView channel v seat found left (outcome.Entered r) =
@@ -92,7 +96,7 @@ DoesView channel v seat found left (outcome.Entered r) =
     × (r ≡ reply_of (state_in found.shared) (command.View channel v))
 DoesView channel v seat found left (outcome.NotNow back) = (left ≡ found) × (MayView found.shared channel v → ⊥)
 DoesView channel v seat found left (outcome.NoMemory back) =
-    (left.shared ≡ seated seat found.shared) × (KeepsCopies found → KeepsCopies left)
+    (left ≡ with_seat seat found) × (KeepsCopies found → KeepsCopies left)
 
 -- a Sync that was entered leaves no list to bring home; the room for lists stays whatever the answer
 abbrev pub DoesSync : ℕ → Home → ℕ → SceneState → SceneState → Outcome Synced Home → Type 0
@@ -103,7 +107,7 @@ DoesSync retired home seat found left (outcome.Entered r) =
 DoesSync retired home seat found left (outcome.NotNow back) =
     (left ≡ found) × (back ≡ home) × (MaySync found.shared retired → ⊥)
 DoesSync retired home seat found left (outcome.NoMemory back) =
-    (left.shared ≡ seated seat found.shared) × (back.lists.items ≡ home.lists.items)
+    (left ≡ with_seat seat found) × (back.lists.items ≡ home.lists.items)
     × (vec_capacity back.lists ≡ vec_capacity home.lists) × (KeepsCopies found → KeepsCopies left)
 
 -- What a Frame that was entered did: its cut is that of the history, each draw list has room and is as before, and the

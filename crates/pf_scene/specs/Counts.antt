@@ -1,5 +1,5 @@
 -- How many copies of a geode's triangles are out, and which arrays come home to their cycles.
-use Rattle.std.specs.Prelude.{◌≡◌, ⊤, ℕ, ◌+◌, ◌<◌, ◌≤◌, ◌&&◌, Bool, true, nat_le, List, length, Option, Some, None}
+use Rattle.std.specs.Prelude.{◌≡◌, ⊤, ℕ, ◌+◌, ◌<◌, ◌≤◌, max, ◌&&◌, Bool, true, nat_le, List, length, Option, Some, None}
 use Rattle.std.specs.Option.{option_map}
 use Rattle.std.specs.List.{AllByRecursion, list_all}
 use Rattle.pf_model.specs.declared.geometry.Tri.{Tri}
@@ -7,7 +7,7 @@ use Rattle.pf_model.specs.declared.nodes.Node.{Node}
 use Rattle.pf_model.specs.Kinds.{geom_of, is_geode}
 use Rattle.pf_model.specs.Graphs.{node_at}
 use Rattle.pf_model.specs.Copies.{UpdateList, copy_of}
-use Rattle.cycle_buffer.specs.Cycles.{CyclesState, out_at, written_at, most_of}
+use Rattle.cycle_buffer.specs.Cycles.{CyclesState, out_at, written_at, copies_at, most_of}
 use Rattle.pf_history.specs.Logs.{Log}
 use Rattle.pf_history.specs.Cuts.{cuts_of}
 use Rattle.pf_history.specs.Away.{away, came_back}
@@ -43,9 +43,24 @@ pub record FitHome (channels : ℕ) (log : Log) (next : ℕ) (written : Written)
   pub back : ListsFit written next (came_back channels log)
   pub behind : (id : ℕ) → FitsHome written next (node_at (copy_of (cuts_of channels log)) id)
 
+-- What the type of a scene keeps of the numbers of copies: a cycle begins with one more than frames may be ahead, and
+-- none has more than the scene tells.
+pub record AreCounted (ahead copies : ℕ) (c : CyclesState) : Type 0 where
+  pub begins : c.copies ≡ ahead + 1
+  pub within : (s : ℕ) → copies_at c s ≤ copies
+
+-- each cycle has as many copies as it had, and a new one gets as many
+pub record AreAsMany (old new : CyclesState) : Type 0 where
+  pub begins : new.copies ≡ old.copies
+  pub counts : (s : ℕ) → copies_at new s ≡ copies_at old s
+
 -- What edits and deletions leave of the cycles, where serials from `next` on are still to be given: no more copies are
--- out, each cycle that is still there is as long as it was, and the greatest number of copies stays.
+-- out, each cycle that is still there is as long as it was and has no more copies, one that was made has as many as a new
+-- one gets, and the greatest number of copies stays.
 pub record AreTrimmed (next : ℕ) (old new : CyclesState) : Type 0 where
   pub out : (s : ℕ) → out_at new s ≤ out_at old s
   pub long : (s : ℕ) → s < next → IsAsLong (written_at new s) (written_at old s)
   pub most : most_of new ≡ most_of old
+  pub begins : new.copies ≡ old.copies
+  pub few : (s : ℕ) → s < next → copies_at new s ≤ copies_at old s
+  pub made : (s : ℕ) → copies_at new s ≤ max (copies_at old s) old.copies

@@ -12,7 +12,8 @@ use Rattle.pf_history.specs.Laws.{own_entry}
 use Rattle.pf_history.specs.Cuts.{marked}
 use Rattle.pf_history.specs.Away.{came_back_between}
 use Rattle.pf_scene.specs.Stock.{Written, makes_geode}
-use Rattle.pf_scene.specs.Counts.{FitHome}
+use Rattle.cycle_buffer.specs.Cycles.{CyclesState, written_at}
+use Rattle.pf_scene.specs.Counts.{FitHome, AreCounted}
 
 -- What the stages share: the log, the number of the seat under which the next entries stand, whether the stop mark is
 -- set, how many frames may be ahead, and how many channels there are.
@@ -91,3 +92,9 @@ pub record IsScene (ahead channels : ℕ) (log : Log) (state : FrameState) (mark
   pub few_channels : IsSmall channels
   pub kept : IsKept channels log state marks weight
   pub home : FitHome channels log state.graph.next_serial written
+
+-- What the type of a scene keeps: the scene, and the numbers of copies of its cycles.
+pub record KeepsScene (ahead channels : ℕ) (log : Log) (state : FrameState) (marks : List ℕ) (weight copies : ℕ)
+    (c : CyclesState) : Type 0 where
+  pub scene : IsScene ahead channels log state marks weight (written_at c)
+  pub counted : AreCounted ahead copies c

@@ -41,8 +41,7 @@ pub struct Scene {
 }
 
 impl Model for Scene {
-    ghost use Rattle.cycle_buffer.specs.Cycles.{written_at};
-    ghost use Rattle.pf_scene.specs.Scenes.{SceneState, IsScene};
+    ghost use Rattle.pf_scene.specs.Scenes.{SceneState, KeepsScene};
     ghost use Rattle.pf_scene.specs.Counts.{are_accounted};
 
     ghost Value = { SceneState };
@@ -59,14 +58,14 @@ impl Model for Scene {
       accounted = are_accounted s.ahead s.channels s.history.entries s.world.cycles;
     } };
 
-    ghost invariant = { λ s. IsScene s.ahead s.channels s.history.entries (record {
+    ghost invariant = { λ s. KeepsScene s.ahead s.channels s.history.entries (record {
       graph = s.world.graph;
       views = s.views.items;
       frames = s.frames;
       retired = s.retired;
       merges = s.merges;
       graves = s.world.graves;
-    }) s.world.marks s.weight (written_at s.world.cycles) };
+    }) s.world.marks s.weight s.copies s.world.cycles };
 }
 
 impl Scene {
@@ -258,7 +257,8 @@ impl Scene {
         Ok(Reply::Freed(told.finish()))
     }
 
-    /// Makes an edit. A fault is a reply. Want of memory hands the edit back.
+    /// Makes an edit. A fault is a reply, even where there is no memory but for the entry. Want of memory hands the edit
+    /// back.
     pub fn edit(&mut self, e: Edit) -> Result<Reply, Edit>
         requires fits { fits e ≡ true }
         requires weight { HasWeight self.old.shared (command.Edit e) }
@@ -284,8 +284,8 @@ impl Scene {
         Ok(replies::of_edit(fault))
     }
 
-    /// Makes all edits of a buffer, or none of them where one has a fault, which is then the reply. Want of memory hands
-    /// the merge back.
+    /// Makes all edits of a buffer, or none of them where one has a fault, which is then the reply; that of the first edit
+    /// even where there is no memory but for the entry. Want of memory hands the merge back.
     pub fn merge(&mut self, m: Merge) -> Result<Reply, Merge>
         requires fits { list_all fits m.edits ≡ true }
         requires weight { HasWeight self.old.shared (command.Merge m) }

@@ -11,7 +11,7 @@ ghost use Rattle.pf_history.specs.Away.{arrays_of, arrays_in, arrays_in_all};
 ghost use Rattle.cycle_buffer.specs.Cycles.{written_at, out_at, most_of};
 ghost use Rattle.update_lists.specs.Marks.{among};
 ghost use Rattle.update_lists.specs.Taking.{IsWritten, geode_serial};
-ghost use Rattle.pf_scene.specs.Counts.{AreTrimmed, FitsHome, ListFits, ListsFit};
+ghost use Rattle.pf_scene.specs.Counts.{AreTrimmed, AreAsMany, FitsHome, ListFits, ListsFit};
 ghost use Rattle.pf_scene.specs.Stock.{makes_geode, serial_after, serial_behind, HasCycle, HaveCycles, IsSized};
 
 use cycle_buffer::Cycles;
@@ -74,7 +74,7 @@ fn drop_cycle(cycles: &mut Cycles, serial: u32)
 fn add_kind(cycles: &mut Cycles, serial: u32, kind: &Kind) -> Result<(), NoMemory>
     requires light { kind_fits kind.now ≡ true }
     requires absent { written_at cycles.old serial ≡ None }
-    ensures made { OnOk result (is_geode kind.now ≡ true → written_at cycles.new serial ≡ geom_of kind.now) }
+    ensures made { OnOk result (written_at cycles.new serial ≡ geom_of kind.now) }
     ensures others { (s : ℕ) → s ≢ serial → written_at cycles.new s ≡ written_at cycles.old s }
     ensures unchanged { OnErr result (cycles.new ≡ cycles.old) }
     ensures absent { is_geode kind.now ≡ false → cycles.new ≡ cycles.old }
@@ -156,6 +156,8 @@ pub(crate) fn open(cycles: &mut Cycles, first: u32, edits: &[Edit]) -> Result<()
     requires serials { first + length edits.now < 2 ^ 32 }
     requires fresh { (s : ℕ) → first ≤ s → written_at cycles.old s ≡ None }
     ensures made { OnOk result (HaveCycles (written_at cycles.new) first edits.now) }
+    ensures none { OnOk result (list_any makes_geode edits.now ≡ false
+        → (s : ℕ) → first ≤ s → written_at cycles.new s ≡ None) }
     ensures below { (s : ℕ) → s < first → written_at cycles.new s ≡ written_at cycles.old s }
     ensures above { (s : ℕ) → serial_behind first edits.now ≤ s → written_at cycles.new s ≡ None }
     ensures fresh { OnErr result ((s : ℕ) → first ≤ s → written_at cycles.new s ≡ None) }
@@ -209,6 +211,7 @@ pub(crate) fn settle(cycles: &mut Cycles, graph: &WorkGraph, edits: &[Edit])
 pub(crate) fn forget(cycles: &mut Cycles, gone: &[Gone])
     ensures others { (s : ℕ) → among s (map (λ g. g.serial) gone.now) ≡ false
         → written_at cycles.new s ≡ written_at cycles.old s }
+    ensures dropped { (s : ℕ) → among s (map (λ g. g.serial) gone.now) ≡ true → written_at cycles.new s ≡ None }
     ensures none { (s : ℕ) → written_at cycles.old s ≡ None → written_at cycles.new s ≡ None }
     ensures trimmed { (next : ℕ) → AreTrimmed next cycles.old cycles.new }
 {
@@ -231,6 +234,7 @@ fn into_tris(kind: Kind) -> Option<Geom>
 fn take_home(cycles: &mut Cycles, node: Option<Node>)
     ensures written { (s : ℕ) → written_at cycles.new s ≡ written_at cycles.old s }
     ensures most { most_of cycles.new ≡ most_of cycles.old }
+    ensures counts { AreAsMany cycles.old cycles.new }
     ensures out { (next : ℕ) → FitsHome (written_at cycles.old) next node
         → (s : ℕ) → out_at cycles.new s ≡ out_at cycles.old s - arrays_of s node }
 {
@@ -245,6 +249,7 @@ fn take_home(cycles: &mut Cycles, node: Option<Node>)
 fn take_list_home(cycles: &mut Cycles, mut updates: Updates)
     ensures written { (s : ℕ) → written_at cycles.new s ≡ written_at cycles.old s }
     ensures most { most_of cycles.new ≡ most_of cycles.old }
+    ensures counts { AreAsMany cycles.old cycles.new }
     ensures out { (next : ℕ) → ListFits (written_at cycles.old) next updates
         → (s : ℕ) → out_at cycles.new s ≡ out_at cycles.old s - arrays_in s updates }
 {
@@ -260,6 +265,7 @@ fn take_list_home(cycles: &mut Cycles, mut updates: Updates)
 pub(crate) fn take_all_home(cycles: &mut Cycles, home: &mut Vec<Updates>)
     ensures written { (s : ℕ) → written_at cycles.new s ≡ written_at cycles.old s }
     ensures most { most_of cycles.new ≡ most_of cycles.old }
+    ensures counts { AreAsMany cycles.old cycles.new }
     ensures out { (next : ℕ) → ListsFit (written_at cycles.old) next home.old.items
         → (s : ℕ) → out_at cycles.new s ≡ out_at cycles.old s - arrays_in_all s home.old.items }
     ensures empty { home.new.items ≡ [] }

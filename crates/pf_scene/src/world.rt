@@ -1,6 +1,6 @@
 //! The graph with what follows its edits: the graves, the marks and the cycles.
-ghost use Rattle.std.specs.Prelude.{◌≡◌, ℕ, ◌+◌, ◌-◌, ◌^◌, ◌<◌, ◌≤◌, true, None, [], ◌∷◌, ◌++◌, map, length, if◌then◌else◌, is_some, IfOk, OnOk, OnErr};
-ghost use Rattle.std.specs.List.{list_all};
+ghost use Rattle.std.specs.Prelude.{◌≡◌, ℕ, ◌+◌, ◌-◌, ◌^◌, ◌<◌, ◌≤◌, true, false, None, [], ◌∷◌, ◌++◌, map, length, if◌then◌else◌, is_some, IfOk, OnOk, OnErr};
+ghost use Rattle.std.specs.List.{list_all, list_any};
 ghost use Rattle.std.specs.Vec.{vec_capacity};
 ghost use Rattle.pf_model.specs.Graphs.{node_at, size_of, empty_scene};
 ghost use Rattle.pf_model.specs.Limits.{IsRising, IsGraphWithinLimits};
@@ -11,10 +11,10 @@ ghost use Rattle.pf_model.specs.Merges.{merge_fault, after_all};
 ghost use Rattle.pf_model.specs.Copies.{grave_of, named_by, put_all, updates_of, freed_by, graves_kept};
 ghost use Rattle.pf_history.specs.Objects.{emptied};
 ghost use Rattle.pf_history.specs.Away.{arrays_in_all};
-ghost use Rattle.cycle_buffer.specs.Cycles.{written_at, out_at, most_of};
+ghost use Rattle.cycle_buffer.specs.Cycles.{written_at, out_at, most_of, AreBetween};
 ghost use Rattle.update_lists.specs.Taking.{geode_serials, times_in};
-ghost use Rattle.pf_scene.specs.Counts.{AreTrimmed, ListsFit};
-ghost use Rattle.pf_scene.specs.Stock.{IsStocked, IsOpen};
+ghost use Rattle.pf_scene.specs.Counts.{AreTrimmed, AreAsMany, ListsFit};
+ghost use Rattle.pf_scene.specs.Stock.{IsStocked, IsOpen, makes_geode, was_made, first_fault};
 
 use crate::{burial, stock};
 use async_delete::Graves;
@@ -95,15 +95,16 @@ impl World {
         self.graph.tris()
     }
 
-    /// The greatest number of copies that the cycles told so far.
+    /// The greatest number of copies that the cycles told so far. None has more.
     pub(crate) fn most_copies(&self) -> u32
-        ensures { result ≡ self.now.cycles.most }
+        ensures value { result ≡ self.now.cycles.most }
+        ensures between { AreBetween self.now.cycles }
     {
         self.cycles.most()
     }
 
-    /// Applies an edit after so many frames, or answers its fault.
-    pub(crate) fn edit(&mut self, e: &Edit, frames: u32) -> Result<Option<Fault>, NoMemory>
+    /// Applies an edit after so many frames, or answers its fault, where there is memory.
+    fn try_edit(&mut self, e: &Edit, frames: u32) -> Result<Option<Fault>, NoMemory>
         requires fits { fits e.now ≡ true }
         requires serials { self.old.graph.next_serial < 2 ^ 32 - 1 }
         requires empty { self.old.graph.gone ≡ [] }
@@ -114,6 +115,9 @@ impl World {
         ensures marks { OnOk result (self.new.marks ≡ put_all
             (if is_some (fault_of self.old.graph e.now) then [] else named_by e.now ∷ []) self.old.marks) }
         ensures trimmed { AreTrimmed self.old.graph.next_serial self.old.cycles self.new.cycles }
+        ensures none { OnOk result (was_made (is_some (fault_of self.old.graph e.now)) (makes_geode e.now) ≡ false
+            → (s : ℕ) → self.old.graph.next_serial ≤ s → written_at self.new.cycles s ≡ None) }
+        ensures none_made { OnErr result ((s : ℕ) → self.old.graph.next_serial ≤ s → written_at self.new.cycles s ≡ None) }
         ensures unchanged { OnErr result (self.new ≡ record self.old { cycles = self.new.cycles }) }
         ensures out { OnErr result ((s : ℕ) → out_at self.new.cycles s ≡ out_at self.old.cycles s) }
     {
@@ -145,12 +149,56 @@ impl World {
         }
     }
 
-    /// Applies all edits of a list after so many frames, or answers the first fault with its place, counted from 1.
-    pub(crate) fn merge(
-        &mut self,
-        list: &EditList,
-        frames: u32,
-    ) -> Result<Option<(u32, Fault)>, NoMemory>
+    /// The fault of an edit, or none. It takes no memory, and nothing changes.
+    fn judge(&mut self, e: &Edit) -> Option<Fault>
+        ensures fault { result ≡ fault_of self.old.graph e.now }
+        ensures unchanged { self.new ≡ self.old }
+    {
+        self.graph.judge(e)
+    }
+
+    /// The fault of the first edit, or none. It takes no memory, and nothing changes.
+    fn judge_first(&mut self, edits: &[Edit]) -> Option<Fault>
+        ensures fault { result ≡ first_fault self.old.graph edits.now }
+        ensures unchanged { self.new ≡ self.old }
+    {
+        match edits {
+            [] => None,
+            [e, ..] => self.judge(e),
+        }
+    }
+
+    /// Applies an edit after so many frames, or answers its fault, or where it has none want of memory.
+    pub(crate) fn edit(&mut self, e: &Edit, frames: u32) -> Result<Option<Fault>, NoMemory>
+        requires fits { fits e.now ≡ true }
+        requires serials { self.old.graph.next_serial < 2 ^ 32 - 1 }
+        requires empty { self.old.graph.gone ≡ [] }
+        ensures fault { IfOk result (λ f. f ≡ fault_of self.old.graph e.now) }
+        ensures memory { OnErr result (fault_of self.old.graph e.now ≡ None) }
+        ensures graph { OnOk result (self.new.graph ≡ emptied (after self.old.graph e.now)) }
+        ensures graves { OnOk result (self.new.graves
+            ≡ self.old.graves ++ map (grave_of frames) (after self.old.graph e.now).gone) }
+        ensures marks { OnOk result (self.new.marks ≡ put_all
+            (if is_some (fault_of self.old.graph e.now) then [] else named_by e.now ∷ []) self.old.marks) }
+        ensures trimmed { AreTrimmed self.old.graph.next_serial self.old.cycles self.new.cycles }
+        ensures none { OnOk result (was_made (is_some (fault_of self.old.graph e.now)) (makes_geode e.now) ≡ false
+            → (s : ℕ) → self.old.graph.next_serial ≤ s → written_at self.new.cycles s ≡ None) }
+        ensures none_made { OnErr result ((s : ℕ) → self.old.graph.next_serial ≤ s → written_at self.new.cycles s ≡ None) }
+        ensures unchanged { OnErr result (self.new ≡ record self.old { cycles = self.new.cycles }) }
+        ensures out { OnErr result ((s : ℕ) → out_at self.new.cycles s ≡ out_at self.old.cycles s) }
+    {
+        match self.try_edit(e, frames) {
+            Ok(fault) => Ok(fault),
+            Err(NoMemory) => match self.judge(e) {
+                Some(fault) => Ok(Some(fault)),
+                None => Err(NoMemory),
+            },
+        }
+    }
+
+    /// Applies all edits of a list after so many frames, or answers the first fault with its place, counted from 1, where
+    /// there is memory.
+    fn try_merge(&mut self, list: &EditList, frames: u32) -> Result<Option<(u32, Fault)>, NoMemory>
         requires fits { list_all fits list.now ≡ true }
         requires serials { self.old.graph.next_serial + length list.now < 2 ^ 32 }
         requires empty { self.old.graph.gone ≡ [] }
@@ -161,6 +209,10 @@ impl World {
         ensures marks { OnOk result (self.new.marks ≡ put_all
             (if is_some (merge_fault self.old.graph list.now) then [] else map named_by list.now) self.old.marks) }
         ensures trimmed { AreTrimmed self.old.graph.next_serial self.old.cycles self.new.cycles }
+        ensures none { OnOk result (was_made (is_some (merge_fault self.old.graph list.now))
+            (list_any makes_geode list.now) ≡ false
+            → (s : ℕ) → self.old.graph.next_serial ≤ s → written_at self.new.cycles s ≡ None) }
+        ensures none_made { OnErr result ((s : ℕ) → self.old.graph.next_serial ≤ s → written_at self.new.cycles s ≡ None) }
         ensures unchanged { OnErr result (self.new ≡ record self.old { cycles = self.new.cycles }) }
         ensures out { OnErr result ((s : ℕ) → out_at self.new.cycles s ≡ out_at self.old.cycles s) }
     {
@@ -192,6 +244,40 @@ impl World {
         }
     }
 
+    /// Applies all edits of a list after so many frames, or answers the first fault with its place, counted from 1, or
+    /// where the first edit has none want of memory.
+    pub(crate) fn merge(
+        &mut self,
+        list: &EditList,
+        frames: u32,
+    ) -> Result<Option<(u32, Fault)>, NoMemory>
+        requires fits { list_all fits list.now ≡ true }
+        requires serials { self.old.graph.next_serial + length list.now < 2 ^ 32 }
+        requires empty { self.old.graph.gone ≡ [] }
+        ensures fault { IfOk result (λ f. f ≡ merge_fault self.old.graph list.now) }
+        ensures memory { OnErr result (first_fault self.old.graph list.now ≡ None) }
+        ensures graph { OnOk result (self.new.graph ≡ emptied (after_all self.old.graph list.now)) }
+        ensures graves { OnOk result (self.new.graves
+            ≡ self.old.graves ++ map (grave_of frames) (after_all self.old.graph list.now).gone) }
+        ensures marks { OnOk result (self.new.marks ≡ put_all
+            (if is_some (merge_fault self.old.graph list.now) then [] else map named_by list.now) self.old.marks) }
+        ensures trimmed { AreTrimmed self.old.graph.next_serial self.old.cycles self.new.cycles }
+        ensures none { OnOk result (was_made (is_some (merge_fault self.old.graph list.now))
+            (list_any makes_geode list.now) ≡ false
+            → (s : ℕ) → self.old.graph.next_serial ≤ s → written_at self.new.cycles s ≡ None) }
+        ensures none_made { OnErr result ((s : ℕ) → self.old.graph.next_serial ≤ s → written_at self.new.cycles s ≡ None) }
+        ensures unchanged { OnErr result (self.new ≡ record self.old { cycles = self.new.cycles }) }
+        ensures out { OnErr result ((s : ℕ) → out_at self.new.cycles s ≡ out_at self.old.cycles s) }
+    {
+        match self.try_merge(list, frames) {
+            Ok(fault) => Ok(fault),
+            Err(NoMemory) => match self.judge_first(list.as_slice()) {
+                Some(fault) => Ok(Some((1, fault))),
+                None => Err(NoMemory),
+            },
+        }
+    }
+
     /// Drops the graves that are due once so many frames are retired, appends their serials, and takes back the
     /// triangles that came home. It takes no memory.
     pub(crate) fn sync(&mut self, retired: u32, home: &mut Vec<Updates>, out: &mut SerialsBuilder)
@@ -204,6 +290,7 @@ impl World {
         ensures capacity { vec_capacity home.new ≡ vec_capacity home.old }
         ensures written { (s : ℕ) → written_at self.new.cycles s ≡ written_at self.old.cycles s }
         ensures most { most_of self.new.cycles ≡ most_of self.old.cycles }
+        ensures counts { AreAsMany self.old.cycles self.new.cycles }
         ensures out { (next : ℕ) → ListsFit (written_at self.old.cycles) next home.old.items
             → (s : ℕ) → out_at self.new.cycles s ≡ out_at self.old.cycles s - arrays_in_all s home.old.items }
     {
@@ -225,6 +312,7 @@ impl World {
         ensures none_out { OnErr result ((s : ℕ) → out_at self.new.cycles s ≡ out_at self.old.cycles s) }
         ensures most { (b : ℕ) → most_of self.old.cycles ≤ b → ((s : ℕ) → out_at self.old.cycles s < b)
             → most_of self.new.cycles ≤ b }
+        ensures begins { self.new.cycles.copies ≡ self.old.cycles.copies }
     {
         self.graph.keeps_limits();
         self.dirty.cut(&self.graph, &mut self.cycles)
@@ -256,6 +344,7 @@ fn follow(
     ensures graph { graph.new ≡ emptied graph.old }
     ensures graves { graves.new.graves ≡ graves.old.graves ++ map (grave_of frames) graph.old.gone }
     ensures stocked { IsStocked (written_at cycles.new) graph.new }
+    ensures none { (s : ℕ) → written_at cycles.old s ≡ None → written_at cycles.new s ≡ None }
     ensures trimmed { (next : ℕ) → AreTrimmed next cycles.old cycles.new }
 {
     stock::settle(cycles, graph, edits);

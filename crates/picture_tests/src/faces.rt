@@ -1,120 +1,77 @@
-//! Triangles made ready for the pixels of small pictures.
+//! Triangles made ready for the pixels of small pictures, and stepped along a row.
 use fx_math::{Lens, MAX_COORDINATE, Vec3};
 use pf_model::Tri;
 use std::test::Fail;
-use tri_cover::{Face, Ready, face_of};
+use tri_cover::{Hit, Ready, Stepper, face_of};
 
-fn point(x: i32, y: i32, z: i32) -> Result<Vec3, Fail> {
-    Ok(Vec3::new(x, y, z).ok_or("a coordinate out of range")?)
+/// A triangle that is red, green and blue at these corners.
+fn tri(corners: [[i32; 3]; 3]) -> Option<Tri> {
+    let [[a, b, c], [d, e, f], [g, h, i]] = corners;
+    Some(Tri {
+        v: [
+            Vec3::new(a, b, c)?,
+            Vec3::new(d, e, f)?,
+            Vec3::new(g, h, i)?,
+        ],
+        c: [[255, 0, 0], [0, 255, 0], [0, 0, 255]],
+    })
 }
 
-fn lens(w: u16, h: u16) -> Result<Lens, Fail> {
-    Ok(Lens::new(w, h, 1, 1, MAX_COORDINATE).ok_or("a lens out of range")?)
-}
-
-/// The face of a triangle, where it has one.
-fn ready_face(tri: &Tri, lens: &Lens) -> Option<Face> {
-    match face_of(tri, lens) {
-        Ready::Face(found) => Some(found),
-        _ => None,
-    }
-}
-
-fn red(u: Vec3, v: Vec3, w: Vec3) -> Tri {
-    Tri {
-        v: [u, v, w],
-        c: [[255, 0, 0]; 3],
-    }
-}
-
-/// A triangle at depth 4096 that covers the whole picture; the determinant of its vertices is below 0.
-fn facing() -> Result<Tri, Fail> {
-    Ok(red(
-        point(-40960, 4096, -40960)?,
-        point(40960, 4096, -40960)?,
-        point(0, 4096, 81920)?,
+/// The columns and the rows that a triangle is ready for, and how near it comes.
+fn readied(corners: [[i32; 3]; 3], w: u16, h: u16) -> Option<([u16; 4], i32)> {
+    let lens = Lens::new(w, h, 1, 1, MAX_COORDINATE)?;
+    let Ready::Face(face) = face_of(&tri(corners)?, &lens) else {
+        return None;
+    };
+    let (columns, rows) = (face.extent.columns, face.extent.rows);
+    Some((
+        [columns.first, columns.last, rows.first, rows.last],
+        face.nearest,
     ))
 }
 
 #[test]
-fn readies_a_negative_determinant(rt: HostRuntime) -> Result<(), Fail> {
-    let found = ready_face(&facing()?, &lens(2, 2)?).ok_or("no face")?;
-    assert_eq!(rt; found.dividend, 82_463_372_083_200);
-    assert_eq!(rt; found.edges.sum.at(0, 0), 20_132_659_200);
-    assert_eq!(rt; found.edges.sum.at(1, 1), 20_132_659_200);
-    assert_eq!(rt; found.nearest, 4096);
-    Ok(())
+fn readies_triangles(rt: HostRuntime) {
+    let covering = [
+        [-40_960, 4_096, -40_960],
+        [40_960, 4_096, -40_960],
+        [0, 4_096, 81_920],
+    ];
+    let small = [[0, 4_096, 0], [4_096, 4_096, 0], [0, 4_096, 4_096]];
+    let across = [
+        [4_096, -4_096, 0],
+        [4_096, 12_288, -8_192],
+        [4_096, 12_288, 8_192],
+    ];
+    let edge_on = [[0, 4_096, 0], [0, 8_192, 0], [0, 4_096, 4_096]];
+    let behind = [[0, -4_096, 0], [4_096, -4_096, 0], [0, -4_096, 4_096]];
+    for (corners, w, h, want) in [
+        (covering, 2, 2, Some(([0, 1, 0, 1], 4_096))),
+        (small, 8, 8, Some(([3, 4, 2, 3], 4_096))),
+        (across, 3, 1, Some(([0, 2, 0, 0], -4_096))),
+        (edge_on, 2, 2, None),
+        (behind, 2, 2, None),
+    ] {
+        assert_eq!(rt; readied(corners, w, h), want, "{corners:?}");
+    }
 }
 
 #[test]
-fn readies_the_other_side(rt: HostRuntime) -> Result<(), Fail> {
-    let [u, v, w] = facing()?.v;
-    let found = ready_face(&red(u, w, v), &lens(2, 2)?).ok_or("no face")?;
-    assert_eq!(rt; found.dividend, 82_463_372_083_200);
-    assert_eq!(rt; found.edges.sum.at(1, 0), 20_132_659_200);
-    Ok(())
-}
-
-#[test]
-fn bounds_a_small_triangle(rt: HostRuntime) -> Result<(), Fail> {
-    let tri = red(
-        point(0, 4096, 0)?,
-        point(4096, 4096, 0)?,
-        point(0, 4096, 4096)?,
-    );
-    let found = ready_face(&tri, &lens(8, 8)?).ok_or("no face")?;
-    let extent = found.extent;
-    assert_eq!(rt; (extent.columns.first, extent.columns.last), (3, 4));
-    assert_eq!(rt; (extent.rows.first, extent.rows.last), (2, 3));
-    assert_eq!(rt; (extent.near, extent.far), (0, u32::MAX));
-    Ok(())
-}
-
-#[test]
-fn readies_across_the_near_plane(rt: HostRuntime) -> Result<(), Fail> {
-    let tri = red(
-        point(4096, -4096, 0)?,
-        point(4096, 12288, -8192)?,
-        point(4096, 12288, 8192)?,
-    );
-    let found = ready_face(&tri, &lens(3, 1)?).ok_or("no face")?;
-    let extent = found.extent;
-    assert_eq!(rt; (extent.columns.first, extent.columns.last), (0, 2));
-    assert_eq!(rt; (extent.near, extent.far), (1, 1_073_741_823));
-    assert_eq!(rt; found.nearest, -4096);
-    Ok(())
-}
-
-#[test]
-fn is_slow_at_clamped_coordinates(rt: HostRuntime) -> Result<(), Fail> {
-    let most = MAX_COORDINATE;
-    let tri = red(
-        point(-most, most, -most)?,
-        point(most, most, -most)?,
-        point(0, most, most)?,
-    );
-    assert_eq!(rt; face_of(&tri, &lens(2, 2)?), Ready::Slow);
-    Ok(())
-}
-
-#[test]
-fn readies_no_edge(rt: HostRuntime) -> Result<(), Fail> {
-    let tri = red(
-        point(0, 4096, 0)?,
-        point(0, 8192, 0)?,
-        point(0, 4096, 4096)?,
-    );
-    assert_eq!(rt; face_of(&tri, &lens(2, 2)?), Ready::Nothing);
-    Ok(())
-}
-
-#[test]
-fn readies_nothing_behind_the_eye(rt: HostRuntime) -> Result<(), Fail> {
-    let tri = red(
-        point(0, -4096, 0)?,
-        point(4096, -4096, 0)?,
-        point(0, -4096, 4096)?,
-    );
-    assert_eq!(rt; face_of(&tri, &lens(2, 2)?), Ready::Nothing);
+fn steps_along_a_row(rt: HostRuntime) -> Result<(), Fail> {
+    let lens = Lens::new(3, 1, 1, 1, MAX_COORDINATE).ok_or("a lens out of range")?;
+    let shaded = tri([
+        [4_096, -4_096, 0],
+        [4_096, 12_288, -8_192],
+        [4_096, 12_288, 8_192],
+    ]);
+    assert_eq!(rt; (lens.w, lens.h), (3, 1));
+    let mut stepper = Stepper::start(&shaded.ok_or("a coordinate out of range")?, 0, &lens);
+    assert_eq!(rt; stepper.here(), None);
+    stepper.right();
+    assert_eq!(rt; stepper.here(), None);
+    stepper.right();
+    let depth = 4_096;
+    let colour = [127, 63, 63];
+    assert_eq!(rt; stepper.here(), Some(Hit { depth, colour }));
     Ok(())
 }

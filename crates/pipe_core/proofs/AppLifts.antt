@@ -1,7 +1,7 @@
 -- The poll of APP keeps what the pipe keeps.
-use Rattle.std.proofs.Common.{◌≡◌, ◌⊎◌, ℕ, zero, suc, ◌+◌, ◌<◌, ◌≤◌, ◌==◌, Bool, true, false, cond, ◌&&◌, ◌||◌, List, [], ◌∷◌, ◌++◌, map, drop, length, is_some, slice_get, Option, Some, None, Result, Ok, Err, inl, inr, refl, sym, ap, ◌∙◌, subst, arith, eq-eqb}
+use Rattle.std.proofs.Common.{◌≡◌, ◌⊎◌, ℕ, zero, suc, ◌+◌, ◌<◌, ◌≤◌, ◌==◌, Bool, true, false, cond, ◌&&◌, ◌||◌, List, [], ◌∷◌, ◌++◌, map, drop, length, is_some, slice_get, Option, Some, None, Result, Ok, Err, inl, inr, refl, sym, ap, ◌∙◌, subst, append_assoc, arith}
 use Rattle.std.proofs.lemmas.Bool.{and_from, or_parts}
-use Rattle.std.proofs.lemmas.List.{append-nil, length-append, length_push, nil_from_length}
+use Rattle.std.proofs.lemmas.List.{append-nil, append_cancel_left, length-append, length_push, nil_from_length}
 use Rattle.std.proofs.lemmas.Option.{same_Some}
 use Rattle.std.specs.Option.{option_map, MatchOption}
 use Rattle.std.specs.List.{AllByRecursion}
@@ -27,42 +27,49 @@ use Rattle.pf_scene.specs.Acts.{MayEdit, MayView, MaySync, MayFrame}
 use Rattle.stage_parts.specs.declared.packets.Packet.{Packet}
 use Rattle.stage_parts.specs.Loads.{Each}
 use Rattle.stage_parts.specs.Packets.{bytes_in, LinkPart}
+use Rattle.stage_parts.specs.Frames.{RetiresJust}
 use Rattle.stage_parts.specs.Pictures.{streamed}
 use Rattle.stage_parts.specs.States.{AppState}
 use Rattle.stage_parts.specs.Parts.{AppKeeps, DbaseKeeps}
 use Rattle.stage_parts.proofs.Gathering.{gathering_law}
 use Rattle.stage_parts.proofs.DbaseSteps.{dbase_law}
-use Rattle.stage_parts.proofs.Places.{each_all}
-use Rattle.frame_stages.specs.declared.answers.Did.{Did}
-use Rattle.frame_stages.specs.declared.answers.Did.TheVariants as did
-use Rattle.frame_stages.specs.declared.answers.StageError.{StageError}
-use Rattle.frame_stages.specs.declared.answers.StageError.TheVariants as error
-use Rattle.frame_stages.specs.Answers.{is_over}
+use Rattle.stage_parts.proofs.Numbers.{own_by_number}
+use Rattle.stage_parts.specs.declared.answers.Did.{Did}
+use Rattle.stage_parts.specs.declared.answers.Did.TheVariants as did
+use Rattle.stage_parts.specs.declared.answers.StageError.{StageError}
+use Rattle.stage_parts.specs.declared.answers.StageError.TheVariants as error
+use Rattle.stage_parts.specs.Answers.{is_over}
 use Rattle.frame_stages.specs.Flights.{SinkSide}
 use Rattle.frame_stages.specs.Scripts.{next_step}
+use Rattle.frame_stages.specs.Looks.{FoundMark}
 use Rattle.frame_stages.specs.AppTurns.{Tells, IsMarked}
-use Rattle.frame_stages.specs.AppWorks.{AppWork, AreOwnFrames, is_done, merges_in}
+use Rattle.frame_stages.specs.AppWorks.{AppWork, is_done, merges_in}
 use Rattle.frame_stages.specs.AppAnswers as stage
-use Rattle.frame_stages.specs.AppAnswers.{Around, around, AppAdds, AppAnswers, Polled, FoundMark, IsLonger}
+use Rattle.frame_stages.specs.AppAnswers.{Around, around, AppAdds, AppAnswers, Polled, IsLonger}
 use Rattle.frame_stages.specs.DbaseWorks.{dbase_state}
 use Rattle.pipe_core.specs.declared.events.Event.TheVariants as event
-use Rattle.pipe_core.specs.Cores.{CoreState, CanRun, CoreFits, setup_of, one_seat}
-use Rattle.pipe_core.specs.Waits.{SyncWaits, FrameWaits, CloseWaits, StepWaits, Waits, IsFull, IsOver, shared_of}
+use Rattle.pipe_plays.specs.Plays.{CanRun, setup_of}
+use Rattle.pipe_core.specs.Cores.{CoreState, CoreFits, one_seat}
+use Rattle.pipe_core.specs.Waits.{SyncMustWait, FrameMustWait, CloseMustWait, StepMustWait, MustWait, IsLineFull, IsOver, shared_of}
 use Rattle.stage_parts.specs.Moves.{moved}
-use Rattle.pipe_core.specs.Pipes.{PipeWork, core_of, PipeKeeps, Answers, AddsAtMostOne, IsWritten, AppLifted}
+use Rattle.pipe_core.specs.Pipes.{PipeWork, core_of, PipeKeeps, Answers, polled_caller, AddsAtMostOne, IsWritten, AppLifted}
 use Rattle.pipe_core.proofs.Sides.{never_both}
-use Rattle.pipe_core.proofs.Lifting.{opened, not_over}
+use Rattle.pipe_core.proofs.Lifting.{opened, not_over, found_mark}
 use Rattle.pipe_core.proofs.BaseLifts.{grown_entries}
 use Rattle.pipe_core.proofs.CameBack.{brings_home}
 
 -- The log
+
+-- nothing was added, or one entry of the application
+abbrev AddsOne : Log → Log → Type 0
+AddsOne before after = (after ≡ before) ⊎ ((entry : Entry) × (polled_caller event.App ≡ Some entry.caller) × (after ≡ before ++ (0, entry) ∷ []))
 
 -- What the scene has become: its log has one more entry of the application at most, and the stop mark stays where it was
 -- set.
 record Grown (old new : SceneState) : Type 0 where
   more : Log
   is : new.shared.log ≡ old.shared.log ++ more
-  adds : AddsAtMostOne event.App old.shared.log new.shared.log
+  adds : AddsOne old.shared.log new.shared.log
   dbase : AllByRecursion (λ e. is_at 0 Dbase e ≡ false) more
   zeros : AllByRecursion (λ e. e.0 ≡ 0) more
   stops : old.shared.stopped ≡ true → new.shared.stopped ≡ true
@@ -150,21 +157,37 @@ scene_grows p w scene sent taken sink sink' (Ok did.Over) answer = still p.scene
 scene_grows p w scene sent taken sink sink' (Err error.FrameFault) answer = marked_scene p.scene scene (told_left IsMarked p.scene scene answer.told)
 scene_grows p w scene sent taken sink sink' (Err error.NoMemory) answer = marked_scene p.scene scene (told_left IsMarked p.scene scene answer.told)
 
--- Own Frames
+-- What is added
 
-by_app : (caller : Caller) (c : Command) → caller ≡ caller_of c → is_frame c ≡ true → is_caller App caller ≡ true
-by_app caller (command.Edit e) same is = absurd (cc)
-by_app caller (command.Merge m) same is = absurd (cc)
-by_app caller (command.View channel v) same is = absurd (cc)
-by_app caller (command.Sync r) same is = absurd (cc)
-by_app caller command.Frame same is = ap (is_caller App) same
+abbrev first_or : Entry → Log → Entry
+first_or other [] = other
+first_or other (x ∷ xs) = x.1
 
-own_frames : (s : FrameState) (log : Log) → IsLegalFrom s log → AllByRecursion (λ e. is_by App e ≡ true → e.0 ≡ 0) log → AreOwnFrames 0 log
-own_frames s [] legal zeros = tt
-own_frames s (e ∷ es) legal zeros = (
-  λ is. let app = by_app e.1.caller e.1.command legal.0.caller is in and_from (e.0 == 0) (is_by App e) (eq-eqb e.0 0 (zeros.0 app)) app,
-  own_frames (next_state s e.1.command) es legal.1 zeros.1,
-)
+-- one entry alone is the last of those that it ends
+last_alone : (rest : Log) (entry e : Entry) → (0, entry) ∷ [] ≡ rest ++ (0, e) ∷ [] → entry ≡ e
+last_alone [] entry e same = ap (first_or entry) same
+last_alone (x ∷ xs) entry e same = let l : 1 ≡ suc (length (xs ++ (0, e) ∷ [])) = ap length same in absurd (omega (arith, l, length_push xs (0, e)))
+
+-- the entry that was added retires just the frames that are written, where it is a Sync
+just_retires : (written : ℕ) (seen seen' : Log) → AppAdds 0 written seen seen' → AddsOne seen seen' →
+    AddsAtMostOne event.App written seen seen'
+just_retires written seen seen' adds (inl same) = inl same
+just_retires written seen seen' adds (inr (entry, caller, is)) = inr (entry, caller, by adds.adds, is)
+  where
+    rest : Log
+    rest = adds.goes_on.0
+
+    by : (seen' ≡ adds.found) ⊎ ((e : Entry) × (e.caller ≡ App) × RetiresJust written e.command × (seen' ≡ adds.found ++ (0, e) ∷ [])) →
+        RetiresJust written entry.command
+    by (inl same) =
+        let alone : (0, entry) ∷ [] ≡ rest = append_cancel_left seen ((0, entry) ∷ []) rest (sym is ∙ same ∙ adds.goes_on.1) in
+        let none : entry ∷ [] ≡ [] = ap (of 0) alone ∙ adds.goes_on.2 in
+        absurd (cc)
+    by (inr (e, app, retires, longer)) =
+        let alone : (0, entry) ∷ [] ≡ rest ++ (0, e) ∷ [] =
+        append_cancel_left seen ((0, entry) ∷ []) (rest ++ (0, e) ∷ [])
+        (sym is ∙ longer ∙ ap (λ (l : Log). l ++ (0, e) ∷ []) adds.goes_on.1 ∙ append_assoc seen rest ((0, e) ∷ [])) in
+        subst (λ (x : Entry). RetiresJust written x.command) (sym (last_alone rest entry e alone)) retires
 
 -- What is kept
 
@@ -180,7 +203,7 @@ applied p w scene sent taken =
 
 record AppKept (play : Script) (ahead : ℕ) (p q : PipeWork) (bytes bytes' : Option (List ℕ)) : Type 0 where
   keeps : PipeKeeps play ahead q
-  adds : AddsAtMostOne event.App p.scene.shared.log q.scene.shared.log
+  adds : AddsAtMostOne event.App q.app.state.written p.scene.shared.log q.scene.shared.log
   wrote : IsWritten bytes bytes' (core_of play p) (core_of play q)
 
 app_kept : (play : Script) (ahead : ℕ) (p : PipeWork) (w : AppWork) (scene : SceneState) (sent taken : List Packet) (sink sink' : SinkSide) (result : Result Did StageError) →
@@ -194,8 +217,7 @@ app_kept play ahead p w scene sent taken sink sink' result keeps legal link_a li
     let log = p.scene.shared.log in
     let app_entries = grown_entries App log scene.shared.log grown.more grown.is old.app_entries grown.zeros in
     let own =
-    own_frames (opening_state play.channels) scene.shared.log legal
-    (each_all (λ (e : ℕ × Entry). is_by App e ≡ true → e.0 ≡ 0) scene.shared.log app_entries) in
+    own_by_number 0 (opening_state play.channels) scene.shared.log legal app_entries in
     let given = polled.given g keeps.stages.app in
     let on = polled.part g (core_of play p).pipe.stream keeps.stages.app own old.app in
     let stream = on.keeps.streams.bytes in
@@ -244,14 +266,11 @@ app_kept play ahead p w scene sent taken sink sink' result keeps legal link_a li
         home = polled.home g (core_of play p).pipe.stream keeps.stages.app own old.app keeps.home;
         copies = polled.counted keeps.copies (λ whole. brings_home play ahead p keeps whole);
       };
-      adds = grown.adds;
+      adds = just_retires w.state.written log scene.shared.log polled.adds grown.adds;
       wrote = record { more = on.more; stream = sym stream; wrote = on.wrote };
     }
 
 -- Over
-
-found_mark : (log : Log) (scene : SceneState) (over : Bool) → FoundMark 0 log (Some scene) over → over ≡ scene.shared.stopped
-found_mark log scene over found = found.1.2 ∙ ap (λ (x : SceneState). x.shared.stopped) (sym found.1.4)
 
 app_over : (play : Script) (p : PipeWork) (result : Result Did StageError) → (is_done p.app.state ≡ true → result ≡ Ok did.Over) →
     (is_done p.app.state ≡ false → is_over result ≡ p.scene.shared.stopped) → IsOver play event.App (core_of play p) → is_over result ≡ true
@@ -282,7 +301,7 @@ next_is (l ∷ lines) zero = refl
 next_is (l ∷ lines) (suc n) = next_is lines n
 
 sync_waits : (play : Script) (ahead : ℕ) (p : PipeWork) (sink : SinkSide) → 1 ≤ ahead → PipeKeeps play ahead p →
-    stage.SyncWaits p.app (Some p.scene) (before_poll p sink).ends → SyncWaits (shared_of play ahead (core_of play p)) (core_of play p).pipe
+    stage.SyncWaits p.app (Some p.scene) (before_poll p sink).ends → SyncMustWait (shared_of play ahead (core_of play p)) (core_of play p).pipe
 sync_waits play ahead p sink some keeps (inl (dry, behind)) =
     let same = keeps.stages.app.ahead in
     inl (dry (omega (arith, behind, same, some)), omega (arith, behind, same))
@@ -297,7 +316,7 @@ sync_waits play ahead p sink some keeps (inr bars) =
     }))
 
 frame_waits : (play : Script) (ahead : ℕ) (p : PipeWork) (sink : SinkSide) → 1 ≤ ahead → PipeKeeps play ahead p → (synced : Bool) →
-    stage.FrameWaits synced p.app (Some p.scene) (before_poll p sink).ends → FrameWaits synced (shared_of play ahead (core_of play p)) (core_of play p).pipe
+    stage.FrameWaits synced p.app (Some p.scene) (before_poll p sink).ends → FrameMustWait synced (shared_of play ahead (core_of play p)) (core_of play p).pipe
 frame_waits play ahead p sink some keeps false waits = sync_waits play ahead p sink some keeps waits
 frame_waits play ahead p sink some keeps true waits =
     λ may.
@@ -316,7 +335,7 @@ frame_waits play ahead p sink some keeps true waits =
 step_waits : (play : Script) (ahead : ℕ) (p : PipeWork) (sink : SinkSide) (seen' : Log) → 1 ≤ ahead → PipeKeeps play ahead p →
     merges_in seen' ≡ (state_of play.channels p.scene.shared.log).merges → (step : Option AppStep) →
     stage.StepWaits step p.app (Some p.scene) (before_poll p sink).ends seen' →
-    StepWaits (length (asked_dbase play.dbase)) (shared_of play ahead (core_of play p)) (core_of play p).pipe step
+    StepMustWait (length (asked_dbase play.dbase)) (shared_of play ahead (core_of play p)) (core_of play p).pipe step
 step_waits play ahead p sink seen' some keeps counts (Some (app.Edit e)) waits = λ may. waits (record { fit = may.fit; light = may.light })
 step_waits play ahead p sink seen' some keeps counts (Some (app.View channel v)) waits =
     λ may. waits (record { there = subst (λ (n : ℕ). channel < n) (sym keeps.stages.channels) may.there; light = may.light })
@@ -329,20 +348,20 @@ step_waits play ahead p sink seen' some keeps counts None (inr (inl few)) =
     inl (omega (arith, few, counts, merges))
 step_waits play ahead p sink seen' some keeps counts None (inr (inr waits)) = by (sync_waits play ahead p sink some keeps waits)
   where
-    by : SyncWaits (shared_of play ahead (core_of play p)) (core_of play p).pipe →
-        CloseWaits (length (asked_dbase play.dbase)) (shared_of play ahead (core_of play p)) (core_of play p).pipe
+    by : SyncMustWait (shared_of play ahead (core_of play p)) (core_of play p).pipe →
+        CloseMustWait (length (asked_dbase play.dbase)) (shared_of play ahead (core_of play p)) (core_of play p).pipe
     by (inl (dry, behind)) = inr (inl (dry, omega (arith, behind, some)))
     by (inr barred) = inr (inr barred)
 
 app_waits : (play : Script) (ahead : ℕ) (p : PipeWork) (sink : SinkSide) (seen' : Log) → 1 ≤ ahead → PipeKeeps play ahead p →
-    seen' ≡ p.scene.shared.log → stage.AppWaits p.app (Some p.scene) (before_poll p sink).ends seen' → Waits play ahead event.App (core_of play p)
+    seen' ≡ p.scene.shared.log → stage.AppWaits p.app (Some p.scene) (before_poll p sink).ends seen' → MustWait play ahead event.App (core_of play p)
 app_waits play ahead p sink seen' some keeps seen waits = by p.app.state.held waits
   where
     counts : merges_in seen' ≡ (state_of play.channels p.scene.shared.log).merges
     counts = ap merges_in seen ∙ sym (counts_law play.channels p.scene.shared.log).merges
 
     Step : Type 0
-    Step = StepWaits (length (asked_dbase play.dbase)) (shared_of play ahead (core_of play p)) (core_of play p).pipe
+    Step = StepMustWait (length (asked_dbase play.dbase)) (shared_of play ahead (core_of play p)) (core_of play p).pipe
         (option_map (λ (l : AppLine). l.step) (slice_get play.app p.app.state.at))
 
     step : (merges_in seen' < p.app.state.need) ⊎ stage.StepWaits (next_step p.app.rest) p.app (Some p.scene) (before_poll p sink).ends seen' → Step
@@ -354,7 +373,7 @@ app_waits play ahead p sink seen' some keeps seen waits = by p.app.state.held wa
 
     by : (held : Option Packet) →
         MatchOption held ((merges_in seen' < p.app.state.need) ⊎ stage.StepWaits (next_step p.app.rest) p.app (Some p.scene) (before_poll p sink).ends seen')
-        (λ _. length p.a.line.taken + p.a.room ≤ length p.a.line.sent) → MatchOption held Step (λ _. IsFull ahead p.a.line)
+        (λ _. length p.a.line.taken + p.a.room ≤ length p.a.line.sent) → MatchOption held Step (λ _. IsLineFull ahead p.a.line)
     by None waits = step waits
     by (Some packet) waits = let room = keeps.room.a in omega (arith, waits, room)
 

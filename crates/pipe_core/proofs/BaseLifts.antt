@@ -30,21 +30,22 @@ use Rattle.stage_parts.proofs.Gathering.{gathering_law}
 use Rattle.stage_parts.proofs.AppSteps.{app_law}
 use Rattle.stage_parts.proofs.SeatSteps.{seat_frames_law}
 use Rattle.stage_parts.proofs.Places.{each_all}
-use Rattle.frame_stages.specs.declared.answers.Did.{Did}
-use Rattle.frame_stages.specs.declared.answers.Did.TheVariants as did
-use Rattle.frame_stages.specs.declared.answers.StageError.{StageError}
-use Rattle.frame_stages.specs.declared.answers.StageError.TheVariants as error
+use Rattle.stage_parts.specs.declared.answers.Did.{Did}
+use Rattle.stage_parts.specs.declared.answers.Did.TheVariants as did
+use Rattle.stage_parts.specs.declared.answers.StageError.{StageError}
+use Rattle.stage_parts.specs.declared.answers.StageError.TheVariants as error
 use Rattle.frame_stages.specs.declared.in_hand.InHand.{InHand}
 use Rattle.frame_stages.specs.declared.in_hand.InHand.TheVariants as hand
-use Rattle.frame_stages.specs.Answers.{is_over}
+use Rattle.stage_parts.specs.Answers.{is_over}
 use Rattle.frame_stages.specs.AppWorks.{AppWork}
 use Rattle.frame_stages.specs.Copies.{HasHome}
 use Rattle.frame_stages.specs.DbaseWorks.{DbaseWork, StandsIn, DbaseHolds, HoldsBuffer, is_ended, buffer_at}
 use Rattle.frame_stages.specs.DbaseAnswers.{Known, HasToWaitBefore, HasToWait, AddsNone, EntersMerge, DoesAt, Passes, IsDbaseAnswer}
 use Rattle.pipe_core.specs.declared.events.Event.TheVariants as event
-use Rattle.pipe_core.specs.Cores.{CoreState, CoreFits, setup_of, one_seat}
-use Rattle.pipe_core.specs.Waits.{BaseStepWaits, Waits, IsOver, shared_of}
-use Rattle.pipe_core.specs.Runs.{Moves}
+use Rattle.pipe_plays.specs.Plays.{setup_of}
+use Rattle.pipe_core.specs.Cores.{CoreState, CoreFits, one_seat}
+use Rattle.pipe_core.specs.Waits.{BaseStepMustWait, MustWait, IsOver, shared_of}
+use Rattle.pipe_core.specs.Runs.{HasMoved}
 use Rattle.pipe_core.specs.Pipes.{PipeWork, core_of, PipeKeeps, Answers, AddsAtMostOne, Lifted}
 use Rattle.pipe_core.proofs.Lifting.{opened, not_over}
 
@@ -187,14 +188,14 @@ base_is_over play ahead p result keeps looked over = by (is_ended p.dbase.rest) 
 -- Waiting
 
 base_waits : (play : Script) (ahead : ℕ) (p : PipeWork) → PipeKeeps play ahead p → p.dbase.failed ≡ false →
-    HasToWait p.dbase.rest p.dbase.hand p.scene.shared.log → Waits play ahead event.Dbase (core_of play p)
+    HasToWait p.dbase.rest p.dbase.hand p.scene.shared.log → MustWait play ahead event.Dbase (core_of play p)
 base_waits play ahead p keeps runs waits = by p.dbase.rest refl waits
   where
     stands : StandsIn play.dbase p.dbase
     stands = keeps.dbase.stands runs
 
     at_step : (step : BaseStep) (held : InHand) → HoldsBuffer held (buffer_at play.dbase p.dbase.at) → HasToWaitBefore step held p.scene.shared.log →
-        BaseStepWaits (shared_of play ahead (core_of play p)) (core_of play p).pipe (Some step)
+        BaseStepMustWait (shared_of play ahead (core_of play p)) (core_of play p).pipe (Some step)
     at_step (base.Await n) held buffer waits = waits play.channels
     at_step base.Merge (hand.Merge m) buffer waits =
         λ may.
@@ -203,11 +204,11 @@ base_waits play ahead p keeps runs waits = by p.dbase.rest refl waits
         omega (arith, waits, same, may.light)
     at_step _ held buffer waits = absurd waits
 
-    by : (rest : List BaseLine) → p.dbase.rest ≡ rest → HasToWait rest p.dbase.hand p.scene.shared.log → Waits play ahead event.Dbase (core_of play p)
+    by : (rest : List BaseLine) → p.dbase.rest ≡ rest → HasToWait rest p.dbase.hand p.scene.shared.log → MustWait play ahead event.Dbase (core_of play p)
     by [] is waits = absurd waits
     by (l ∷ ls) is waits =
         let there = get_drop play.dbase p.dbase.at l ls (stands.rest ∙ is) in
-        subst (λ (o : Option BaseLine). BaseStepWaits (shared_of play ahead (core_of play p)) (core_of play p).pipe (option_map (λ (x : BaseLine). x.step) o)) (sym there)
+        subst (λ (o : Option BaseLine). BaseStepMustWait (shared_of play ahead (core_of play p)) (core_of play p).pipe (option_map (λ (x : BaseLine). x.step) o)) (sym there)
         (at_step l.step p.dbase.hand stands.hand waits)
 
 -- What it did
@@ -224,7 +225,7 @@ merge_grows channels before after m is =
 -- What the scene has become: it is as it was, or it has one more merge.
 record Stepped (old new : SceneState) : Type 0 where
   grows : GrowsBeside old.shared.log new.shared.log
-  adds : AddsAtMostOne event.Dbase old.shared.log new.shared.log
+  adds : (written : ℕ) → AddsAtMostOne event.Dbase written old.shared.log new.shared.log
   longer : length old.shared.log ≤ length new.shared.log
   stopped : new.shared.stopped ≡ old.shared.stopped
   ahead : new.shared.ahead ≡ old.shared.ahead
@@ -234,7 +235,7 @@ stays_put : (old new : SceneState) → new ≡ old → Stepped old new
 stays_put old new same =
     record {
       grows = no_growth old.shared.log new.shared.log (ap (λ (x : SceneState). x.shared.log) same);
-      adds = inl (ap (λ (x : SceneState). x.shared.log) same);
+      adds = λ written. inl (ap (λ (x : SceneState). x.shared.log) same);
       longer = let long = ap (λ (x : SceneState). length x.shared.log) same in omega (arith, long);
       stopped = ap (λ (x : SceneState). x.shared.stopped) same;
       ahead = ap (λ (x : SceneState). x.shared.ahead) same;
@@ -258,7 +259,7 @@ merged old new m enters =
     let one = length_push old.shared.log (own_entry old.shared.channels old.shared.log 0 (command.Merge m)) in
     record {
       grows = merge_grows old.shared.channels old.shared.log new.shared.log m log;
-      adds = inr ((own_entry old.shared.channels old.shared.log 0 (command.Merge m)).1, refl, log);
+      adds = λ written. inr ((own_entry old.shared.channels old.shared.log 0 (command.Merge m)).1, refl, tt, log);
       longer = omega (arith, long, one);
       stopped = ap (λ (x : Shared). x.stopped) shared;
       ahead = ap (λ (x : Shared). x.ahead) shared;
@@ -284,7 +285,7 @@ base_passes play ahead p d scene keeps legal holds l passes does alive copies =
     record {
       keeps = base_keeps play ahead p d scene keeps legal step.grows holds (omega (arith, within, passes.at)) (λ set. step.stopped ∙ set)
           step.ahead step.channels (λ fails. absurd (let clash : true ≡ false = sym fails ∙ passes.runs in cc)) copies;
-      adds = step.adds;
+      adds = step.adds p.app.state.written;
       answer = record { alive = alive; moves = omega (arith, step.longer, passes.at); mark = step.stopped };
     }
 

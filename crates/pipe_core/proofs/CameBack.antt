@@ -20,13 +20,14 @@ use Rattle.stage_parts.specs.Loads.{LoadState}
 use Rattle.stage_parts.specs.Packets.{has_end, loads_in, updates_in}
 use Rattle.stage_parts.specs.Frames.{frames_of, cut_of_frame, last_sync}
 use Rattle.stage_parts.specs.States.{Setup, Seats, PipeState}
-use Rattle.stage_parts.specs.Parts.{passed, cut_short, Carried, carried, passed_on, Kept, kept}
+use Rattle.stage_parts.specs.Parts.{sent_and_held, cut_short, Carried, carried, passed_on, Kept, kept}
 use Rattle.stage_parts.specs.Pipes.{PipeFits}
 use Rattle.stage_parts.proofs.Places.{front_of, get_take, get_map, get_mapped, map_map, each_all}
 use Rattle.stage_parts.proofs.Sent.{sent_load, no_end_taken, many_loads}
 use Rattle.stage_parts.proofs.Founds.{frames_are_all}
 use Rattle.stage_parts.proofs.Streams.{last_is_retired}
-use Rattle.pipe_core.specs.Cores.{setup_of, one_seat}
+use Rattle.pipe_plays.specs.Plays.{setup_of}
+use Rattle.pipe_core.specs.Cores.{one_seat}
 use Rattle.pipe_core.specs.Pipes.{PipeWork, core_of, PipeKeeps}
 
 -- Lists
@@ -73,28 +74,28 @@ replaced_front (suc n) nodes (us ∷ lists) =
 
 -- the update lists that APP sent or holds are those of the history's Frames
 sent_lists : (g : Setup) (dbase : List BaseLine) (seats : Seats) (s : PipeState) → PipeFits g dbase seats s →
-    updates_in (loads_in (passed s.a.sent s.app.held)) ≡ cuts_of g.channels s.log
+    updates_in (loads_in (sent_and_held s.a.sent s.app.held)) ≡ cuts_of g.channels s.log
 sent_lists g dbase seats s fits =
     let frames = cuttings [] (opening_state g.channels) s.log in
     let all : frames_of g.channels seats.app s.log ≡ frames =
     frames_are_all seats.app [] (opening_state g.channels) s.log fits.history.legal
     (each_all (λ (e : ℕ × Entry). is_by App e ≡ true → e.0 ≡ seats.app) s.log fits.history.app_entries) in
-    sym (map_map (λ (l : LoadState). l.cut) (λ (c : Cut). c.updates) (loads_in (passed s.a.sent s.app.held)))
+    sym (map_map (λ (l : LoadState). l.cut) (λ (c : Cut). c.updates) (loads_in (sent_and_held s.a.sent s.app.held)))
     ∙ ap (map (λ (c : Cut). c.updates)) (fits.app.cuts ∙ ap (map cut_of_frame) all)
     ∙ map_map cut_of_frame (λ (c : Cut). c.updates) frames
 
 -- those that CULL sent or holds are the first of those that come back of the history
 culled_lists : (g : Setup) (dbase : List BaseLine) (seats : Seats) (s : PipeState) → PipeFits g dbase seats s →
-    updates_in (loads_in (passed s.b.sent s.cull.held))
+    updates_in (loads_in (sent_and_held s.b.sent s.cull.held))
     ≡ take (length (updates_in (loads_in s.a.taken))) (came_back g.channels s.log)
 culled_lists g dbase seats s fits =
     let taken = loads_in s.a.taken in
-    let sent = loads_in (passed s.a.sent s.app.held) in
+    let sent = loads_in (sent_and_held s.a.sent s.app.held) in
     let many = length (updates_in taken) in
     let front : updates_in taken ≡ take many (updates_in sent) =
     front_of (updates_in taken) (updates_in sent)
     (mapped_stand (λ (l : LoadState). l.cut.updates) taken sent (sent_load s.a.sent s.a.taken s.app.held fits.link_a)) in
-    sym (map_map carried (λ (k : Carried). k.cut.updates) (loads_in (passed s.b.sent s.cull.held)))
+    sym (map_map carried (λ (k : Carried). k.cut.updates) (loads_in (sent_and_held s.b.sent s.cull.held)))
     ∙ ap (map (λ (k : Carried). k.cut.updates)) fits.cull.loads
     ∙ passed_updates empty_scene.nodes taken
     ∙ ap (replaced_by_all empty_scene.nodes) (front ∙ ap (take many) (sent_lists g dbase seats s fits))
@@ -102,9 +103,9 @@ culled_lists g dbase seats s fits =
 
 -- those that DRAW sent or holds are those that it received
 drawn_lists : (g : Setup) (dbase : List BaseLine) (seats : Seats) (s : PipeState) → PipeFits g dbase seats s →
-    updates_in (loads_in (passed s.c.sent s.draw.held)) ≡ updates_in (loads_in s.b.taken)
+    updates_in (loads_in (sent_and_held s.c.sent s.draw.held)) ≡ updates_in (loads_in s.b.taken)
 drawn_lists g dbase seats s fits =
-    sym (map_map kept (λ (k : Kept). k.cut.updates) (loads_in (passed s.c.sent s.draw.held)))
+    sym (map_map kept (λ (k : Kept). k.cut.updates) (loads_in (sent_and_held s.c.sent s.draw.held)))
     ∙ ap (map (λ (k : Kept). k.cut.updates)) fits.draw.loads
     ∙ map_map kept (λ (k : Kept). k.cut.updates) (loads_in s.b.taken)
 
@@ -115,11 +116,11 @@ back_stand : (g : Setup) (dbase : List BaseLine) (seats : Seats) (s : PipeState)
 back_stand g dbase seats s fits i us at =
     let many = length (updates_in (loads_in s.a.taken)) in
     let sent_c =
-    mapped_stand (λ (l : LoadState). l.cut.updates) (loads_in s.c.taken) (loads_in (passed s.c.sent s.draw.held))
+    mapped_stand (λ (l : LoadState). l.cut.updates) (loads_in s.c.taken) (loads_in (sent_and_held s.c.sent s.draw.held))
     (sent_load s.c.sent s.c.taken s.draw.held fits.link_c) i us at in
     let taken_b = subst (λ (lists : List UpdateList). slice_get lists i ≡ Some us) (drawn_lists g dbase seats s fits) sent_c in
     let sent_b =
-    mapped_stand (λ (l : LoadState). l.cut.updates) (loads_in s.b.taken) (loads_in (passed s.b.sent s.cull.held))
+    mapped_stand (λ (l : LoadState). l.cut.updates) (loads_in s.b.taken) (loads_in (sent_and_held s.b.sent s.cull.held))
     (sent_load s.b.sent s.b.taken s.cull.held fits.link_b) i us taken_b in
     get_take many (came_back g.channels s.log) i us
     (subst (λ (lists : List UpdateList). slice_get lists i ≡ Some us) (culled_lists g dbase seats s fits) sent_b)

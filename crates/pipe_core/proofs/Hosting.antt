@@ -1,30 +1,30 @@
--- Rounds of a play, and what it shows at their end.
+-- Rounds of a play, and what it leaves at their end.
 use Rattle.std.proofs.Common.{◌≡◌, ◌⊎◌, ℕ, suc, zero, ◌+◌, ◌*◌, ◌≤◌, Bool, true, false, List, [], ◌∷◌, ◌++◌, take, Option, Some, None, Result, Ok, Err, OnOk, inl, inr, refl, sym, ap, ◌∙◌, subst, arith}
-use Rattle.std.specs.List.{AllByRecursion, concat}
+use Rattle.std.specs.List.{AllByRecursion}
 use Rattle.std.specs.Io.KnownBytes.{append_known}
-use Rattle.pf_io.specs.Causes.{Calm, Rose}
-use Rattle.pf_history.specs.Logs.{Log, IsLegal}
-use Rattle.pf_history.specs.Fits.{FitsPlay, FitsWholly}
+use Rattle.pf_history.specs.Logs.{Log}
 use Rattle.draw_list.specs.declared.stats.Stats.{Stats}
 use Rattle.play_format.specs.Plays.{Script}
 use Rattle.play_check.specs.Stuck.{IsStuck}
+use Rattle.stage_parts.specs.declared.answers.Did.{Did}
+use Rattle.stage_parts.specs.declared.answers.Did.TheVariants as did
+use Rattle.stage_parts.specs.declared.answers.StageError.{StageError}
 use Rattle.stage_parts.specs.Moves.{moved}
-use Rattle.stage_parts.specs.Pictures.{pictures, streamed, frame_numbers}
-use Rattle.frame_stages.specs.declared.answers.Did.{Did}
-use Rattle.frame_stages.specs.declared.answers.Did.TheVariants as did
-use Rattle.frame_stages.specs.declared.answers.StageError.{StageError}
-use Rattle.frame_stages.specs.declared.answers.StageError.TheVariants as error
+use Rattle.stage_parts.specs.Pictures.{pictures, streamed}
+use Rattle.pipe_plays.specs.declared.played.PlayEnd.{PlayEnd}
+use Rattle.pipe_plays.specs.declared.played.PlayEnd.TheVariants as ends
+use Rattle.pipe_plays.specs.Plays.{CanRun}
+use Rattle.pipe_plays.specs.Played.{end_of}
+use Rattle.pipe_plays.specs.Laws.{ShownLaw, Leaves, LeavesAll, LeavesLaw}
+use Rattle.pipe_plays.proofs.Ended.{done_only}
 use Rattle.pipe_core.specs.declared.events.Event.{Event}
 use Rattle.pipe_core.specs.declared.events.Event.TheVariants as event
-use Rattle.pipe_core.specs.declared.played.PlayEnd.{PlayEnd}
-use Rattle.pipe_core.specs.declared.played.PlayEnd.TheVariants as ends
-use Rattle.pipe_core.specs.Cores.{CoreState, CanRun, CoreFits, HasEnded, HaveAllEnded}
+use Rattle.pipe_core.specs.Cores.{CoreState, CoreFits, HasEnded, HaveAllEnded, one_seat}
 use Rattle.pipe_core.specs.Waits.{IsOver}
-use Rattle.pipe_core.specs.Runs.{Moves, Rests, Ran, rounds}
-use Rattle.pipe_core.specs.Laws.{steps_in, ShownLaw}
+use Rattle.pipe_core.specs.Runs.{HasMoved, Rests, Ran, rounds}
+use Rattle.pipe_core.specs.Laws.{steps_in}
 use Rattle.pipe_core.specs.Pipes.{PipeWork, core_of, PipeKeeps, Lifted, IsWritten}
-use Rattle.pipe_core.specs.Hosts.{all_events, GoesOn, ArePolled, HasPlayed, Blames, end_of}
-use Rattle.pipe_core.specs.Played.{AddsFront}
+use Rattle.pipe_core.specs.Hosts.{all_events, GoesOn, ArePolled, HasPlayed}
 use Rattle.pipe_core.proofs.Running.{bound, run_law, stay_ended}
 use Rattle.pipe_core.proofs.Openings.{ran_more, steps_on, nothing_written, written_more}
 
@@ -80,7 +80,7 @@ still_unset : (play : Script) (ahead : ℕ) (es : List Event) (s t : CoreState) 
 still_unset play ahead [] s t ran = ap (λ (u : CoreState). u.stopped) ran
 still_unset play ahead (e ∷ es) s t ran = still_unset play ahead es ran.0 t ran.2 ∙ by ran.1.step
   where
-    by : Moves play e s ran.0 ⊎ Rests play ahead e s ran.0 → ran.0.stopped ≡ s.stopped
+    by : HasMoved play e s ran.0 ⊎ Rests play ahead e s ran.0 → ran.0.stopped ≡ s.stopped
     by (inl moves) = moves.mark
     by (inr rests) = ap (λ (u : CoreState). u.stopped) rests.same
 
@@ -134,27 +134,12 @@ ended_rounds play ahead n s fits played enough = by played.gone
     by (inl all) = all
     by (inr least) = let most = bound play ahead s fits in absurd (omega (arith, enough, least, most))
 
--- The frame sink
-
--- what a poll says of the sink
-pub blames : {A : Type 0} (result : Result A StageError) (before now : ℕ) (at_fault bytes : Option (List ℕ)) →
-    (result ≡ Err error.FrameFault → Rose before now) → (result ≡ Err error.FrameFault → at_fault ≡ bytes) →
-    ((result ≡ Err error.FrameFault → ⊥) → Calm before now) → Blames result before now at_fault bytes
-blames (Ok x) before now at_fault bytes rose last calm = calm (λ is. absurd (cc))
-blames (Err error.NoMemory) before now at_fault bytes rose last calm = calm (λ is. absurd (cc))
-blames (Err error.FrameFault) before now at_fault bytes rose last calm = (rose refl, last refl)
-
--- and behind calls that met no fault
-pub later_blames : {A : Type 0} (result : Result A StageError) (before mid now : ℕ) (at_fault bytes : Option (List ℕ)) →
-    Calm before mid → Blames result mid now at_fault bytes → Blames result before now at_fault bytes
-later_blames result before mid now at_fault bytes calm h = subst (λ (n : ℕ). Blames result n now at_fault bytes) calm h
-
 -- what holds in any case holds of an answer without an error
 pub on_ok : {A : Type 0} (result : Result A StageError) (P : Type 0) → P → OnOk result P
 on_ok (Ok x) P h = h
 on_ok (Err e) P h = tt
 
--- What is shown
+-- What is left
 
 abbrev no_bytes : List ℕ
 no_bytes = []
@@ -173,14 +158,14 @@ nothing_streamed (suc b) (Some n) = take_none n
 opens_empty : ShownLaw → (play : Script) (ahead : ℕ) (p : PipeWork) → CanRun play ahead → PipeKeeps play ahead p → p.scene.shared.log ≡ [] →
     (core_of play p).pipe.stream ≡ []
 opens_empty law play ahead p can keeps log =
-    let shown = (law play ahead (core_of play p) can keeps.core).now.shows in
+    let shown = (law play ahead one_seat (core_of play p).pipe can keeps.core.pipe).now.shows in
     let a = p.app.state in
     shown.front
     ∙ ap (λ (l : Log). streamed a.written a.fault (pictures play.channels play.lens play.back l)) log
     ∙ nothing_streamed a.written a.fault
 
 -- the frame sink was given the stream
-pub gives_stream : ShownLaw → (play : Script) (ahead : ℕ) (p q : PipeWork) (bytes bytes' : Option (List ℕ)) → CanRun play ahead → PipeKeeps play ahead p →
+gives_stream : ShownLaw → (play : Script) (ahead : ℕ) (p q : PipeWork) (bytes bytes' : Option (List ℕ)) → CanRun play ahead → PipeKeeps play ahead p →
     p.scene.shared.log ≡ [] → GoesOn play ahead p q bytes bytes' → bytes' ≡ append_known bytes (core_of play q).pipe.stream
 gives_stream law play ahead p q bytes bytes' can keeps log goes =
     let more = goes.wrote.more in
@@ -188,68 +173,30 @@ gives_stream law play ahead p q bytes bytes' can keeps log goes =
     goes.wrote.stream ∙ ap (λ (l : List ℕ). l ++ more) (opens_empty law play ahead p can keeps log) in
     goes.wrote.wrote ∙ ap (append_known bytes) (sym all)
 
-pub adds_front : ShownLaw → (play : Script) (ahead : ℕ) (p q : PipeWork) (bytes bytes' : Option (List ℕ)) → CanRun play ahead → PipeKeeps play ahead p →
-    p.scene.shared.log ≡ [] → GoesOn play ahead p q bytes bytes' → AddsFront play q.scene.shared.log bytes bytes'
-adds_front law play ahead p q bytes bytes' can keeps log goes =
-    let shown = (law play ahead (core_of play q) can goes.keeps.core).now.shows in
-    record {
-      written = q.app.state.written;
-      fault = q.app.state.fault;
-      bytes = gives_stream law play ahead p q bytes bytes' can keeps log goes ∙ ap (append_known bytes) shown.front;
-      begun = shown.written;
-      retired = shown.retired;
-    }
-
 -- What a play that came to this leaves.
 pub record IsTold (play : Script) (ahead : ℕ) (end : PlayEnd) (log : Log) (stats : List Stats) (bytes bytes' : Option (List ℕ)) : Type 0 where
-  pub legal : IsLegal play.channels log
-  pub fits : FitsPlay play.channels ahead play.app play.dbase log
-  pub wholly : end ≡ ends.Done → FitsWholly play.channels ahead play.app play.dbase log
-  pub front : AddsFront play log bytes bytes'
-  pub whole : end ≡ ends.Done → bytes' ≡ append_known bytes (concat (pictures play.channels play.lens play.back log))
-  pub numbers : end ≡ ends.Done → stats ≡ frame_numbers play.channels play.lens log
+  pub now : Leaves play ahead log stats bytes bytes'
+  pub all : end ≡ ends.Done → LeavesAll play ahead log stats bytes bytes'
 
--- a play is done only where no error came
-done_only : {A : Type 0} (came : Result A StageError) (P : Type 0) → OnOk came P → end_of came ≡ ends.Done → P
-done_only (Ok x) P h is = h
-done_only (Err error.NoMemory) P h is = absurd (let clash : ends.NoMemory ≡ ends.Done = is in cc)
-done_only (Err error.FrameFault) P h is = absurd (let clash : ends.FrameFault ≡ ends.Done = is in cc)
-
-tells : {A : Type 0} → ShownLaw → (play : Script) (ahead : ℕ) (p q : PipeWork) (came : Result A StageError) (bytes bytes' : Option (List ℕ)) →
+tells : {A : Type 0} → ShownLaw → LeavesLaw → (play : Script) (ahead : ℕ) (p q : PipeWork) (came : Result A StageError) (bytes bytes' : Option (List ℕ)) →
     CanRun play ahead → PipeKeeps play ahead p → p.scene.shared.log ≡ [] → GoesOn play ahead p q bytes bytes' →
     OnOk came (HaveAllEnded play (core_of play q).pipe) → IsTold play ahead (end_of came) q.scene.shared.log q.app.state.stats bytes bytes'
-tells law play ahead p q came bytes bytes' can keeps log goes ended =
-    let shown = law play ahead (core_of play q) can goes.keeps.core in
-    let Ended : Type 0 = HaveAllEnded play (core_of play q).pipe in
+tells law leaves play ahead p q came bytes bytes' can keeps log goes ended =
+    let left = leaves play ahead one_seat (core_of play q).pipe bytes bytes' can goes.keeps.core.pipe
+    (gives_stream law play ahead p q bytes bytes' can keeps log goes) in
     record {
-      legal = shown.now.legal;
-      fits = shown.now.fits;
-      wholly = λ is. (shown.at_end (done_only came Ended ended is)).wholly;
-      front = adds_front law play ahead p q bytes bytes' can keeps log goes;
-      whole = λ is. gives_stream law play ahead p q bytes bytes' can keeps log goes
-          ∙ ap (append_known bytes) (shown.at_end (done_only came Ended ended is)).stream;
-      numbers = λ is. (shown.at_end (done_only came Ended ended is)).numbers;
+      now = left.now;
+      all = λ is.
+          let all = done_only came (HaveAllEnded play (core_of play q).pipe) ended is in
+          left.at_end (record { app = all event.App; dbase = all event.Dbase });
     }
 
-pub told : {A : Type 0} → ShownLaw → (play : Script) (ahead : ℕ) (p q : PipeWork) (came : Result A StageError) (bytes bytes' : Option (List ℕ))
+pub told : {A : Type 0} → ShownLaw → LeavesLaw → (play : Script) (ahead : ℕ) (p q : PipeWork) (came : Result A StageError) (bytes bytes' : Option (List ℕ))
     (end : PlayEnd) (log : Log) (stats : List Stats) → CanRun play ahead → PipeKeeps play ahead p → p.scene.shared.log ≡ [] →
     GoesOn play ahead p q bytes bytes' → OnOk came (HaveAllEnded play (core_of play q).pipe) →
     end ≡ end_of came → log ≡ q.scene.shared.log → stats ≡ q.app.state.stats → IsTold play ahead end log stats bytes bytes'
-told law play ahead p q came bytes bytes' end log stats can keeps none goes ended is_end is_log is_stats =
+told law leaves play ahead p q came bytes bytes' end log stats can keeps none goes ended is_end is_log is_stats =
     subst (λ (e : PlayEnd). IsTold play ahead e log stats bytes bytes') (sym is_end)
     (subst (λ (l : Log). IsTold play ahead (end_of came) l stats bytes bytes') (sym is_log)
     (subst (λ (s : List Stats). IsTold play ahead (end_of came) q.scene.shared.log s bytes bytes') (sym is_stats)
-    (tells law play ahead p q came bytes bytes' can keeps none goes ended)))
-
--- a play ends by a fault exactly where the sink met one
-pub faulted : {A : Type 0} (came : Result A StageError) (end : PlayEnd) (before now : ℕ) (at_fault bytes : Option (List ℕ)) →
-    Blames came before now at_fault bytes → end ≡ end_of came → end ≡ ends.FrameFault → Rose before now × (at_fault ≡ bytes)
-faulted (Ok x) end before now at_fault bytes h is fault = absurd (let clash : ends.Done ≡ ends.FrameFault = sym is ∙ fault in cc)
-faulted (Err error.NoMemory) end before now at_fault bytes h is fault = absurd (let clash : ends.NoMemory ≡ ends.FrameFault = sym is ∙ fault in cc)
-faulted (Err error.FrameFault) end before now at_fault bytes h is fault = h
-
-pub unfaulted : {A : Type 0} (came : Result A StageError) (end : PlayEnd) (before now : ℕ) (at_fault bytes : Option (List ℕ)) →
-    Blames came before now at_fault bytes → end ≡ end_of came → (end ≡ ends.FrameFault → ⊥) → Calm before now
-unfaulted (Ok x) end before now at_fault bytes h is other = h
-unfaulted (Err error.NoMemory) end before now at_fault bytes h is other = h
-unfaulted (Err error.FrameFault) end before now at_fault bytes h is other = absurd (other is)
+    (tells law leaves play ahead p q came bytes bytes' can keeps none goes ended)))

@@ -1,12 +1,9 @@
 mod CameBack
 mod Rounds
 mod Weights
-mod Counts
-mod Ranges
 mod Sides
 mod Progress
 mod Running
-mod Shows
 mod Lifting
 mod Passing
 mod BaseLifts
@@ -15,4 +12,3 @@ mod Openings
 mod Polls
 mod Turns
 mod Hosting
-mod Nothing

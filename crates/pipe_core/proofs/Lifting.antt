@@ -4,22 +4,30 @@ use Rattle.stage_parts.specs.Moves.{moved}
 use Rattle.stage_parts.specs.Gathering.{IsGathered}
 use Rattle.stage_parts.proofs.Gathering.{gathering_law}
 use Rattle.play_format.specs.Plays.{Script}
-use Rattle.frame_stages.specs.declared.answers.Did.{Did}
-use Rattle.frame_stages.specs.declared.answers.Did.TheVariants as did
-use Rattle.frame_stages.specs.declared.answers.StageError.{StageError}
-use Rattle.frame_stages.specs.declared.answers.StageError.TheVariants as error
-use Rattle.frame_stages.specs.Answers.{is_over, Placed, PassesOn}
+use Rattle.stage_parts.specs.declared.answers.Did.{Did}
+use Rattle.stage_parts.specs.declared.answers.Did.TheVariants as did
+use Rattle.stage_parts.specs.declared.answers.StageError.{StageError}
+use Rattle.stage_parts.specs.declared.answers.StageError.TheVariants as error
+use Rattle.stage_parts.specs.Answers.{is_over, Placed, PassesOn}
+use Rattle.pf_history.specs.Logs.{Log}
+use Rattle.pf_scene.specs.Scenes.{SceneState}
+use Rattle.frame_stages.specs.Looks.{FoundMark}
 use Rattle.frame_stages.specs.DbaseWorks.{DbaseWork}
 use Rattle.frame_stages.specs.DbaseAnswers.{Known, IsDbaseAnswer}
 use Rattle.pipe_core.specs.declared.events.Event.{Event}
-use Rattle.pipe_core.specs.Cores.{CoreState, CoreFits, setup_of, one_seat}
-use Rattle.pipe_core.specs.Waits.{IsOver, Waits}
+use Rattle.pipe_plays.specs.Plays.{setup_of}
+use Rattle.pipe_core.specs.Cores.{CoreState, CoreFits, one_seat}
+use Rattle.pipe_core.specs.Waits.{IsOver, MustWait}
 use Rattle.pipe_core.specs.Pipes.{Answers}
 
 pub opened : (play : Script) (ahead : ℕ) (s : CoreState) → CoreFits play ahead s → IsGathered (setup_of play ahead) play.dbase one_seat s.pipe
 opened play ahead s fits = (gathering_law (setup_of play ahead) play.dbase one_seat s.pipe).gathered fits.pipe
 
 -- Over
+
+-- a look over a scene of one thread found its stop mark
+pub found_mark : (log : Log) (scene : SceneState) (over : Bool) → FoundMark 0 log (Some scene) over → over ≡ scene.shared.stopped
+found_mark log scene over found = found.1.2 ∙ ap (λ (x : SceneState). x.shared.stopped) (sym found.1.4)
 
 -- a stage is over where it has ended or the stop mark is set, and only there
 pub over_is : (ended stopped : Bool) (result : Result Did StageError) → (ended ≡ true → result ≡ Ok did.Over) →
@@ -54,7 +62,7 @@ pub passes_answer : {X : Type 0} (play : Script) (ahead : ℕ) (e : Event) (s t 
     PassesOn result before after wait → (after ≡ before → t ≡ s) →
     (length after.taken + length after.sent ≡ length before.taken + length before.sent + 1 → moved s.pipe < moved t.pipe) →
     t.stopped ≡ s.stopped → (IsOver play e s → is_over result ≡ true) → (is_over result ≡ true → IsOver play e s) →
-    (wait → Waits play ahead e s) → Answers play ahead e result s t
+    (wait → MustWait play ahead e s) → Answers play ahead e result s t
 passes_answer play ahead e s t (Ok did.Did) before after wait h same moves mark over is waits =
     record { alive = not_over (Ok did.Did) (IsOver play e s) over refl; moves = moves h; mark = mark }
 passes_answer play ahead e s t (Ok did.NotYet) before after wait h same moves mark over is waits =

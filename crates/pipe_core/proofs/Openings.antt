@@ -7,16 +7,17 @@ use Rattle.play_format.specs.Plays.{Script}
 use Rattle.stage_parts.specs.Loads.{LoadState}
 use Rattle.stage_parts.proofs.DbaseSteps.{opening_law}
 use Rattle.stage_parts.proofs.Gathering.{gathering_law}
-use Rattle.frame_stages.specs.declared.answers.Did.{Did}
-use Rattle.frame_stages.specs.declared.answers.Did.TheVariants as did
-use Rattle.frame_stages.specs.declared.answers.StageError.{StageError}
+use Rattle.stage_parts.specs.declared.answers.Did.{Did}
+use Rattle.stage_parts.specs.declared.answers.Did.TheVariants as did
+use Rattle.stage_parts.specs.declared.answers.StageError.{StageError}
 use Rattle.frame_stages.specs.AppWorks as app
 use Rattle.frame_stages.specs.DbaseWorks as base
 use Rattle.frame_stages.specs.DbaseWorks.{DbaseHolds}
 use Rattle.frame_stages.specs.CullWorks.{CullWork, CullKeeps, cull_state}
 use Rattle.stage_parts.specs.Parts.{CullPart}
 use Rattle.pipe_core.specs.declared.events.Event.{Event}
-use Rattle.pipe_core.specs.Cores.{CoreState, CanRun, setup_of, one_seat}
+use Rattle.pipe_plays.specs.Plays.{CanRun, setup_of}
+use Rattle.pipe_core.specs.Cores.{CoreState, one_seat}
 use Rattle.pipe_core.specs.Runs.{Steps, Ran}
 use Rattle.pipe_core.specs.Pipes.{PipeWork, opening_link, opening_scene, core_of, PipeKeeps, Lifted, IsWritten, FailsAt, HasRun}
 

@@ -8,14 +8,15 @@ use Rattle.stage_parts.specs.States.{DrawState}
 use Rattle.stage_parts.specs.Parts.{DrawPart, CullPart}
 use Rattle.stage_parts.specs.Moves.{moved}
 use Rattle.stage_parts.proofs.Gathering.{gathering_law}
-use Rattle.frame_stages.specs.declared.answers.Did.{Did}
-use Rattle.frame_stages.specs.declared.answers.Did.TheVariants as did
-use Rattle.frame_stages.specs.declared.answers.StageError.{StageError}
-use Rattle.frame_stages.specs.Answers.{is_over, Placed, PassesOn, Waits as has_to_wait}
+use Rattle.stage_parts.specs.declared.answers.Did.{Did}
+use Rattle.stage_parts.specs.declared.answers.Did.TheVariants as did
+use Rattle.stage_parts.specs.declared.answers.StageError.{StageError}
+use Rattle.stage_parts.specs.Answers.{is_over, Placed, PassesOn, WaitsToPass as has_to_wait}
 use Rattle.frame_stages.specs.CullWorks.{CullWork, CullKeeps, cull_state}
 use Rattle.pipe_core.specs.declared.events.Event.{Event}
 use Rattle.pipe_core.specs.declared.events.Event.TheVariants as event
-use Rattle.pipe_core.specs.Cores.{CoreState, CoreFits, setup_of, one_seat}
+use Rattle.pipe_plays.specs.Plays.{setup_of}
+use Rattle.pipe_core.specs.Cores.{CoreState, CoreFits, one_seat}
 use Rattle.pipe_core.specs.Pipes.{PipeWork, core_of, PipeKeeps, Lifted}
 use Rattle.pipe_core.proofs.Lifting.{opened, over_is, is_over_of, passes_answer}
 
@@ -28,8 +29,8 @@ roomy ahead room held dry taken sent is waits =
 -- The draw
 
 -- the pipe where the draw has this state, and this was received and sent
-abbrev pub drawn : PipeWork → DrawState → (taken sent : List Packet) → PipeWork
-drawn p d taken sent =
+abbrev pub with_draw : PipeWork → DrawState → (taken sent : List Packet) → PipeWork
+with_draw p d taken sent =
     record p {
       draw = record p.draw { state = d };
       b = record p.b { line = record p.b.line { taken = taken } };
@@ -38,11 +39,11 @@ drawn p d taken sent =
 
 draw_core : (play : Script) (ahead : ℕ) (p : PipeWork) (d : DrawState) (taken sent : List Packet) → CoreFits play ahead (core_of play p) →
     LinkPart p.b.line.sent taken → LinkPart sent p.c.line.taken → DrawPart play.lens play.back d taken sent →
-    CoreFits play ahead (core_of play (drawn p d taken sent))
+    CoreFits play ahead (core_of play (with_draw p d taken sent))
 draw_core play ahead p d taken sent fits link_b link_c part =
     let old = opened play ahead (core_of play p) fits in
     record {
-      pipe = (gathering_law (setup_of play ahead) play.dbase one_seat (core_of play (drawn p d taken sent)).pipe).fits
+      pipe = (gathering_law (setup_of play ahead) play.dbase one_seat (core_of play (with_draw p d taken sent)).pipe).fits
           (record {
             merges = old.merges;
             legal = old.legal;
@@ -70,7 +71,7 @@ pub draw_lifts : (play : Script) (ahead : ℕ) (p : PipeWork) (d : DrawState) (t
     (has_to_wait p.draw.state.held (p.b.line.sent ≡ p.b.line.taken) (length p.c.line.taken + p.c.room ≤ length p.c.line.sent)) →
     (p.draw.state.ended ≡ true → result ≡ Ok did.Over) →
     (p.draw.state.ended ≡ false → is_over result ≡ p.scene.shared.stopped) →
-    Lifted play ahead event.Draw result p (drawn p d taken sent)
+    Lifted play ahead event.Draw result p (with_draw p d taken sent)
 draw_lifts play ahead p d taken sent result keeps link_b link_c part answer ended looked =
     let stages = keeps.stages in
     let before : Placed DrawState = record { state = p.draw.state; taken = p.b.line.taken; sent = p.c.line.sent } in
@@ -101,10 +102,10 @@ draw_lifts play ahead p d taken sent result keeps link_b link_c part answer ende
         copies = keeps.copies;
       };
       adds = inl refl;
-      answer = passes_answer play ahead event.Draw (core_of play p) (core_of play (drawn p d taken sent)) result before after
+      answer = passes_answer play ahead event.Draw (core_of play p) (core_of play (with_draw p d taken sent)) result before after
           (has_to_wait p.draw.state.held (p.b.line.sent ≡ p.b.line.taken) (length p.c.line.taken + p.c.room ≤ length p.c.line.sent))
           answer
-          (λ same. ap (λ (q : Placed DrawState). core_of play (drawn p q.state q.taken q.sent)) same)
+          (λ same. ap (λ (q : Placed DrawState). core_of play (with_draw p q.state q.taken q.sent)) same)
           (λ more. omega (arith, more))
           refl
           (over_is p.draw.state.ended p.scene.shared.stopped result ended looked)

@@ -9,16 +9,16 @@ use Rattle.pf_scene.specs.Scenes.{SceneState}
 use Rattle.stage_parts.specs.declared.packets.Packet.{Packet}
 use Rattle.stage_parts.specs.Packets.{LinkPart}
 use Rattle.stage_parts.specs.Parts.{DrawPart}
-use Rattle.frame_stages.specs.declared.answers.Did.{Did}
-use Rattle.frame_stages.specs.declared.answers.Did.TheVariants as did
-use Rattle.frame_stages.specs.declared.answers.StageError.{StageError}
-use Rattle.frame_stages.specs.Answers.{is_over, PassesOn, Waits as has_to_wait}
+use Rattle.stage_parts.specs.declared.answers.Did.{Did}
+use Rattle.stage_parts.specs.declared.answers.Did.TheVariants as did
+use Rattle.stage_parts.specs.declared.answers.StageError.{StageError}
+use Rattle.stage_parts.specs.Answers.{is_over, PassesOn, WaitsToPass as has_to_wait}
 use Rattle.frame_stages.specs.Looks.{SawMark}
 use Rattle.frame_stages.specs.CullWorks.{CullKeeps}
 use Rattle.frame_stages.specs.Works.{IsGivenAsBefore}
 use Rattle.pipe_core.specs.declared.events.Event.TheVariants as event
 use Rattle.pipe_core.specs.Pipes.{LinkWork, PipeWork, PipeKeeps, Lifted}
-use Rattle.pipe_core.proofs.Passing.{drawn, draw_lifts, culled, cull_lifts}
+use Rattle.pipe_core.proofs.Passing.{with_draw, draw_lifts, culled, cull_lifts}
 
 -- what was received is a front of what was sent, where the rest is in the link
 pub in_order : (sent taken items : List Packet) → sent ≡ taken ++ items → LinkPart sent taken
@@ -107,7 +107,7 @@ draw_polls play ahead p q result polls keeps =
     let scene = same_Some q.scene p.scene polls.told in
     let sent = same_Some q.b.line.sent p.b.line.sent polls.told_sent in
     let taken = same_Some q.c.line.taken p.c.line.taken polls.told_taken in
-    let path : drawn p q.draw.state q.b.line.taken q.c.line.sent ≡ q =
+    let path : with_draw p q.draw.state q.b.line.taken q.c.line.sent ≡ q =
     λ i.
     record {
       app = (sym polls.app) i;

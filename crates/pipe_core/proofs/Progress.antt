@@ -24,12 +24,13 @@ use Rattle.stage_parts.specs.States.{still_asked, still_asked_dbase, in_buffer}
 use Rattle.stage_parts.proofs.DbaseSteps.{drop_get, lines_law}
 use Rattle.pipe_core.specs.declared.events.Event.{Event}
 use Rattle.pipe_core.specs.declared.events.Event.TheVariants as event
-use Rattle.pipe_core.specs.Cores.{CoreState, CanRun, CoreFits, HasEnded, HaveAllEnded, setup_of}
-use Rattle.pipe_core.specs.Waits.{shared_of, FrameWaits, CloseWaits, StepWaits, BaseStepWaits, Waits}
+use Rattle.pipe_plays.specs.Plays.{CanRun, setup_of}
+use Rattle.pipe_core.specs.Cores.{CoreState, CoreFits, HasEnded, HaveAllEnded}
+use Rattle.pipe_core.specs.Waits.{shared_of, FrameMustWait, CloseMustWait, StepMustWait, BaseStepMustWait, MustWait}
 use Rattle.pipe_core.specs.Laws.{ProgressLaw}
 use Rattle.pipe_core.proofs.Weights.{asks_weight}
-use Rattle.pipe_core.proofs.Counts.{AreMade, are_made, frames_asked, frames_given, merges_given, frames_left, merges_left, app_total, base_total}
-use Rattle.pipe_core.proofs.Ranges.{passes_at, merges_right, left_right, AreMergesRight}
+use Rattle.pipe_plays.proofs.Counts.{AreMade, are_made, frames_asked, frames_given, merges_given, frames_left, merges_left, app_total, base_total}
+use Rattle.pipe_plays.proofs.Ranges.{passes_at, merges_right, left_right, AreMergesRight}
 use Rattle.pipe_core.proofs.Sides.{never_both, ended_or_waits, counted, unheld, closed_is_ended, cull_ends, draw_ends, PassersWait, passers_wait, heavy, bears_one, all_written, may_sync, sync_goes}
 
 drop_none : {X : Type 0} (xs : List X) (i : ℕ) → slice_get xs i ≡ None → drop i xs ≡ []
@@ -120,11 +121,11 @@ may_merge play ahead s can fits l at is =
     subst (λ b. MayMerge (shared_of play ahead s) (merge_of b)) (sym fits.pipe.buffer.buffer)
     (record { fit = first.0; light = omega (arith, most, weight, can.is_play.steps) })
 
-base_stands : (play : Script) (ahead : ℕ) (s : CoreState) → CanRun play ahead → CoreFits play ahead s → Waits play ahead event.Dbase s → BaseStands play s
+base_stands : (play : Script) (ahead : ℕ) (s : CoreState) → CanRun play ahead → CoreFits play ahead s → MustWait play ahead event.Dbase s → BaseStands play s
 base_stands play ahead s can fits waits = by (slice_get play.dbase s.pipe.dbase.at) refl waits
   where
     at_line : (l : BaseLine) → slice_get play.dbase s.pipe.dbase.at ≡ Some l → (step : BaseStep) → l.step ≡ step →
-        BaseStepWaits (shared_of play ahead s) s.pipe (Some step) → BaseStands play s
+        BaseStepMustWait (shared_of play ahead s) s.pipe (Some step) → BaseStands play s
     at_line l at (base.Await n) is waits =
         let frames = (state_of play.channels s.pipe.log).frames in
         let left = drop_get play.dbase s.pipe.dbase.at l at in
@@ -140,7 +141,7 @@ base_stands play ahead s can fits waits = by (slice_get play.dbase s.pipe.dbase.
     at_line l at _ is waits = absurd waits
 
     by : (o : Option BaseLine) → slice_get play.dbase s.pipe.dbase.at ≡ o →
-        BaseStepWaits (shared_of play ahead s) s.pipe (option_map (λ (l : BaseLine). l.step) o) → BaseStands play s
+        BaseStepMustWait (shared_of play ahead s) s.pipe (option_map (λ (l : BaseLine). l.step) o) → BaseStands play s
     by None at waits = absurd waits
     by (Some l) at waits = at_line l at l.step refl waits
 
@@ -152,7 +153,7 @@ record AppStands (play : Script) (s : CoreState) : Type 0 where
   some : (0 < length (drop s.pipe.app.at play.app)) ⊎ ((state_of play.channels s.pipe.log).merges < length (asked_dbase play.dbase))
 
 frame_goes : (play : Script) (ahead : ℕ) (s : CoreState) → CanRun play ahead → CoreFits play ahead s → s.stopped ≡ false →
-    PassersWait s.pipe → s.pipe.app.held ≡ None → (synced : Bool) → s.pipe.app.synced ≡ synced → FrameWaits synced (shared_of play ahead s) s.pipe → ⊥
+    PassersWait s.pipe → s.pipe.app.held ≡ None → (synced : Bool) → s.pipe.app.synced ≡ synced → FrameMustWait synced (shared_of play ahead s) s.pipe → ⊥
 frame_goes play ahead s can fits unset passers bare false is waits = sync_goes play ahead s can fits unset passers bare waits
 frame_goes play ahead s can fits unset passers bare true is waits =
     let free = (counted play ahead s fits).state.room is in
@@ -160,7 +161,7 @@ frame_goes play ahead s can fits unset passers bare true is waits =
 
 app_stands : (play : Script) (ahead : ℕ) (s : CoreState) → CanRun play ahead → CoreFits play ahead s → s.stopped ≡ false →
     PassersWait s.pipe → s.pipe.app.held ≡ None →
-    StepWaits (length (asked_dbase play.dbase)) (shared_of play ahead s) s.pipe (option_map (λ l. l.step) (slice_get play.app s.pipe.app.at)) →
+    StepMustWait (length (asked_dbase play.dbase)) (shared_of play ahead s) s.pipe (option_map (λ l. l.step) (slice_get play.app s.pipe.app.at)) →
     AppStands play s
 app_stands play ahead s can fits unset passers bare waits = by (slice_get play.app s.pipe.app.at) refl waits
   where
@@ -173,7 +174,7 @@ app_stands play ahead s can fits unset passers bare waits = by (slice_get play.a
         ∙ passes_at (λ (x : AppLine). app_fits play.channels x.step) play.app s.pipe.app.at l can.is_play.app_steps at
 
     at_line : (l : AppLine) → slice_get play.app s.pipe.app.at ≡ Some l → (step : AppStep) → l.step ≡ step →
-        StepWaits merges (shared_of play ahead s) s.pipe (Some step) → AppStands play s
+        StepMustWait merges (shared_of play ahead s) s.pipe (Some step) → AppStands play s
     at_line l at (app.Edit e) is waits =
         absurd (waits (record { fit = right l at (app.Edit e) is; light = bears_one play ahead s can fits }))
     at_line l at (app.View channel v) is waits =
@@ -192,7 +193,7 @@ app_stands play ahead s can fits unset passers bare waits = by (slice_get play.a
               inl (omega (arith, long));
         }
 
-    at_end : slice_get play.app s.pipe.app.at ≡ None → CloseWaits merges (shared_of play ahead s) s.pipe → AppStands play s
+    at_end : slice_get play.app s.pipe.app.at ≡ None → CloseMustWait merges (shared_of play ahead s) s.pipe → AppStands play s
     at_end at (inl few) =
         record {
           stands = subst (λ (ls : List AppLine). Stands (state_of play.channels s.pipe.log).merges (app_marks ls)) (sym (drop_none play.app s.pipe.app.at at)) tt;
@@ -204,7 +205,7 @@ app_stands play ahead s can fits unset passers bare waits = by (slice_get play.a
     at_end at (inr (inr barred)) = absurd (barred (may_sync play ahead s can fits))
 
     by : (o : Option AppLine) → slice_get play.app s.pipe.app.at ≡ o →
-        StepWaits merges (shared_of play ahead s) s.pipe (option_map (λ (l : AppLine). l.step) o) → AppStands play s
+        StepMustWait merges (shared_of play ahead s) s.pipe (option_map (λ (l : AppLine). l.step) o) → AppStands play s
     by None at waits = at_end at waits
     by (Some l) at waits = at_line l at l.step refl waits
 
@@ -225,9 +226,9 @@ stuck_at play s n k frames merges app_stands base_stands some =
 
 -- where the application has ended
 ended_app : (play : Script) (ahead : ℕ) (s : CoreState) → CanRun play ahead → CoreFits play ahead s → s.pipe.app.ended ≡ true →
-    HasEnded play event.Cull s.pipe ⊎ Waits play ahead event.Cull s →
-    HasEnded play event.Draw s.pipe ⊎ Waits play ahead event.Draw s →
-    HasEnded play event.Dbase s.pipe ⊎ Waits play ahead event.Dbase s → HaveAllEnded play s.pipe ⊎ IsStuck play.app play.dbase
+    HasEnded play event.Cull s.pipe ⊎ MustWait play ahead event.Cull s →
+    HasEnded play event.Draw s.pipe ⊎ MustWait play ahead event.Draw s →
+    HasEnded play event.Dbase s.pipe ⊎ MustWait play ahead event.Dbase s → HaveAllEnded play s.pipe ⊎ IsStuck play.app play.dbase
 ended_app play ahead s can fits ended cull draw (inl dbase) =
     let cull_over = cull_ends play ahead s fits ended cull in
     let draw_over = draw_ends play ahead s fits cull_over draw in
@@ -253,16 +254,16 @@ ended_app play ahead s can fits ended cull draw (inr waits) =
 
 -- where it has not
 waiting_app : (play : Script) (ahead : ℕ) (s : CoreState) → CanRun play ahead → CoreFits play ahead s → s.stopped ≡ false → s.pipe.app.ended ≡ false →
-    HasEnded play event.App s.pipe ⊎ Waits play ahead event.App s →
-    HasEnded play event.Cull s.pipe ⊎ Waits play ahead event.Cull s →
-    HasEnded play event.Draw s.pipe ⊎ Waits play ahead event.Draw s →
-    HasEnded play event.Dbase s.pipe ⊎ Waits play ahead event.Dbase s → IsStuck play.app play.dbase
+    HasEnded play event.App s.pipe ⊎ MustWait play ahead event.App s →
+    HasEnded play event.Cull s.pipe ⊎ MustWait play ahead event.Cull s →
+    HasEnded play event.Draw s.pipe ⊎ MustWait play ahead event.Draw s →
+    HasEnded play event.Dbase s.pipe ⊎ MustWait play ahead event.Dbase s → IsStuck play.app play.dbase
 waiting_app play ahead s can fits unset alive (inl ended) cull draw dbase = absurd (never_both s.pipe.app.ended ended alive)
 waiting_app play ahead s can fits unset alive (inr waits) cull draw dbase =
     let passers = passers_wait play ahead s fits alive cull draw in
     let bare =
     unheld ahead s.pipe.app.held
-    (StepWaits (length (asked_dbase play.dbase)) (shared_of play ahead s) s.pipe (option_map (λ (l : AppLine). l.step) (slice_get play.app s.pipe.app.at)))
+    (StepMustWait (length (asked_dbase play.dbase)) (shared_of play ahead s) s.pipe (option_map (λ (l : AppLine). l.step) (slice_get play.app s.pipe.app.at)))
     s.pipe.a (counted play ahead s fits).room.a waits in
     let running : s.pipe.app.closed ≡ false = sym (closed_is_ended play ahead s fits bare.0) ∙ alive in
     by (app_stands play ahead s can fits unset passers bare.0 bare.1) (frames_of_passed play ahead s fits running) dbase
@@ -271,7 +272,7 @@ waiting_app play ahead s can fits unset alive (inr waits) cull draw dbase =
     merges = merges_of_passed play ahead s fits
 
     by : AppStands play s → total (app_marks (take s.pipe.app.at play.app)) ≤ (state_of play.channels s.pipe.log).frames →
-        HasEnded play event.Dbase s.pipe ⊎ Waits play ahead event.Dbase s → IsStuck play.app play.dbase
+        HasEnded play event.Dbase s.pipe ⊎ MustWait play ahead event.Dbase s → IsStuck play.app play.dbase
     by stands frames (inl past) =
         let all = merges.all past in
         let none : drop s.pipe.dbase.at play.dbase ≡ [] = drop_all s.pipe.dbase.at play.dbase past in
@@ -285,7 +286,7 @@ waiting_app play ahead s can fits unset alive (inr waits) cull draw dbase =
 pub progress : ProgressLaw
 progress play ahead s can fits unset idle = by s.pipe.app.ended refl
   where
-    of : (e : Event) → HasEnded play e s.pipe ⊎ Waits play ahead e s
+    of : (e : Event) → HasEnded play e s.pipe ⊎ MustWait play ahead e s
     of e = ended_or_waits play ahead e s unset (idle e)
 
     by : (b : Bool) → s.pipe.app.ended ≡ b → HaveAllEnded play s.pipe ⊎ IsStuck play.app play.dbase

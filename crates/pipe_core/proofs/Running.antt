@@ -6,9 +6,10 @@ use Rattle.stage_parts.specs.Moves.{moved}
 use Rattle.stage_parts.proofs.Moves.{moves_law}
 use Rattle.pipe_core.specs.declared.events.Event.{Event}
 use Rattle.pipe_core.specs.declared.events.Event.TheVariants as event
-use Rattle.pipe_core.specs.Cores.{CoreState, CanRun, CoreFits, HaveAllEnded, setup_of, one_seat}
-use Rattle.pipe_core.specs.Waits.{IsIdle}
-use Rattle.pipe_core.specs.Runs.{Moves, Rests, Ran, is_event, holds, holds_all, rounds, rounds_from}
+use Rattle.pipe_plays.specs.Plays.{CanRun, setup_of}
+use Rattle.pipe_core.specs.Cores.{CoreState, CoreFits, HaveAllEnded, one_seat}
+use Rattle.pipe_core.specs.Waits.{IsIdleEvent}
+use Rattle.pipe_core.specs.Runs.{HasMoved, Rests, Ran, is_event, holds, holds_all, rounds, rounds_from}
 use Rattle.pipe_core.specs.Laws.{steps_in, RunLaw, BoundLaw}
 use Rattle.pipe_core.proofs.Rounds.{each_held}
 use Rattle.pipe_core.proofs.Progress.{progress}
@@ -21,18 +22,18 @@ pub stay_ended : (play : Script) (ahead : ℕ) (events : List Event) (s t : Core
 stay_ended play ahead [] s t all ran = subst (λ (u : CoreState). HaveAllEnded play u.pipe) (sym ran) all
 stay_ended play ahead (e ∷ events) s t all ran = stay_ended play ahead events ran.0 t (by ran.1.step) ran.2
   where
-    by : Moves play e s ran.0 ⊎ Rests play ahead e s ran.0 → HaveAllEnded play ran.0.pipe
+    by : HasMoved play e s ran.0 ⊎ Rests play ahead e s ran.0 → HaveAllEnded play ran.0.pipe
     by (inl moves) = absurd (moves.alive (inl (all e)))
     by (inr rests) = subst (λ (u : CoreState). HaveAllEnded play u.pipe) (sym rests.same) all
 
 -- every event of the part so far changes nothing
 abbrev AreIdle : Script → ℕ → List Event → CoreState → Type 0
-AreIdle play ahead part s = (k : Event) → holds part k ≡ true → IsIdle play ahead k s
+AreIdle play ahead part s = (k : Event) → holds part k ≡ true → IsIdleEvent play ahead k s
 
-idle_too : (play : Script) (ahead : ℕ) (e : Event) (part : List Event) (s : CoreState) → IsIdle play ahead e s → AreIdle play ahead part s → AreIdle play ahead (e ∷ part) s
+idle_too : (play : Script) (ahead : ℕ) (e : Event) (part : List Event) (s : CoreState) → IsIdleEvent play ahead e s → AreIdle play ahead part s → AreIdle play ahead (e ∷ part) s
 idle_too play ahead e part s idle before k held = by k e idle held
   where
-    by : (k e : Event) → IsIdle play ahead e s → (is_event k e || holds part k) ≡ true → IsIdle play ahead k s
+    by : (k e : Event) → IsIdleEvent play ahead e s → (is_event k e || holds part k) ≡ true → IsIdleEvent play ahead k s
     by event.App event.App idle held = idle
     by event.App event.Cull idle held = before event.App held
     by event.App event.Draw idle held = before event.App held
@@ -85,7 +86,7 @@ runs play ahead can free (e ∷ events) part n s t fits unset least gone ran =
         shift (inr many) = inr (omega (arith, many))
     after_move false more unset later = later (e ∷ part) n (omega (arith, more)) (inl more) unset
 
-    by : (held : Bool) → holds_all (e ∷ part) ≡ held → HasGone play ahead part n s → Moves play e s u ⊎ Rests play ahead e s u → Later → Goal held
+    by : (held : Bool) → holds_all (e ∷ part) ≡ held → HasGone play ahead part n s → HasMoved play e s u ⊎ Rests play ahead e s u → Later → Goal held
     by held is gone (inl moves) later = after_move held (omega (arith, least, moves.moves)) (moves.mark ∙ unset) later
     by held is (inl more) (inr rests) later =
         after_move held (subst (λ (v : CoreState). n + 1 ≤ moved v.pipe) (sym rests.same) more)

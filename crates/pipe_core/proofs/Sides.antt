@@ -10,22 +10,23 @@ use Rattle.stage_parts.specs.declared.packets.Packet.{Packet}
 use Rattle.stage_parts.specs.Packets.{is_end, has_end}
 use Rattle.stage_parts.specs.Frames.{frames_of}
 use Rattle.stage_parts.specs.States.{Line, PipeState, still_asked, still_asked_dbase}
-use Rattle.stage_parts.specs.Parts.{passed, end_once}
+use Rattle.stage_parts.specs.Parts.{sent_and_held, end_once}
 use Rattle.stage_parts.specs.Gathering.{IsCounted, IsDrained}
 use Rattle.stage_parts.proofs.Pushes.{passed_bare}
 use Rattle.stage_parts.proofs.Counting.{counting_law}
 use Rattle.pipe_core.specs.declared.events.Event.{Event}
 use Rattle.pipe_core.specs.declared.events.Event.TheVariants as event
-use Rattle.pipe_core.specs.Cores.{CoreState, CanRun, CoreFits, HasEnded, setup_of, one_seat}
-use Rattle.pipe_core.specs.Waits.{IsFull, IsDry, SyncWaits, Waits, IsIdle, shared_of}
+use Rattle.pipe_plays.specs.Plays.{CanRun, setup_of}
+use Rattle.pipe_core.specs.Cores.{CoreState, CoreFits, HasEnded, one_seat}
+use Rattle.pipe_core.specs.Waits.{IsLineFull, IsLineDry, SyncMustWait, MustWait, IsIdleEvent, shared_of}
 use Rattle.pipe_core.proofs.Weights.{weights, asks_weight}
 
 pub never_both : (b : Bool) → b ≡ true → b ≡ false → ⊥
 never_both b is not = absurd (let clash : true ≡ false = sym is ∙ not in cc)
 
 -- while the stop mark is not set, an event changes nothing where its stage has ended or has to wait
-pub ended_or_waits : (play : Script) (ahead : ℕ) (e : Event) (s : CoreState) → s.stopped ≡ false → IsIdle play ahead e s →
-    HasEnded play e s.pipe ⊎ Waits play ahead e s
+pub ended_or_waits : (play : Script) (ahead : ℕ) (e : Event) (s : CoreState) → s.stopped ≡ false → IsIdleEvent play ahead e s →
+    HasEnded play e s.pipe ⊎ MustWait play ahead e s
 ended_or_waits play ahead e s unset (inl (inl ended)) = inl ended
 ended_or_waits play ahead e s unset (inl (inr set)) = absurd (never_both s.stopped set unset)
 ended_or_waits play ahead e s unset (inr waits) = inr waits
@@ -36,7 +37,7 @@ counted play ahead s fits = counting_law (setup_of play ahead) play.dbase one_se
 -- a stage whose link has room for what it holds, and that waits, holds nothing
 pub unheld : (ahead : ℕ) (held : Option Packet) (P : Type 0) (to : Line) →
     ((p : Packet) → held ≡ Some p → length to.sent < length to.taken + (ahead + 1)) →
-    MatchOption held P (λ _. IsFull ahead to) → (held ≡ None) × P
+    MatchOption held P (λ _. IsLineFull ahead to) → (held ≡ None) × P
 unheld ahead None P to room waits = (refl, waits)
 unheld ahead (Some p) P to room waits = absurd (let r = room p refl in omega (arith, r, waits))
 
@@ -59,37 +60,37 @@ pub closed_is_ended : (play : Script) (ahead : ℕ) (s : CoreState) → CoreFits
     s.pipe.app.ended ≡ s.pipe.app.closed
 closed_is_ended play ahead s fits bare =
     let app = fits.pipe.app in
-    app.ended ∙ ap has_end (sym (passed_bare s.pipe.a.sent s.pipe.app.held bare)) ∙ any_end (passed s.pipe.a.sent s.pipe.app.held)
+    app.ended ∙ ap has_end (sym (passed_bare s.pipe.a.sent s.pipe.app.held bare)) ∙ any_end (sent_and_held s.pipe.a.sent s.pipe.app.held)
     ∙ ap (list_any (λ t. t)) app.ends ∙ one_end (frames_of play.channels 0 s.pipe.log) s.pipe.app.closed
 
 -- the cull ends behind the application, where it has nothing to do
 pub cull_ends : (play : Script) (ahead : ℕ) (s : CoreState) → CoreFits play ahead s → s.pipe.app.ended ≡ true →
-    HasEnded play event.Cull s.pipe ⊎ Waits play ahead event.Cull s → s.pipe.cull.ended ≡ true
+    HasEnded play event.Cull s.pipe ⊎ MustWait play ahead event.Cull s → s.pipe.cull.ended ≡ true
 cull_ends play ahead s fits app_ended (inl ended) = ended
 cull_ends play ahead s fits app_ended (inr waits) =
-    let bare = unheld ahead s.pipe.cull.held (IsDry s.pipe.a) s.pipe.b (counted play ahead s fits).room.b waits in
+    let bare = unheld ahead s.pipe.cull.held (IsLineDry s.pipe.a) s.pipe.b (counted play ahead s fits).room.b waits in
     let cull = fits.pipe.cull in
     cull.ended ∙ ap has_end (sym (passed_bare s.pipe.b.sent s.pipe.cull.held bare.0))
-    ∙ ends_alike (passed s.pipe.b.sent s.pipe.cull.held) s.pipe.a.taken cull.ends ∙ ap has_end (sym bare.1) ∙ sym fits.pipe.app.ended ∙ app_ended
+    ∙ ends_alike (sent_and_held s.pipe.b.sent s.pipe.cull.held) s.pipe.a.taken cull.ends ∙ ap has_end (sym bare.1) ∙ sym fits.pipe.app.ended ∙ app_ended
 
 pub draw_ends : (play : Script) (ahead : ℕ) (s : CoreState) → CoreFits play ahead s → s.pipe.cull.ended ≡ true →
-    HasEnded play event.Draw s.pipe ⊎ Waits play ahead event.Draw s → s.pipe.draw.ended ≡ true
+    HasEnded play event.Draw s.pipe ⊎ MustWait play ahead event.Draw s → s.pipe.draw.ended ≡ true
 draw_ends play ahead s fits cull_ended (inl ended) = ended
 draw_ends play ahead s fits cull_ended (inr waits) =
-    let bare = unheld ahead s.pipe.draw.held (IsDry s.pipe.b) s.pipe.c (counted play ahead s fits).room.c waits in
+    let bare = unheld ahead s.pipe.draw.held (IsLineDry s.pipe.b) s.pipe.c (counted play ahead s fits).room.c waits in
     fits.pipe.draw.ended ∙ ap has_end (sym bare.1) ∙ sym fits.pipe.cull.ended ∙ cull_ended
 
 -- CULL and DRAW hold nothing and have nothing to take.
 pub record PassersWait (s : PipeState) : Type 0 where
   pub cull_held : s.cull.held ≡ None
   pub draw_held : s.draw.held ≡ None
-  pub a : IsDry s.a
-  pub b : IsDry s.b
+  pub a : IsLineDry s.a
+  pub b : IsLineDry s.b
 
 -- they do where they change nothing and the application has not ended
 pub passers_wait : (play : Script) (ahead : ℕ) (s : CoreState) → CoreFits play ahead s → s.pipe.app.ended ≡ false →
-    HasEnded play event.Cull s.pipe ⊎ Waits play ahead event.Cull s →
-    HasEnded play event.Draw s.pipe ⊎ Waits play ahead event.Draw s → PassersWait s.pipe
+    HasEnded play event.Cull s.pipe ⊎ MustWait play ahead event.Cull s →
+    HasEnded play event.Draw s.pipe ⊎ MustWait play ahead event.Draw s → PassersWait s.pipe
 passers_wait play ahead s fits alive (inl cull_ended) draw =
     absurd (never_both s.pipe.app.ended ((counted play ahead s fits).ends.cull cull_ended) alive)
 passers_wait play ahead s fits alive (inr cull) (inl draw_ended) =
@@ -97,8 +98,8 @@ passers_wait play ahead s fits alive (inr cull) (inl draw_ended) =
     absurd (never_both s.pipe.app.ended (ends.cull (ends.draw draw_ended)) alive)
 passers_wait play ahead s fits alive (inr cull) (inr draw) =
     let room = (counted play ahead s fits).room in
-    let cull_bare = unheld ahead s.pipe.cull.held (IsDry s.pipe.a) s.pipe.b room.b cull in
-    let draw_bare = unheld ahead s.pipe.draw.held (IsDry s.pipe.b) s.pipe.c room.c draw in
+    let cull_bare = unheld ahead s.pipe.cull.held (IsLineDry s.pipe.a) s.pipe.b room.b cull in
+    let draw_bare = unheld ahead s.pipe.draw.held (IsLineDry s.pipe.b) s.pipe.c room.c draw in
     record { cull_held = cull_bare.0; draw_held = draw_bare.0; a = cull_bare.1; b = draw_bare.1 }
 
 -- The scene can bear the weight
@@ -124,7 +125,7 @@ whole play ahead s fits unset = by s.pipe.app.fault refl
     by (Some n) is = absurd (never_both s.stopped (fits.marked n is) unset)
 
 pub all_written : (play : Script) (ahead : ℕ) (s : CoreState) → CoreFits play ahead s → s.stopped ≡ false → PassersWait s.pipe →
-    s.pipe.app.held ≡ None → IsDry s.pipe.c → s.pipe.app.written ≡ s.pipe.app.frames
+    s.pipe.app.held ≡ None → IsLineDry s.pipe.c → s.pipe.app.written ≡ s.pipe.app.frames
 all_written play ahead s fits unset passers bare dry =
     let drained : IsDrained s.pipe = record {
       app_held = bare;
@@ -147,7 +148,7 @@ may_sync play ahead s can fits =
     }
 
 pub sync_goes : (play : Script) (ahead : ℕ) (s : CoreState) → CanRun play ahead → CoreFits play ahead s → s.stopped ≡ false →
-    PassersWait s.pipe → s.pipe.app.held ≡ None → SyncWaits (shared_of play ahead s) s.pipe → ⊥
+    PassersWait s.pipe → s.pipe.app.held ≡ None → SyncMustWait (shared_of play ahead s) s.pipe → ⊥
 sync_goes play ahead s can fits unset passers bare (inl (dry, behind)) =
     let all = all_written play ahead s fits unset passers bare dry in
     omega (arith, all, behind, can.few_ahead.0)

@@ -9,15 +9,15 @@ use Rattle.play_format.specs.Plays.{Script}
 use Rattle.pf_scene.specs.Scenes.{SceneState, KeepsCopies}
 use Rattle.stage_parts.specs.declared.packets.Packet.{Packet}
 use Rattle.stage_parts.specs.Packets.{LinkPart}
-use Rattle.frame_stages.specs.declared.answers.Did.{Did}
-use Rattle.frame_stages.specs.declared.answers.Did.TheVariants as did
-use Rattle.frame_stages.specs.declared.answers.StageError.{StageError}
-use Rattle.frame_stages.specs.declared.answers.StageError.TheVariants as error
-use Rattle.frame_stages.specs.Answers.{is_over}
-use Rattle.frame_stages.specs.Looks.{log_of}
+use Rattle.stage_parts.specs.declared.answers.Did.{Did}
+use Rattle.stage_parts.specs.declared.answers.Did.TheVariants as did
+use Rattle.stage_parts.specs.declared.answers.StageError.{StageError}
+use Rattle.stage_parts.specs.declared.answers.StageError.TheVariants as error
+use Rattle.stage_parts.specs.Answers.{is_over}
+use Rattle.frame_stages.specs.Looks.{log_of, FoundMark}
 use Rattle.frame_stages.specs.Flights.{SinkSide}
 use Rattle.frame_stages.specs.AppWorks.{AppWork, is_done}
-use Rattle.frame_stages.specs.AppAnswers.{Ends, Around, AppAnswers, Polled, FoundMark}
+use Rattle.frame_stages.specs.AppAnswers.{Ends, Around, AppAnswers, Polled}
 use Rattle.frame_stages.specs.DbaseWorks.{DbaseHolds, is_ended}
 use Rattle.frame_stages.specs.DbaseAnswers.{IsDbaseAnswer}
 use Rattle.pipe_core.specs.declared.events.Event.TheVariants as event

@@ -1,10 +1,8 @@
 -- The core: a pipe on one thread.
 use Rattle.std.specs.Prelude.{◌≡◌, ℕ, ◌≤◌, Bool, true, length, Some}
-use Rattle.pf_history.specs.Asks.{asked_dbase}
-use Rattle.play_format.specs.Plays.{Script, IsPlay}
-use Rattle.pf_scene.specs.Scenes.{IsSmall}
-use Rattle.stage_parts.specs.States.{Setup, Seats, PipeState}
-use Rattle.stage_parts.specs.Pipes.{PipeFits}
+use Rattle.play_format.specs.Plays.{Script}
+use Rattle.stage_parts.specs.States.{Seats, PipeState}
+use Rattle.pipe_plays.specs.Plays.{FitsItsPlay}
 use Rattle.pipe_core.specs.declared.events.Event.{Event}
 use Rattle.pipe_core.specs.declared.events.Event.TheVariants as event
 
@@ -13,31 +11,14 @@ pub record CoreState : Type 0 where
   pub pipe : PipeState
   pub stopped : Bool
 
--- what the application's stage is given of a play, where so many frames may be in flight
-abbrev pub setup_of : Script → ℕ → Setup
-setup_of play ahead =
-    record {
-      lines = play.app;
-      merges = length (asked_dbase play.dbase);
-      lens = play.lens;
-      back = play.back;
-      ahead = ahead;
-      channels = play.channels;
-    }
-
 -- on one thread all stages have the only seat
 abbrev pub one_seat : Seats
 one_seat = record { app = 0; dbase = 0 }
 
--- A play can be run by the core, with so many frames in flight.
-pub record CanRun (play : Script) (ahead : ℕ) : Type 0 where
-  pub is_play : IsPlay play
-  pub few_ahead : IsSmall ahead
-
 -- A core fits its play: its pipe does, the lines passed are among those of their sections, and a fault of the frame sink
 -- has set the stop mark.
 pub record CoreFits (play : Script) (ahead : ℕ) (s : CoreState) : Type 0 where
-  pub pipe : PipeFits (setup_of play ahead) play.dbase one_seat s.pipe
+  pub pipe : FitsItsPlay play ahead one_seat s.pipe
   pub app_lines : s.pipe.app.at ≤ length play.app
   pub dbase_lines : s.pipe.dbase.at ≤ length play.dbase
   pub marked : (n : ℕ) → s.pipe.app.fault ≡ Some n → s.stopped ≡ true

@@ -1,15 +1,10 @@
--- What the rounds of a play come to, and what they say of the frame sink.
-use Rattle.std.specs.Prelude.{◌≡◌, ◌⊎◌, ℕ, ◌≤◌, Bool, true, false, List, [], ◌∷◌, Option, Result, Ok, Err}
+-- What the rounds of a play come to.
+use Rattle.std.specs.Prelude.{◌≡◌, ◌⊎◌, ℕ, ◌≤◌, Bool, true, false, List, [], ◌∷◌, Option}
 use Rattle.std.specs.List.{AllByRecursion}
-use Rattle.pf_io.specs.Causes.{Calm, Rose}
 use Rattle.play_format.specs.Plays.{Script}
 use Rattle.stage_parts.specs.Moves.{moved}
-use Rattle.frame_stages.specs.declared.answers.StageError.{StageError}
-use Rattle.frame_stages.specs.declared.answers.StageError.TheVariants as error
 use Rattle.pipe_core.specs.declared.events.Event.{Event}
 use Rattle.pipe_core.specs.declared.events.Event.TheVariants as event
-use Rattle.pipe_core.specs.declared.played.PlayEnd.{PlayEnd}
-use Rattle.pipe_core.specs.declared.played.PlayEnd.TheVariants as end
 use Rattle.pipe_core.specs.Cores.{CoreState, HaveAllEnded}
 use Rattle.pipe_core.specs.Waits.{IsOver}
 use Rattle.pipe_core.specs.Runs.{Ran}
@@ -35,20 +30,3 @@ pub record ArePolled (play : Script) (ahead : ℕ) (events : List Event) (over :
 pub record HasPlayed (play : Script) (rounds : ℕ) (s : CoreState) : Type 0 where
   pub unset : s.stopped ≡ false
   pub gone : HaveAllEnded play s.pipe ⊎ (rounds ≤ moved s.pipe)
-
--- What an error says of the frame sink: where it is the sink's fault, the count of faults rose, and no byte was written
--- after it; else the count stayed.
-abbrev pub ErrorBlames : StageError → ℕ → ℕ → (at_fault bytes : Option (List ℕ)) → Type 0
-ErrorBlames error.FrameFault before now at_fault bytes = Rose before now × (at_fault ≡ bytes)
-ErrorBlames error.NoMemory before now at_fault bytes = Calm before now
-
--- what an answer says of the frame sink
-abbrev pub Blames : {A : Type 0} → Result A StageError → ℕ → ℕ → (at_fault bytes : Option (List ℕ)) → Type 0
-Blames (Err error) before now at_fault bytes = ErrorBlames error before now at_fault bytes
-Blames (Ok x) before now at_fault bytes = Calm before now
-
--- how a play ended that came to this
-abbrev pub end_of : {A : Type 0} → Result A StageError → PlayEnd
-end_of (Ok x) = end.Done
-end_of (Err error.FrameFault) = end.FrameFault
-end_of (Err error.NoMemory) = end.NoMemory

@@ -4,4 +4,3 @@ pub mod Runs
 pub mod Laws
 pub mod Pipes
 pub mod Hosts
-pub mod Played

@@ -11,12 +11,13 @@ use Rattle.frame_link.specs.declared.list_link.ListLink.{ListLink}
 use Rattle.frame_link.specs.Ends.{list_room, list_sent, list_taken}
 use Rattle.stage_parts.specs.declared.packets.Packet.{Packet}
 use Rattle.stage_parts.specs.Packets.{bytes_in}
+use Rattle.stage_parts.specs.Frames.{RetiresJust}
 use Rattle.stage_parts.specs.Pictures.{streamed}
 use Rattle.stage_parts.specs.States.{Line}
-use Rattle.frame_stages.specs.declared.answers.Did.{Did}
-use Rattle.frame_stages.specs.declared.answers.Did.TheVariants as did
-use Rattle.frame_stages.specs.declared.answers.StageError.{StageError}
-use Rattle.frame_stages.specs.declared.answers.StageError.TheVariants as error
+use Rattle.stage_parts.specs.declared.answers.Did.{Did}
+use Rattle.stage_parts.specs.declared.answers.Did.TheVariants as did
+use Rattle.stage_parts.specs.declared.answers.StageError.{StageError}
+use Rattle.stage_parts.specs.declared.answers.StageError.TheVariants as error
 use Rattle.frame_stages.specs.AppWorks.{AppWork, IsGiven}
 use Rattle.frame_stages.specs.Copies.{HasHome}
 use Rattle.frame_stages.specs.CullWorks.{CullWork, CullKeeps, cull_state}
@@ -24,9 +25,10 @@ use Rattle.frame_stages.specs.Works.{DrawWork}
 use Rattle.frame_stages.specs.DbaseWorks.{DbaseWork, DbaseHolds, dbase_state}
 use Rattle.pipe_core.specs.declared.events.Event.{Event}
 use Rattle.pipe_core.specs.declared.events.Event.TheVariants as event
-use Rattle.pipe_core.specs.Cores.{CoreState, CoreFits, setup_of}
-use Rattle.pipe_core.specs.Waits.{IsOver, Waits}
-use Rattle.pipe_core.specs.Runs.{Moves, Ran}
+use Rattle.pipe_plays.specs.Plays.{setup_of}
+use Rattle.pipe_core.specs.Cores.{CoreState, CoreFits}
+use Rattle.pipe_core.specs.Waits.{IsOver, MustWait}
+use Rattle.pipe_core.specs.Runs.{HasMoved, Ran}
 
 -- A link on one thread: its room, and what was sent and received.
 pub record LinkWork : Type 0 where
@@ -117,8 +119,8 @@ MayFail _ _ = ⊥
 -- wait. Over: it changed nothing, and its stage is over. An error: its stage was not over, no entry was added, and the stop
 -- mark is set.
 abbrev pub Answers : Script → ℕ → Event → Result Did StageError → CoreState → CoreState → Type 0
-Answers play ahead e (Ok did.Did) s t = Moves play e s t
-Answers play ahead e (Ok did.NotYet) s t = (t ≡ s) × (IsOver play e s → ⊥) × Waits play ahead e s
+Answers play ahead e (Ok did.Did) s t = HasMoved play e s t
+Answers play ahead e (Ok did.NotYet) s t = (t ≡ s) × (IsOver play e s → ⊥) × MustWait play ahead e s
 Answers play ahead e (Ok did.Over) s t = (t ≡ s) × IsOver play e s
 Answers play ahead e (Err error) s t =
     (IsOver play e s → ⊥) × MayFail e error × (t.pipe.log ≡ s.pipe.log) × (t.stopped ≡ true)
@@ -129,16 +131,19 @@ polled_caller event.App = Some App
 polled_caller event.Dbase = Some Dbase
 polled_caller _ = None
 
--- an event adds nothing to the history, or one entry, which is of the caller of the stage that it polls
-abbrev pub AddsAtMostOne : Event → Log → Log → Type 0
-AddsAtMostOne e before after =
-    (after ≡ before) ⊎ ((entry : Entry) × (polled_caller e ≡ Some entry.caller) × (after ≡ before ++ (0, entry) ∷ []))
+-- An event adds nothing to the history, or one entry, which is of the caller of the stage that it polls. A Sync retires
+-- just the frames whose pictures are wholly written, as many as these.
+abbrev pub AddsAtMostOne : Event → ℕ → Log → Log → Type 0
+AddsAtMostOne e written before after =
+    (after ≡ before)
+    ⊎ ((entry : Entry) × (polled_caller e ≡ Some entry.caller) × RetiresJust written entry.command
+    × (after ≡ before ++ (0, entry) ∷ []))
 
 -- An event of a pipe that keeps what a pipe of a play keeps: it keeps it, adds at most one entry, and this is what it
 -- answers.
 pub record Lifted (play : Script) (ahead : ℕ) (e : Event) (result : Result Did StageError) (p q : PipeWork) : Type 0 where
   pub keeps : PipeKeeps play ahead q
-  pub adds : AddsAtMostOne e p.scene.shared.log q.scene.shared.log
+  pub adds : AddsAtMostOne e q.app.state.written p.scene.shared.log q.scene.shared.log
   pub answer : Answers play ahead e result (core_of play p) (core_of play q)
 
 -- a link's room, and what was sent over it and received

@@ -6,10 +6,10 @@ use Rattle.stage_parts.specs.Moves.{moved}
 use Rattle.pipe_core.specs.declared.events.Event.{Event}
 use Rattle.pipe_core.specs.declared.events.Event.TheVariants as event
 use Rattle.pipe_core.specs.Cores.{CoreState, CoreFits}
-use Rattle.pipe_core.specs.Waits.{IsOver, IsIdle}
+use Rattle.pipe_core.specs.Waits.{IsOver, IsIdleEvent}
 
 -- An event that did something: its stage is not over, the core moves, and the stop mark is as before.
-pub record Moves (play : Script) (e : Event) (s t : CoreState) : Type 0 where
+pub record HasMoved (play : Script) (e : Event) (s t : CoreState) : Type 0 where
   pub alive : IsOver play e s → ⊥
   pub moves : moved s.pipe < moved t.pipe
   pub mark : t.stopped ≡ s.stopped
@@ -17,12 +17,12 @@ pub record Moves (play : Script) (e : Event) (s t : CoreState) : Type 0 where
 -- An event that changes nothing.
 pub record Rests (play : Script) (ahead : ℕ) (e : Event) (s t : CoreState) : Type 0 where
   pub same : t ≡ s
-  pub idle : IsIdle play ahead e s
+  pub idle : IsIdleEvent play ahead e s
 
 -- The core after an event that answered no error: it fits, and the event did something, or changed nothing.
 pub record Steps (play : Script) (ahead : ℕ) (e : Event) (s t : CoreState) : Type 0 where
   pub fits : CoreFits play ahead t
-  pub step : Moves play e s t ⊎ Rests play ahead e s t
+  pub step : HasMoved play e s t ⊎ Rests play ahead e s t
 
 -- The core after events of which none answered an error.
 abbrev pub Ran : Script → ℕ → List Event → CoreState → CoreState → Type 0

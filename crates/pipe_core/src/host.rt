@@ -1,5 +1,5 @@
 //! A whole play on one thread: rounds of events until all stages are over.
-ghost use Rattle.std.specs.Prelude.{◌≡◌, ◌≢◌, ◌↔◌, ℕ, ◌+◌, ◌*◌, ◌≤◌, IsTrue, false, IfOk, OnOk};
+ghost use Rattle.std.specs.Prelude.{◌≡◌, ◌≢◌, ◌↔◌, ℕ, ◌+◌, ◌*◌, ◌≤◌, IsTrue, true, false, IfOk, OnOk};
 ghost use Rattle.std.specs.List.{concat};
 ghost use Rattle.std.specs.Io.KnownBytes.{append_known};
 ghost use Rattle.pf_io.specs.Causes.{Calm, Rose};
@@ -8,19 +8,22 @@ ghost use Rattle.pf_history.specs.Fits.{FitsPlay, FitsWholly};
 ghost use Rattle.play_format.specs.Plays.{Script, IsPlay};
 ghost use Rattle.play_check.specs.Stuck.{IsStuck};
 ghost use Rattle.stage_parts.specs.Pictures.{pictures, frame_numbers};
-ghost use Rattle.pipe_core.specs.Cores.{CanRun, HaveAllEnded};
+ghost use Rattle.pipe_plays.specs.Plays.{CanRun};
+ghost use Rattle.pipe_core.specs.Cores.{HaveAllEnded};
 ghost use Rattle.pipe_core.specs.Laws.{steps_in};
 ghost use Rattle.pipe_core.specs.Pipes.{core_of, PipeKeeps};
-ghost use Rattle.pipe_core.specs.Hosts.{all_events, GoesOn, ArePolled, Blames, end_of};
-ghost use Rattle.pipe_core.specs.Played.{AddsFront};
+ghost use Rattle.pipe_plays.specs.Played.{AddsFront, KeepsNumbers, Blames};
+ghost use Rattle.pipe_core.specs.Hosts.{all_events, GoesOn, ArePolled};
 
 use crate::events::Event;
-use crate::laws::the_stream_shows_the_history;
 use crate::pipe::Pipe;
-use crate::played::{PlayEnd, Played};
 use frame_stages::{Did, StageError};
 use pf_history::History;
-use pf_io::{Failed, Gate, NoMemory, Sink};
+use pf_io::{Gate, NoMemory, Sink};
+use pipe_plays::laws::{
+    a_pipe_shows_its_history, a_play_leaves_its_history, a_play_not_begun_leaves_nothing,
+};
+use pipe_plays::{PlayEnd, Played, flush_frames};
 use play_format::Play;
 use std::alloc::Global;
 use std::thread::Threads;
@@ -100,17 +103,6 @@ fn rounds<R: Threads + Sync, O: Sink, G: Gate>(
     Ok(())
 }
 
-/// Flushes the frame sink.
-fn flush<O: Sink>(frames: &mut O) -> Result<(), StageError>
-    ensures bytes { O.written frames.new ≡ O.written frames.old }
-    ensures blames { Blames result (O.faults frames.old) (O.faults frames.new) (O.at_fault frames.new) (O.written frames.new) }
-{
-    match frames.flush() {
-        Ok(()) => Ok(()),
-        Err(Failed) => Err(StageError::FrameFault),
-    }
-}
-
 /// Plays to the end, or to the first error; at the end it flushes the sink.
 fn run<R: Threads + Sync, O: Sink, G: Gate>(
     pipe: &mut Pipe,
@@ -124,21 +116,11 @@ fn run<R: Threads + Sync, O: Sink, G: Gate>(
     ensures ended { (play : Script) (ahead : ℕ) → CanRun play ahead → (IsStuck play.app play.dbase → ⊥)
         → PipeKeeps play ahead pipe.old → (core_of play pipe.old).stopped ≡ false → 16 * (steps_in play + 1) ≤ most
         → OnOk result (HaveAllEnded play (core_of play pipe.new).pipe) }
+    ensures flushed { OnOk result (O.flushed frames.new ≡ true) }
     ensures blames { Blames result (O.faults frames.old) (O.faults frames.new) (O.at_fault frames.new) (O.written frames.new) }
 {
     rounds(pipe, rt, most, frames, gate)?;
-    flush(frames)
-}
-
-/// How a play ended that came to this.
-fn ended(came: Result<(), StageError>) -> PlayEnd
-    ensures { result ≡ end_of came }
-{
-    match came {
-        Ok(()) => PlayEnd::Done,
-        Err(StageError::FrameFault) => PlayEnd::FrameFault,
-        Err(StageError::NoMemory) => PlayEnd::NoMemory,
-    }
+    flush_frames(frames)
 }
 
 /// So many rounds end each play that is not stuck.
@@ -176,19 +158,27 @@ pub fn play_all<R: Threads + Sync, O: Sink, G: Gate>(
     ensures stats { result.end ≡ PlayEnd.Done
         → result.stats.items ≡ frame_numbers play.channels play.lens result.history.entries }
 
+    // Whatever the end, the numbers are those of the frames that came back: the first of the history's.
+    ensures numbers { KeepsNumbers play result.history.entries result.stats.items (O.written frames.old) (O.written frames.new) }
+
+    // Where it is done, the last call on the sink was a flush that succeeded.
+    ensures flushed { result.end ≡ PlayEnd.Done → O.flushed frames.new ≡ true }
+
     // Causes.
     ensures fault { result.end ≡ PlayEnd.FrameFault → Rose (O.faults frames.old) (O.faults frames.new) }
     ensures last { result.end ≡ PlayEnd.FrameFault → O.at_fault frames.new ≡ O.written frames.new }
     ensures calm { result.end ≢ PlayEnd.FrameFault → Calm (O.faults frames.old) (O.faults frames.new) }
 {
-    the_stream_shows_the_history();
+    a_pipe_shows_its_history();
+    a_play_leaves_its_history();
+    a_play_not_begun_leaves_nothing();
     let most = most_rounds(&play);
     match Pipe::new(alloc, play, ahead) {
         Ok(mut pipe) => {
             let came = run(&mut pipe, rt, most, frames, gate);
             let (history, stats) = pipe.into_parts();
             Played {
-                end: ended(came),
+                end: PlayEnd::of(came),
                 history,
                 stats,
             }

@@ -1,7 +1,7 @@
 //! Laws of the core, each the contract of a call that does nothing.
 ghost use Rattle.pipe_core.specs.Laws.{ProgressLaw, BoundLaw, RunLaw, CuttingLaw, ShownLaw, FreedInPipeLaw};
 
-use cull_walk::laws::culling_keeps_the_picture;
+use pipe_plays::laws::{a_pipe_shows_its_history, freed_serials_are_written};
 
 /// The core makes progress: where no event has set the stop mark and each of the four changes nothing, all stages have
 /// ended, or the play is stuck.
@@ -30,10 +30,12 @@ pub fn rounds_are_most()
 pub fn the_stream_shows_the_history()
     ensures { ShownLaw }
 {
-    culling_keeps_the_picture();
+    a_pipe_shows_its_history();
 }
 
 /// A serial that a Sync freed stands in no frame but those that it retired, whose pictures were wholly written.
 pub fn freed_serials_are_delivered()
     ensures { FreedInPipeLaw }
-{}
+{
+    freed_serials_are_written();
+}

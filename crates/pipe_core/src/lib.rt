@@ -8,9 +8,8 @@ pub mod laws;
 mod legal;
 mod parts;
 mod pipe;
-mod played;
 
 pub use events::Event;
 pub use host::play_all;
 pub use pipe::Pipe;
-pub use played::{PlayEnd, Played};
+pub use pipe_plays::{PlayEnd, Played};

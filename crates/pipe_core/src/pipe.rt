@@ -1,11 +1,10 @@
 //! The pipe on one thread.
-ghost use Rattle.std.specs.Prelude.{◌≡◌, ℕ, ◌+◌, ◌≤◌, false, [], length, Err, IfOk, OnOk, IfErr};
+ghost use Rattle.std.specs.Prelude.{◌≡◌, ℕ, ◌+◌, ◌≤◌, false, [], Err, IfOk, OnOk, IfErr};
 ghost use Rattle.pf_io.specs.Causes.{Rose, Calm};
-ghost use Rattle.pf_history.specs.Asks.{asked_dbase};
 ghost use Rattle.play_format.specs.Plays.{Script};
 ghost use Rattle.pf_scene.specs.Scenes.{IsSmall};
-ghost use Rattle.frame_stages.specs.declared.answers.StageError.TheVariants as error;
-ghost use Rattle.pipe_core.specs.Cores.{CanRun};
+ghost use Rattle.stage_parts.specs.declared.answers.StageError.TheVariants as error;
+ghost use Rattle.pipe_plays.specs.Plays.{CanRun};
 ghost use Rattle.pipe_core.specs.Runs.{Ran};
 ghost use Rattle.pipe_core.specs.Pipes.{core_of, PipeKeeps, Lifted, IsWritten, AppLifted, FailsAt, link_work, opening_link, opening_scene};
 ghost use Rattle.pipe_core.specs.declared.events.Event.TheVariants as event;
@@ -18,8 +17,8 @@ use frame_link::ListLink;
 use frame_stages::{AppStage, CullStage, DbaseStage, Did, DrawStage, Packet, StageError};
 use pf_history::History;
 use pf_io::{FreeGate, Gate, NoMemory, Sink};
-use pf_model::{BaseLine, BaseStep};
 use pf_scene::Scene;
+use pipe_plays::count_merges;
 use play_format::Play;
 use seat_lock::{Desk, PlainDesk};
 use std::alloc::Global;
@@ -56,20 +55,6 @@ impl Model for Pipe {
       b = link_work p.to_draw;
       c = link_work p.back;
     } };
-}
-
-/// The number of merges that a section asks for.
-fn count_merges(dbase: &[BaseLine]) -> u32
-    requires steps { length dbase.now ≤ 262144 }
-    ensures { result ≡ length (asked_dbase dbase.now) }
-{
-    let mut merges = 0;
-    for line in dbase {
-        if let BaseStep::Merge = &line.step {
-            merges += 1;
-        }
-    }
-    merges
 }
 
 /// A link, through which nothing went, with room for one packet more than so many frames.

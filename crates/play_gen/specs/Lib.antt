@@ -1,3 +1,4 @@
 pub mod Draws
 pub mod Lines
 pub mod Texts
+pub mod Laws

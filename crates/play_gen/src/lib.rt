@@ -2,11 +2,13 @@
 #![tactic(auto)]
 
 mod draws;
+mod laws;
 mod lines;
 mod making;
 mod texts;
 
-pub use making::{each_text_has_a_reading, make_play};
+pub use laws::{each_play_can_end, each_text_has_a_reading};
+pub use making::make_play;
 
 #[cfg(test)]
 mod tests;

@@ -1,6 +1,6 @@
 //! The play of a generated text.
-ghost use Rattle.std.specs.Prelude.{ℕ, ◌≤◌, IfOk};
-ghost use Rattle.play_format.specs.Reads.{Reads, HasReading};
+ghost use Rattle.std.specs.Prelude.{◌≤◌, IfOk};
+ghost use Rattle.play_format.specs.Reads.{Reads};
 ghost use Rattle.play_gen.specs.Lines.{generated_text};
 
 use crate::texts::generated_text;
@@ -24,8 +24,3 @@ pub fn make_play(alloc: Global, n: u32) -> Result<Play, NoMemory>
         Err(ParseError::Refused(_)) => unreachable!(),
     }
 }
-
-/// The text of each generated play is one of a play.
-pub fn each_text_has_a_reading()
-    ensures { (n : ℕ) → 1 ≤ n → n ≤ 256 → HasReading (generated_text n) }
-{}

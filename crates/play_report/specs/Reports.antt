@@ -5,7 +5,8 @@ use Rattle.pf_history.specs.Commands.{is_frame, is_merge}
 use Rattle.pf_history.specs.Logs.{Log, how_many}
 use Rattle.draw_list.specs.declared.stats.Stats.{Stats}
 use Rattle.play_report.specs.Entries.{entry_texts}
-use Rattle.play_report.specs.Frames.{summed, frame_texts, stats_of_frames}
+use Rattle.stage_parts.specs.Pictures.{sums}
+use Rattle.play_report.specs.Frames.{frame_texts, stats_of_frames}
 
 -- a line for each entry, and then one for each frame, with these numbers
 abbrev pub report_text : Log → List Stats → List ℕ
@@ -20,8 +21,8 @@ report lens channels log = report_text log (stats_of_frames lens channels log)
 abbrev pub summary_text : ℕ → Log → List Stats → ℕ → List ℕ
 summary_text made log stats sum =
     codes "made " ++ decimal made ++ codes " frames " ++ decimal (how_many is_frame log)
-    ++ codes " merges " ++ decimal (how_many is_merge log) ++ codes " shown " ++ decimal (summed stats).shown
-    ++ codes " states " ++ decimal (summed stats).states ++ codes " visited " ++ decimal (summed stats).visited
+    ++ codes " merges " ++ decimal (how_many is_merge log) ++ codes " shown " ++ decimal (sums stats).shown
+    ++ codes " states " ++ decimal (sums stats).states ++ codes " visited " ++ decimal (sums stats).visited
     ++ codes " sum " ++ decimal sum ++ codes "\n"
 
 -- the summary of a log, through this lens and with so many channels

@@ -1,6 +1,7 @@
 //! The lines of frames, and sums of their numbers.
 ghost use Rattle.std.specs.Prelude.{◌≡◌, ◌+◌, ◌^◌, ◌<◌, ◌++◌, OnOk};
-ghost use Rattle.play_report.specs.Frames.{summed, frame_text, frame_texts};
+ghost use Rattle.stage_parts.specs.Pictures.{sums};
+ghost use Rattle.play_report.specs.Frames.{frame_text, frame_texts};
 
 use crate::numbers::append_labelled;
 use draw_list::Stats;
@@ -58,9 +59,9 @@ impl Totals {
 
 /// Sums the numbers of frames.
 pub(crate) fn sum_of(stats: &[Stats]) -> Totals
-    ensures shown { result.shown ≡ (summed stats.now).shown }
-    ensures states { result.states ≡ (summed stats.now).states }
-    ensures visited { result.visited ≡ (summed stats.now).visited }
+    ensures shown { result.shown ≡ (sums stats.now).shown }
+    ensures states { result.states ≡ (sums stats.now).states }
+    ensures visited { result.visited ≡ (sums stats.now).visited }
 {
     let mut totals = Totals {
         shown: 0,

@@ -22,7 +22,7 @@ use Rattle.stage_parts.specs.Packets.{is_end, loads_in, bytes_in}
 use Rattle.stage_parts.specs.Frames.{frames_of, cut_of_frame, retired_after, last_sync}
 use Rattle.stage_parts.specs.Pictures.{streamed}
 use Rattle.stage_parts.specs.States.{Setup, AppState, still_asked}
-use Rattle.stage_parts.specs.Parts.{passed, end_once, cut_short, AppPart, LoadPart, AppKeeps}
+use Rattle.stage_parts.specs.Parts.{sent_and_held, end_once, cut_short, AppPart, LoadPart, AppKeeps}
 use Rattle.stage_parts.specs.Steps.{next_frame}
 use Rattle.stage_parts.specs.AppSteps.{IsOwnTurn, AppLaw}
 use Rattle.stage_parts.proofs.Sizes.{each_push}
@@ -278,7 +278,7 @@ closes g seat a log taken sent stream keeps e is_sync bare closed all some is =
     let last = turn.last ∙ ap (retired_after (last_sync (turns_at g.channels seat App log))) is_sync in
     let same = no_frame g seat log e (ap is_frame is_sync) in
     let unheld = passed_bare sent a.held bare in
-    let same_loads : loads_in (sent ++ End ∷ []) ≡ loads_in (passed sent a.held) = loads_end sent ∙ ap loads_in (sym unheld) in
+    let same_loads : loads_in (sent ++ End ∷ []) ≡ loads_in (sent_and_held sent a.held) = loads_end sent ∙ ap loads_in (sym unheld) in
     let frames = frames_of g.channels seat log in
     record {
       follows = turn.follows;

@@ -12,7 +12,7 @@ use Rattle.stage_parts.specs.Loads.{LoadState}
 use Rattle.stage_parts.specs.Packets.{is_end, has_end, loads_in, LinkPart}
 use Rattle.stage_parts.specs.Frames.{frames_of, cut_of_frame}
 use Rattle.stage_parts.specs.States.{Setup, Seats, PipeState}
-use Rattle.stage_parts.specs.Parts.{passed, end_once, cut_short, carried, kept}
+use Rattle.stage_parts.specs.Parts.{sent_and_held, end_once, cut_short, carried, kept}
 use Rattle.stage_parts.specs.Pipes.{PipeFits}
 use Rattle.stage_parts.specs.Gathering.{StateAgrees, LinksHaveRoom, EndsFollow, IsDrained, AllCameBack, CountingLaw}
 use Rattle.stage_parts.proofs.Places.{front_of}
@@ -36,30 +36,30 @@ one_end : (closed : Bool) → length (end_once closed) ≤ 1
 one_end true = omega arith
 one_end false = omega arith
 
-held_one : (sent : List Packet) (held : Option Packet) (p : Packet) → held ≡ Some p → length (passed sent held) ≡ length sent + 1
-held_one sent held p is = ap (λ (h : Option Packet). length (passed sent h)) is ∙ length_push sent p
+held_one : (sent : List Packet) (held : Option Packet) (p : Packet) → held ≡ Some p → length (sent_and_held sent held) ≡ length sent + 1
+held_one sent held p is = ap (λ (h : Option Packet). length (sent_and_held sent h)) is ∙ length_push sent p
 
-pub held_some : (sent : List Packet) (held : Option Packet) → length sent ≤ length (passed sent held)
+pub held_some : (sent : List Packet) (held : Option Packet) → length sent ≤ length (sent_and_held sent held)
 held_some sent held = let long = length-append sent (option_to_list held) in omega (arith, long)
 
 -- How many packets and loads are where.
 pub record AreMany (g : Setup) (s : PipeState) : Type 0 where
-  pub a : length (passed s.a.sent s.app.held) ≤ s.app.frames + 1
+  pub a : length (sent_and_held s.a.sent s.app.held) ≤ s.app.frames + 1
   pub a_taken : length s.a.taken ≤ length s.a.sent
-  pub b : length (passed s.b.sent s.cull.held) ≡ length s.a.taken
+  pub b : length (sent_and_held s.b.sent s.cull.held) ≡ length s.a.taken
   pub b_taken : length s.b.taken ≤ length s.b.sent
-  pub c : length (passed s.c.sent s.draw.held) ≡ length (loads_in s.b.taken)
+  pub c : length (sent_and_held s.c.sent s.draw.held) ≡ length (loads_in s.b.taken)
   pub c_taken : length s.c.taken ≤ length s.c.sent
-  pub all_loads : length (loads_in (passed s.a.sent s.app.held)) ≡ s.app.frames
-  pub b_loads : length (loads_in (passed s.b.sent s.cull.held)) ≡ length (loads_in s.a.taken)
+  pub all_loads : length (loads_in (sent_and_held s.a.sent s.app.held)) ≡ s.app.frames
+  pub b_loads : length (loads_in (sent_and_held s.b.sent s.cull.held)) ≡ length (loads_in s.a.taken)
   pub loads : length (loads_in s.b.taken) ≤ s.app.frames
 
 pub are_many : (g : Setup) (dbase : List BaseLine) (seats : Seats) (s : PipeState) → PipeFits g dbase seats s → AreMany g s
 are_many g dbase seats s fits =
     let frames = frames_of g.channels seats.app s.log in
-    let sent_a = passed s.a.sent s.app.held in
-    let sent_b = passed s.b.sent s.cull.held in
-    let sent_c = passed s.c.sent s.draw.held in
+    let sent_a = sent_and_held s.a.sent s.app.held in
+    let sent_b = sent_and_held s.b.sent s.cull.held in
+    let sent_c = sent_and_held s.c.sent s.draw.held in
     let long : length sent_a ≡ length frames + length (end_once s.app.closed) =
     sym (length-map sent_a is_end) ∙ ap length fits.app.ends ∙ length-append (map (λ (_ : Cutting). false) frames) (end_once s.app.closed)
     ∙ ap (λ n. n + length (end_once s.app.closed)) (length-map frames (λ (_ : Cutting). false)) in
@@ -172,13 +172,13 @@ ends_follow : (g : Setup) (dbase : List BaseLine) (seats : Seats) (s : PipeState
 ends_follow g dbase seats s fits =
     record {
       app = λ ended.
-          sym (ends_set (passed s.a.sent s.app.held) ∙ ap any_set fits.app.ends
+          sym (ends_set (sent_and_held s.a.sent s.app.held) ∙ ap any_set fits.app.ends
           ∙ none_before (frames_of g.channels seats.app s.log) s.app.closed)
           ∙ end_later s.a.sent (option_to_list s.app.held) (sym fits.app.ended ∙ ended);
       cull = λ ended.
           fits.app.ended
           ∙ end_sent s.a.sent s.a.taken fits.link_a
-          (ends_set s.a.taken ∙ ap any_set (sym fits.cull.ends) ∙ sym (ends_set (passed s.b.sent s.cull.held))
+          (ends_set s.a.taken ∙ ap any_set (sym fits.cull.ends) ∙ sym (ends_set (sent_and_held s.b.sent s.cull.held))
           ∙ end_later s.b.sent (option_to_list s.cull.held) (sym fits.cull.ended ∙ ended));
       draw = λ ended. fits.cull.ended ∙ end_sent s.b.sent s.b.taken fits.link_b (sym fits.draw.ended ∙ ended);
       back = λ closed. let late = fits.app.late closed in omega (arith, late, fits.stream.all, fits.stream.begun);
@@ -191,10 +191,10 @@ all_back g dbase seats s fits is =
     let sent_b = passed_bare s.b.sent s.cull.held is.cull_held in
     let sent_c = passed_bare s.c.sent s.draw.held is.draw_held in
     let app : has_end s.a.sent ≡ s.app.closed =
-    ap has_end (sym sent_a) ∙ ends_set (passed s.a.sent s.app.held) ∙ ap any_set fits.app.ends
+    ap has_end (sym sent_a) ∙ ends_set (sent_and_held s.a.sent s.app.held) ∙ ap any_set fits.app.ends
     ∙ none_before (frames_of g.channels seats.app s.log) s.app.closed in
     let cull : has_end s.b.sent ≡ s.app.closed =
-    ap has_end (sym sent_b) ∙ ends_set (passed s.b.sent s.cull.held) ∙ ap any_set fits.cull.ends ∙ sym (ends_set s.a.taken)
+    ap has_end (sym sent_b) ∙ ends_set (sent_and_held s.b.sent s.cull.held) ∙ ap any_set fits.cull.ends ∙ sym (ends_set s.a.taken)
     ∙ ap has_end is.a ∙ app in
     let back : length s.c.taken ≡ s.app.frames =
     ap length is.c ∙ ap length (sym sent_c) ∙ many.c ∙ ap (λ (ps : List Packet). length (loads_in ps)) (is.b ∙ sym sent_b)

@@ -11,7 +11,7 @@ use Rattle.stage_parts.specs.declared.packets.Packet.TheVariants.{Frame, End}
 use Rattle.stage_parts.specs.Loads.{LoadState, Each, HasRoomFor}
 use Rattle.stage_parts.specs.Packets.{is_end, loads_in, copy_at}
 use Rattle.stage_parts.specs.States.{CullState}
-use Rattle.stage_parts.specs.Parts.{passed, Carried, carried, passed_on, CanCull, IsCulled, AreCulled, CullPart}
+use Rattle.stage_parts.specs.Parts.{sent_and_held, Carried, carried, passed_on, CanCull, IsCulled, AreCulled, CullPart}
 use Rattle.stage_parts.specs.Steps.{CanCullNext, Culls, CullLaw}
 use Rattle.stage_parts.proofs.Places.{get_length}
 use Rattle.stage_parts.proofs.Pushes.{loads_push, loads_end, has_end_push, passed_same, passed_bare, get_push, whole_copy, copy_whole, whole_push, copy_push, copy_front, passed_on_push, passed_on_length}
@@ -115,7 +115,7 @@ cull_ends : (lens : Lens) (c : CullState) (taken sent : List Packet) → CullPar
     CullPart lens (record c { held = Some End }) (taken ++ End ∷ []) sent
 cull_ends lens c taken sent part none =
     let bare = passed_bare sent c.held none in
-    let same_loads : loads_in (sent ++ End ∷ []) ≡ loads_in (passed sent c.held) = loads_end sent ∙ ap loads_in (sym bare) in
+    let same_loads : loads_in (sent ++ End ∷ []) ≡ loads_in (sent_and_held sent c.held) = loads_end sent ∙ ap loads_in (sym bare) in
     record {
       loads = ap (map carried) same_loads ∙ part.loads ∙ ap (passed_on empty_scene.nodes) (sym (loads_end taken));
       ends =

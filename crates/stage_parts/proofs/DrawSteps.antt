@@ -8,7 +8,7 @@ use Rattle.stage_parts.specs.Loads.{LoadState, AreImages}
 use Rattle.stage_parts.specs.Packets.{has_end, loads_in}
 use Rattle.stage_parts.specs.Pictures.{painted}
 use Rattle.stage_parts.specs.States.{DrawState}
-use Rattle.stage_parts.specs.Parts.{passed, Kept, kept, ArePainted, DrawPart}
+use Rattle.stage_parts.specs.Parts.{sent_and_held, Kept, kept, ArePainted, DrawPart}
 use Rattle.stage_parts.specs.Steps.{Draws, DrawLaw}
 use Rattle.stage_parts.proofs.Places.{get_length}
 use Rattle.stage_parts.proofs.Pushes.{loads_push, loads_end, has_end_push, passed_same, passed_bare, get_push}
@@ -65,7 +65,7 @@ draw_ends lens back d taken sent part =
       ends = part.ends;
       ended = sym (has_end_push taken End ∙ or_true (has_end taken));
       painted =
-          subst (λ (ls : List LoadState). ArePainted lens back ls (loads_in (passed sent d.held))) (sym (loads_end taken)) part.painted;
+          subst (λ (ls : List LoadState). ArePainted lens back ls (loads_in (sent_and_held sent d.held))) (sym (loads_end taken)) part.painted;
     }
   where
     or_true : (t : Bool) → (t || true) ≡ true

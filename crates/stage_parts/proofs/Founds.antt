@@ -22,14 +22,14 @@ use Rattle.stage_parts.specs.Frames.{frames_from}
 use Rattle.stage_parts.specs.Laws.{HasEditsInRange}
 use Rattle.stage_parts.proofs.Places.{all_take}
 
-frame_by_app : (caller : Caller) (c : Command) → caller ≡ caller_of c → is_frame c ≡ true → is_caller App caller ≡ true
+pub frame_by_app : (caller : Caller) (c : Command) → caller ≡ caller_of c → is_frame c ≡ true → is_caller App caller ≡ true
 frame_by_app caller (command.Edit e) same is = absurd (cc)
 frame_by_app caller (command.Merge m) same is = absurd (cc)
 frame_by_app caller (command.View channel v) same is = absurd (cc)
 frame_by_app caller (command.Sync r) same is = absurd (cc)
 frame_by_app caller command.Frame same is = ap (is_caller App) same
 
-both : (a b : Bool) → a ≡ true → b ≡ true → (a && b) ≡ true
+pub both : (a b : Bool) → a ≡ true → b ≡ true → (a && b) ≡ true
 both true b one other = other
 both false b one other = absurd (cc)
 

@@ -15,3 +15,4 @@ pub mod Gathering
 pub mod Counting
 pub mod DbaseSteps
 pub mod Moves
+pub mod Numbers

@@ -1,5 +1,5 @@
 -- Elements of lists by their places.
-use Rattle.std.proofs.Common.{◌≡◌, ℕ, zero, suc, ◌≤◌, List, [], ◌∷◌, ◌++◌, map, take, length, slice_get, Some, refl, sym, ap, ◌∙◌, arith}
+use Rattle.std.proofs.Common.{◌≡◌, ℕ, zero, suc, ◌≤◌, List, [], ◌∷◌, ◌++◌, map, take, length, slice_get, Some, refl, sym, ap, ◌∙◌, subst, arith}
 use Rattle.std.proofs.lemmas.Option.{same_Some}
 use Rattle.std.specs.List.{AllByRecursion, flat_map}
 use Rattle.stage_parts.specs.Loads.{Each}
@@ -96,3 +96,8 @@ pub all_take : {X : Type 0} (P : X → Type 0) (n : ℕ) (xs : List X) → AllBy
 all_take P zero xs h = tt
 all_take P (suc n) [] h = tt
 all_take P (suc n) (x ∷ xs) h = (h.0, all_take P n xs h.1)
+
+pub all_each : {X : Type 0} (P : X → Type 0) (xs : List X) → AllByRecursion P xs → Each P xs
+all_each P [] h i x at = absurd (cc)
+all_each P (y ∷ xs) h zero x at = subst P (same_Some y x at) h.0
+all_each P (y ∷ xs) h (suc i) x at = all_each P xs h.1 i x at

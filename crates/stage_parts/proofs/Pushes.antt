@@ -9,7 +9,7 @@ use Rattle.stage_parts.specs.declared.packets.Packet.{Packet}
 use Rattle.stage_parts.specs.declared.packets.Packet.TheVariants.{Frame, End}
 use Rattle.stage_parts.specs.Loads.{LoadState}
 use Rattle.stage_parts.specs.Packets.{is_end, has_end, loads_in, updates_in, copy_at}
-use Rattle.stage_parts.specs.Parts.{passed, handed_back, passed_on}
+use Rattle.stage_parts.specs.Parts.{sent_and_held, handed_back, passed_on}
 use Rattle.stage_parts.proofs.Sent.{loads_append}
 
 pub loads_push : (ps : List Packet) (l : LoadState) → loads_in (ps ++ Frame l ∷ []) ≡ loads_in ps ++ l ∷ []
@@ -31,12 +31,12 @@ has_end_push (q ∷ ps) p = by (is_end q) (has_end_push ps p)
     by false rest = rest
 
 -- what is held is sent
-pub passed_same : (sent : List Packet) (p : Packet) (held : Option Packet) → held ≡ Some p → passed (sent ++ p ∷ []) None ≡ passed sent held
-passed_same sent p held same = append-nil (sent ++ p ∷ []) ∙ ap (passed sent) (sym same)
+pub passed_same : (sent : List Packet) (p : Packet) (held : Option Packet) → held ≡ Some p → sent_and_held (sent ++ p ∷ []) None ≡ sent_and_held sent held
+passed_same sent p held same = append-nil (sent ++ p ∷ []) ∙ ap (sent_and_held sent) (sym same)
 
 -- nothing is held
-pub passed_bare : (sent : List Packet) (held : Option Packet) → held ≡ None → passed sent held ≡ sent
-passed_bare sent held none = ap (passed sent) none ∙ append-nil sent
+pub passed_bare : (sent : List Packet) (held : Option Packet) → held ≡ None → sent_and_held sent held ≡ sent
+passed_bare sent held none = ap (sent_and_held sent) none ∙ append-nil sent
 
 -- where an element of a list with one more stands
 pub get_push : {X : Type 0} (xs : List X) (x : X) (i : ℕ) (y : X) → slice_get (xs ++ x ∷ []) i ≡ Some y →

@@ -44,7 +44,7 @@ and_false : (t : Bool) → (t && false) ≡ false
 and_false true = refl
 and_false false = refl
 
-frames_none : (seat : ℕ) (ids : List ℕ) (s : FrameState) (log : Log) → AllByRecursion (λ e. is_at seat App e ≡ false) log →
+pub frames_none : (seat : ℕ) (ids : List ℕ) (s : FrameState) (log : Log) → AllByRecursion (λ e. is_at seat App e ≡ false) log →
     frames_from seat ids s log ≡ []
 frames_none seat ids s [] others = refl
 frames_none seat ids s (e ∷ es) others =

@@ -7,7 +7,7 @@ use Rattle.stage_parts.specs.declared.packets.Packet.{Packet}
 use Rattle.stage_parts.specs.declared.packets.Packet.TheVariants.{Frame, End}
 use Rattle.stage_parts.specs.Loads.{LoadState}
 use Rattle.stage_parts.specs.Packets.{is_end, has_end, loads_in, bytes_in, LinkPart}
-use Rattle.stage_parts.specs.Parts.{passed}
+use Rattle.stage_parts.specs.Parts.{sent_and_held}
 
 pub loads_append : (xs ys : List Packet) → loads_in (xs ++ ys) ≡ loads_in xs ++ loads_in ys
 loads_append [] ys = refl
@@ -25,7 +25,7 @@ loads_front (suc n) (End ∷ ps) i l at = loads_front n ps i l at
 
 -- a load that was received is one that was sent, at the same place
 pub sent_load : (sent taken : List Packet) (held : Option Packet) → LinkPart sent taken → (i : ℕ) (l : LoadState) →
-    slice_get (loads_in taken) i ≡ Some l → slice_get (loads_in (passed sent held)) i ≡ Some l
+    slice_get (loads_in taken) i ≡ Some l → slice_get (loads_in (sent_and_held sent held)) i ≡ Some l
 sent_load sent taken held link i l at =
     let in_front = subst (λ (ps : List Packet). slice_get (loads_in ps) i ≡ Some l) link.front at in
     let in_sent = loads_front (length taken) sent i l in_front in
@@ -40,7 +40,7 @@ ends_front (suc n) (p ∷ ps) qs none =
     or_from (is_end p) (has_end (take n ps)) parts.0 (ends_front n ps qs parts.1)
 
 -- where no End was sent, none was received
-pub no_end_taken : (sent taken : List Packet) (held : Option Packet) → LinkPart sent taken → has_end (passed sent held) ≡ false →
+pub no_end_taken : (sent taken : List Packet) (held : Option Packet) → LinkPart sent taken → has_end (sent_and_held sent held) ≡ false →
     has_end taken ≡ false
 no_end_taken sent taken held link none =
     subst (λ (ps : List Packet). has_end ps ≡ false) (sym link.front) (ends_front (length taken) sent (option_to_list held) none)

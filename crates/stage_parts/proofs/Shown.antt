@@ -12,7 +12,7 @@ use Rattle.tri_cover.specs.Picture.{picture}
 use Rattle.tri_cover.proofs.Alike.{one_picture}
 use Rattle.draw_list.specs.Lists.{Drawables, instances_in}
 use Rattle.draw_list.specs.Shown.{draw_list}
-use Rattle.stage_parts.specs.Pictures.{drawn, painted}
+use Rattle.stage_parts.specs.Pictures.{picture_of_list, painted}
 use Rattle.stage_parts.specs.Parts.{nameless}
 use Rattle.stage_parts.specs.Laws.{CullingKeepsPictures, PaintedLaw}
 use Rattle.stage_parts.proofs.Places.{flat_mapped, flat_same}
@@ -32,7 +32,7 @@ agree (x ∷ xs) = (in_order x xs, agree xs)
 
 -- a channel's culled list shows the whole walk
 drawn_culled : CullingKeepsPictures → (lens : Lens) (back : List ℕ) (look : Look) (time : ℕ) (v : Viewpoint) →
-    drawn lens back (map nameless (draw_list look time v lens)) ≡ drawn lens back (instances look time v)
+    picture_of_list lens back (map nameless (draw_list look time v lens)) ≡ picture_of_list lens back (instances look time v)
 drawn_culled culling lens back look time v =
     let list = draw_list look time v lens in
     picture_bytes_same lens.w lens.h (picture lens back (map nameless list)) (picture lens back (instances look time v))
@@ -43,12 +43,12 @@ drawn_culled culling lens back look time v =
 pub painted_culled : CullingKeepsPictures →
     (lens : Lens) (back : List ℕ) (look : Look) (time : ℕ) (views : List Viewpoint) (lists : List Drawables) →
     map instances_in lists ≡ map (λ v. map nameless (draw_list look time v lens)) views →
-    painted lens back lists ≡ flat_map (λ v. drawn lens back (instances look time v)) views
+    painted lens back lists ≡ flat_map (λ v. picture_of_list lens back (instances look time v)) views
 painted_culled culling lens back look time views lists same =
-    sym (flat_mapped instances_in (drawn lens back) lists)
-    ∙ ap (flat_map (drawn lens back)) same
-    ∙ flat_mapped (λ v. map nameless (draw_list look time v lens)) (drawn lens back) views
-    ∙ flat_same (λ v. drawn lens back (map nameless (draw_list look time v lens))) (λ v. drawn lens back (instances look time v))
+    sym (flat_mapped instances_in (picture_of_list lens back) lists)
+    ∙ ap (flat_map (picture_of_list lens back)) same
+    ∙ flat_mapped (λ v. map nameless (draw_list look time v lens)) (picture_of_list lens back) views
+    ∙ flat_same (λ v. picture_of_list lens back (map nameless (draw_list look time v lens))) (λ v. picture_of_list lens back (instances look time v))
     (drawn_culled culling lens back look time) views
 
 pub painted_law : PaintedLaw
@@ -60,8 +60,8 @@ painted_law lens back (x ∷ images) (d ∷ lists) many shown =
     let rest =
     painted_law lens back images lists (omega (arith, many)) (λ i image e at_image at_list. shown (suc i) image e at_image at_list) in
     let colours = picture lens back (instances_in d) in
-    let one : ppm_bytes x ≡ drawn lens back (instances_in d) =
+    let one : ppm_bytes x ≡ picture_of_list lens back (instances_in d) =
     ppm_bytes-shown x colours here.pixels
     ∙ ap (λ w. picture_bytes w x.height colours) here.size.width ∙ ap (λ h. picture_bytes lens.w h colours) here.size.height in
     ap (λ (bytes : List ℕ). bytes ++ flat_map ppm_bytes images) one
-    ∙ ap (λ (bytes : List ℕ). drawn lens back (instances_in d) ++ bytes) rest
+    ∙ ap (λ (bytes : List ℕ). picture_of_list lens back (instances_in d) ++ bytes) rest

@@ -30,9 +30,9 @@ use Rattle.pf_history.proofs.Turns.{seat_law}
 use Rattle.stage_parts.specs.Loads.{LoadState, Each, AreImages, HasRoomFor, IsReady}
 use Rattle.stage_parts.specs.Packets.{loads_in, bytes_in, updates_in, copy_at}
 use Rattle.stage_parts.specs.Frames.{frames_of, cut_of_frame, last_sync}
-use Rattle.stage_parts.specs.Pictures.{drawn, painted, picture_of_state, pictures, streamed, sums, numbers_of_state, frame_numbers}
+use Rattle.stage_parts.specs.Pictures.{picture_of_list, painted, picture_of_state, pictures, streamed, sums, numbers_of_state, frame_numbers}
 use Rattle.stage_parts.specs.States.{Setup, Seats, PipeState}
-use Rattle.stage_parts.specs.Parts.{passed, cut_short, Carried, carried, handed_back, passed_on, CanCull, IsCulled, Kept, kept}
+use Rattle.stage_parts.specs.Parts.{sent_and_held, cut_short, Carried, carried, handed_back, passed_on, CanCull, IsCulled, Kept, kept}
 use Rattle.stage_parts.specs.Pipes.{PipeFits}
 use Rattle.stage_parts.specs.Laws.{CullingKeepsPictures, HasEditsInRange, StreamLaw}
 use Rattle.stage_parts.proofs.Places.{front_of, get_map, get_match, get_mapped, get_below, get_length, map_take, take_front, map_map, each_all}
@@ -138,7 +138,7 @@ last_is_retired g dbase seats s fits =
 
 -- the pictures of channels
 abbrev channels_shown : Setup → Look → ℕ → List Viewpoint → List ℕ
-channels_shown g look time views = flat_map (λ v. drawn g.lens g.back (instances look time v)) views
+channels_shown g look time views = flat_map (λ v. picture_of_list g.lens g.back (instances look time v)) views
 
 -- the numbers of channels
 abbrev channels_counted : Setup → Look → ℕ → List Viewpoint → Stats
@@ -174,23 +174,23 @@ record CameFrom (g : Setup) (s : PipeState) (i : ℕ) (l : LoadState) : Type 0 w
   pub culled : IsCulled g.lens (node_at (copy_at (loads_in s.a.taken) (i + 1))) sent.cut made
   pub images : AreImages g.lens (length sent.cut.views) made.images
   pub numbers : l.stats ≡ made.stats
-  pub drawn : AreImages g.lens (length made.lists) made.images → l.bytes ≡ painted g.lens g.back made.lists
+  pub paints : AreImages g.lens (length made.lists) made.images → l.bytes ≡ painted g.lens g.back made.lists
 
 came_from : (g : Setup) (dbase : List BaseLine) (seats : Seats) (s : PipeState) → g.channels ≤ 4 → PipeFits g dbase seats s → HasEditsInRange s.log →
     (i : ℕ) (l : LoadState) → slice_get (loads_in s.c.taken) i ≡ Some l → CameFrom g s i l
 came_from g dbase seats s four fits fit i l at =
     let log = s.log in
     let m = sent_load s.c.sent s.c.taken s.draw.held fits.link_c i l at in
-    let d = get_match kept kept (loads_in (passed s.c.sent s.draw.held)) (loads_in s.b.taken) fits.draw.loads i l m in
+    let d = get_match kept kept (loads_in (sent_and_held s.c.sent s.draw.held)) (loads_in s.b.taken) fits.draw.loads i l m in
     let q = sent_load s.b.sent s.b.taken s.cull.held fits.link_b i d.other d.stands in
-    let w = get_handed empty_scene.nodes (loads_in (passed s.b.sent s.cull.held)) (loads_in s.a.taken) fits.cull.loads i d.other q in
+    let w = get_handed empty_scene.nodes (loads_in (sent_and_held s.b.sent s.cull.held)) (loads_in s.a.taken) fits.cull.loads i d.other q in
     let r = sent_load s.a.sent s.a.taken s.app.held fits.link_a i w.was w.stands in
-    let f = get_match (λ (x : LoadState). x.cut) cut_of_frame (loads_in (passed s.a.sent s.app.held))
+    let f = get_match (λ (x : LoadState). x.cut) cut_of_frame (loads_in (sent_and_held s.a.sent s.app.held))
     (frames_of g.channels seats.app log) fits.app.cuts i w.was r in
     let all = all_frames g dbase seats s fits in
     let framed = subst (λ (cs : List Cutting). slice_get cs i ≡ Some f.other) all f.stands in
     let ready = fits.app.ready i w.was r in
-    let of_cuts = loads_of_cuts g.channels log (loads_in (passed s.a.sent s.app.held)) (loads_in s.a.taken)
+    let of_cuts = loads_of_cuts g.channels log (loads_in (sent_and_held s.a.sent s.app.held)) (loads_in s.a.taken)
     (fits.app.cuts ∙ ap (map cut_of_frame) all) (sent_load s.a.sent s.a.taken s.app.held fits.link_a) in
     let can = can_cull g.channels g.lens log four fit (loads_in s.a.taken) of_cuts i w.was f.other w.stands framed f.alike ready in
     record {
@@ -204,7 +204,7 @@ came_from g dbase seats s four fits fit i l at =
       images = subst (λ (images : List Pixmap). AreImages g.lens (length w.was.cut.views) images)
           (sym (ap (λ (k : Carried). k.images) w.alike)) ready.images;
       numbers = ap (λ (k : Kept). k.stats) d.alike;
-      drawn = fits.draw.painted i d.other l d.stands m;
+      paints = fits.draw.painted i d.other l d.stands m;
     }
 
 -- its pictures are those of the state that the Frame found
@@ -221,7 +221,7 @@ shows culling g s i l fit c =
     painted_culled culling g.lens g.back
     (node_at (copy_at (loads_in s.a.taken) (i + 1))) c.sent.cut.frame c.sent.cut.views c.made.lists c.culled.lists in
     let shown : l.bytes ≡ picture_of_state g.lens g.back x =
-    c.drawn images ∙ walked
+    c.paints images ∙ walked
     ∙ ap (λ (n : Nodes). channels_shown g (node_at n) c.sent.cut.frame c.sent.cut.views) c.copied
     ∙ ap (λ (d : Cut). channels_shown g (node_at x.graph.nodes) d.frame d.views) c.cut
     ∙ ap (λ (t : ℕ). channels_shown g (node_at x.graph.nodes) t x.views) (sym is.time) in

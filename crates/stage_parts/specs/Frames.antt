@@ -1,6 +1,6 @@
 -- The Frames that a seat makes for the application, and the cut of each.
-use Rattle.std.specs.Prelude.{ℕ, ◌+◌, ◌&&◌, if◌then◌else◌, List, [], ◌∷◌}
-use Rattle.std.specs.List.{fold}
+use Rattle.std.specs.Prelude.{◌≡◌, ⊤, ℕ, ◌+◌, true, ◌&&◌, if◌then◌else◌, List, [], ◌∷◌}
+use Rattle.std.specs.List.{AllByRecursion, fold}
 use Rattle.pf_model.specs.Graphs.{node_at, size_of}
 use Rattle.pf_model.specs.Totals.{triangle_count}
 use Rattle.update_lists.specs.declared.cuts.Cut.{Cut}
@@ -37,6 +37,10 @@ cut_of_frame c =
       updates = cut_at c;
     }
 
+-- each Frame of the log is the application's, made at this seat
+abbrev pub AreOwnFrames : ℕ → Log → Type 0
+AreOwnFrames seat log = AllByRecursion (λ e. is_frame e.1.command ≡ true → is_at seat App e ≡ true) log
+
 -- how many frames are retired after a command, where so many were
 abbrev pub retired_after : ℕ → Command → ℕ
 retired_after r (command.Sync n) = n
@@ -45,3 +49,8 @@ retired_after r _ = r
 -- the number of the last Sync among turns, 0 where there is none
 abbrev pub last_sync : List Turn → ℕ
 last_sync turns = fold (λ r t. retired_after r t.made) 0 turns
+
+-- a Sync retires so many frames; of other commands nothing is said
+abbrev pub RetiresJust : ℕ → Command → Type 0
+RetiresJust n (command.Sync r) = r ≡ n
+RetiresJust n _ = ⊤

@@ -11,3 +11,6 @@ pub mod AppSteps
 pub mod Gathering
 pub mod DbaseSteps
 pub mod Moves
+pub mod Answers
+pub mod Texts
+pub mod Numbers

@@ -26,8 +26,8 @@ use Rattle.stage_parts.specs.Pictures.{painted, streamed, sums}
 use Rattle.stage_parts.specs.States.{Setup, AppState, CullState, DrawState, DbaseState, still_asked, still_asked_dbase, in_buffer}
 
 -- what a stage sent and holds to send
-abbrev pub passed : List Packet → Option Packet → List Packet
-passed sent held = sent ++ option_to_list held
+abbrev pub sent_and_held : List Packet → Option Packet → List Packet
+sent_and_held sent held = sent ++ option_to_list held
 
 -- The application
 
@@ -38,9 +38,9 @@ end_once closed = if closed then true ∷ [] else []
 -- What APP sent and holds to send are the packets of its Frames, in order, each with the cut of its Frame and with room
 -- for it, and after the closing Sync the End.
 pub record AppPart (g : Setup) (seat : ℕ) (a : AppState) (log : Log) (sent : List Packet) : Type 0 where
-  pub cuts : map (λ l. l.cut) (loads_in (passed sent a.held)) ≡ map cut_of_frame (frames_of g.channels seat log)
-  pub ends : map is_end (passed sent a.held) ≡ map (λ _. false) (frames_of g.channels seat log) ++ end_once a.closed
-  pub ready : Each (IsReady g.lens) (loads_in (passed sent a.held))
+  pub cuts : map (λ l. l.cut) (loads_in (sent_and_held sent a.held)) ≡ map cut_of_frame (frames_of g.channels seat log)
+  pub ends : map is_end (sent_and_held sent a.held) ≡ map (λ _. false) (frames_of g.channels seat log) ++ end_once a.closed
+  pub ready : Each (IsReady g.lens) (loads_in (sent_and_held sent a.held))
   pub ended : a.ended ≡ has_end sent
   -- it counts its Frames, and passed a line for each
   pub frames : a.frames ≡ length (frames_of g.channels seat log)
@@ -127,11 +127,11 @@ AreCulled lens taken sent =
 -- What CULL sent and holds to send is, packet by packet, made of what it received; its copy is that of all update lists
 -- received; End follows End.
 pub record CullPart (lens : Lens) (c : CullState) (taken sent : List Packet) : Type 0 where
-  pub loads : map carried (loads_in (passed sent c.held)) ≡ passed_on empty_scene.nodes (loads_in taken)
-  pub ends : map is_end (passed sent c.held) ≡ map is_end taken
+  pub loads : map carried (loads_in (sent_and_held sent c.held)) ≡ passed_on empty_scene.nodes (loads_in taken)
+  pub ends : map is_end (sent_and_held sent c.held) ≡ map is_end taken
   pub copy : c.nodes ≡ copy_at (loads_in taken) (length (loads_in taken))
   pub ended : c.ended ≡ has_end sent
-  pub culled : AreCulled lens (loads_in taken) (loads_in (passed sent c.held))
+  pub culled : AreCulled lens (loads_in taken) (loads_in (sent_and_held sent c.held))
 
 -- The draw
 
@@ -152,10 +152,10 @@ ArePainted lens back taken sent =
 -- What DRAW sent and holds to send has, load by load, the pictures of the draw lists received where the images have the
 -- lens's size, and the cut and the numbers as received. It sends no End.
 pub record DrawPart (lens : Lens) (back : List ℕ) (d : DrawState) (taken sent : List Packet) : Type 0 where
-  pub loads : map kept (loads_in (passed sent d.held)) ≡ map kept (loads_in taken)
-  pub ends : has_end (passed sent d.held) ≡ false
+  pub loads : map kept (loads_in (sent_and_held sent d.held)) ≡ map kept (loads_in taken)
+  pub ends : has_end (sent_and_held sent d.held) ≡ false
   pub ended : d.ended ≡ has_end taken
-  pub painted : ArePainted lens back (loads_in taken) (loads_in (passed sent d.held))
+  pub painted : ArePainted lens back (loads_in taken) (loads_in (sent_and_held sent d.held))
 
 -- The database process
 

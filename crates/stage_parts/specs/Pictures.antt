@@ -15,17 +15,17 @@ use Rattle.pf_history.specs.Logs.{Log}
 use Rattle.pf_history.specs.Cuts.{found_by_frames}
 
 -- the P6 bytes of the picture of a list of instances
-abbrev pub drawn : Lens → List ℕ → List Instance → List ℕ
-drawn lens back xs = picture_bytes lens.w lens.h (picture lens back xs)
+abbrev pub picture_of_list : Lens → List ℕ → List Instance → List ℕ
+picture_of_list lens back xs = picture_bytes lens.w lens.h (picture lens back xs)
 
 -- the pictures of draw lists, one after the other
 abbrev pub painted : Lens → List ℕ → List Drawables → List ℕ
-painted lens back lists = flat_map (λ d. drawn lens back (instances_in d)) lists
+painted lens back lists = flat_map (λ d. picture_of_list lens back (instances_in d)) lists
 
 -- the pictures of the channels of a state, in order and one after the other: of the whole walk, without culling
 abbrev pub picture_of_state : Lens → List ℕ → FrameState → List ℕ
 picture_of_state lens back s =
-    flat_map (λ v. drawn lens back (instances (node_at s.graph.nodes) s.graph.time v)) s.views
+    flat_map (λ v. picture_of_list lens back (instances (node_at s.graph.nodes) s.graph.time v)) s.views
 
 -- the pictures of the Frames of a history, each of the state that it found
 abbrev pub pictures : ℕ → Lens → List ℕ → Log → List (List ℕ)

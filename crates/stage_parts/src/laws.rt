@@ -5,6 +5,7 @@ ghost use Rattle.stage_parts.specs.AppSteps.{AppLaw};
 ghost use Rattle.stage_parts.specs.DbaseSteps.{DbaseLaw, LinesLaw, OpeningLaw};
 ghost use Rattle.stage_parts.specs.Gathering.{GatheringLaw, CountingLaw};
 ghost use Rattle.stage_parts.specs.Moves.{MovesLaw};
+ghost use Rattle.stage_parts.specs.Numbers.{NumbersLaw};
 
 /// Where a pipe of at most four channels fits what its stages are given, and culling keeps the picture, the stream is
 /// whole pictures of the history and a front of the next one; the retired frames are among those that were wholly written; and once the
@@ -78,4 +79,11 @@ pub fn moves_are_few()
 /// Any two proofs that a pipe fits, or that a stage keeps its part, are equal, so that a type may keep one.
 pub fn parts_are_facts()
     ensures { FactsLaw }
+{}
+
+/// What the numbers of a log's entries tell: no entries of a number give no turns of its caller; where all Frames are one
+/// seat's, they are in each front of the log, and in a legal log they are where the application's entries have the seat's
+/// number; and where only the numbers below some have entries, each entry has one of them.
+pub fn numbers_tell()
+    ensures { NumbersLaw }
 {}

@@ -3,6 +3,7 @@ use Rattle.std.proofs.Common.{◌≡◌, sym, ap, ◌∙◌, subst}
 use Rattle.std.specs.Vec.{vec_capacity}
 use Rattle.pf_history.specs.declared.commands.Command.TheVariants as command
 use Rattle.pf_scene.specs.Acts.{MaySync}
+use Rattle.pf_scene.specs.Scenes.{SceneState}
 use Rattle.pf_scene.specs.declared.outcomes.Home.{Home}
 use Rattle.frame_stages.specs.Copies.{AreHomeward}
 use Rattle.frame_stages.proofs.AppTurned.{turned_made, turned_barred, turned_wanting, counts_on, counts_still, counts_synced}
@@ -21,7 +22,7 @@ returns-in-NotNow-clause-came g c =
 pub returns-in-NoMemory-clause-came : goal.returns-in-NoMemory-clause-came
 returns-in-NoMemory-clause-came g c =
     let t = c.in-NoMemory.ensures.turned in
-    turned_wanting (g.D.Desk.number c.args.desk.now) (g.D.Desk.seen c.args.desk.now) (g.D.Desk.seen c.turn.new.self) (g.D.Desk.told c.args.desk.now) (g.D.Desk.told c.turn.new.self) t.0 t.1 t.2 t.3.0 t.5 t.6
+    turned_wanting (g.D.Desk.number c.args.desk.now) (g.D.Desk.seen c.args.desk.now) (g.D.Desk.seen c.turn.new.self) (g.D.Desk.told c.args.desk.now) (g.D.Desk.told c.turn.new.self) t.0 t.1 t.2 (ap (λ (s : SceneState). s.shared) t.3.0) t.5 t.6
 
 pub returns-in-Entered-clause-counted : goal.returns-in-Entered-clause-counted
 returns-in-Entered-clause-counted g c right =

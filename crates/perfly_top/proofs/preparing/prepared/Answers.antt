@@ -9,4 +9,4 @@ returns-in-Some-clause-why g c =
     let found : c.stuck.result ≡ Some (c.in-Some.app, c.in-Some.dbase) = search rules in
     barred_by _ (g.I.Source.left c.args.input.now) (g.I.Source.left c.given_play.new.input) words play c.stuck.result c.in-Some.app c.in-Some.dbase
     (record { meaning = c.in_ok-words.ensures.meaning; spelled = c.in_ok-play.ensures.spelled; read = c.in_ok-play.ensures.read })
-    found c.stuck.ensures.stuck c.stuck.ensures.lines
+    c.in_ok-words.ensures.high found c.stuck.ensures.stuck c.stuck.ensures.lines

@@ -1,20 +1,21 @@
-use Rattle.std.proofs.Common.{ℕ, map, sym, subst, inl, inr}
+use Rattle.std.proofs.Common.{◌∙◌, ℕ, map, sym, ap, subst, inl, inr}
 use Rattle.std.specs.String.{string_bytes}
-use Rattle.perfly_top.specs.Endings.{IsDue}
+use Rattle.program_words.specs.Meaning.{meaning_of_words}
+use Rattle.perfly_top.specs.Endings.{status_of, IsDue}
 use Rattle.perfly_top.proofs.Whys.{why_front, read_front}
-use Rattle.perfly_top.proofs.Dues.{stopped_due, played_is_due}
+use Rattle.perfly_top.proofs.Dues.{stopped_due, played_is_due, made_why}
 use Rattle.perfly_top.proofs.top.perfly.Goals as goal
 
 pub returns-in-Err-clause-part_read : goal.returns-in-Err-clause-part_read
 returns-in-Err-clause-part_read g c =
-    why_front (map string_bytes c.args.words.now) (g.I.Source.left c.args.input.now) (g.I.Source.left c.prepared.new.input) c.in-Err.stop c.in-Err.ensures.why
+    why_front (meaning_of_words (map string_bytes c.args.words.now)) (g.I.Source.left c.args.input.now) (g.I.Source.left c.prepared.new.input) c.in-Err.stop c.in-Err.ensures.why
 
 pub returns-in-Err-clause-due : goal.returns-in-Err-clause-due
 returns-in-Err-clause-due g c =
-    let texts = map string_bytes c.args.words.now in
+    let meant = meaning_of_words (map string_bytes c.args.words.now) in
     let left = g.I.Source.left c.args.input.now in
-    subst (λ (n : ℕ). IsDue texts left n) (sym c.stopped.ensures.status)
-    (stopped_due texts left (g.I.Source.left c.prepared.new.input) c.in-Err.stop c.in-Err.ensures.why)
+    subst (λ (n : ℕ). IsDue meant left n) (sym c.stopped.ensures.status)
+    (stopped_due meant left (g.I.Source.left c.prepared.new.input) c.in-Err.stop c.in-Err.ensures.why)
 
 pub returns-in-Ok-clause-done : goal.returns-in-Ok-clause-done
 returns-in-Ok-clause-done g c = λ e.
@@ -23,7 +24,9 @@ returns-in-Ok-clause-done g c = λ e.
       play = c.in-Ok.task.play;
       given = c.in-Ok.ensures.given;
       played = c.played.ensures.played (inl e);
-      told = c.played.ensures.whole e;
+      sum = (c.played.ensures.whole e).0;
+      summed = (c.played.ensures.whole e).1;
+      told = (c.played.ensures.whole e).2;
     }
 
 pub returns-in-Ok-clause-untold : goal.returns-in-Ok-clause-untold
@@ -33,7 +36,9 @@ returns-in-Ok-clause-untold g c = λ e.
       play = c.in-Ok.task.play;
       given = c.in-Ok.ensures.given;
       played = c.played.ensures.played (inr e);
-      told = c.played.ensures.some_told e;
+      sum = (c.played.ensures.some_told e).0;
+      summed = (c.played.ensures.some_told e).1;
+      told = (c.played.ensures.some_told e).2;
     }
 
 pub returns-in-Ok-clause-part : goal.returns-in-Ok-clause-part
@@ -53,5 +58,14 @@ returns-in-Ok-clause-part_read g c =
 
 pub returns-in-Ok-clause-due : goal.returns-in-Ok-clause-due
 returns-in-Ok-clause-due g c =
-    played_is_due (map string_bytes c.args.words.now) (g.I.Source.left c.args.input.now) (g.I.Source.left c.prepared.new.input) c.in-Ok.task.words c.in-Ok.task.play
+    played_is_due (meaning_of_words (map string_bytes c.args.words.now)) (g.I.Source.left c.args.input.now) (g.I.Source.left c.prepared.new.input) c.in-Ok.task.words c.in-Ok.task.play
     c.played.result.status c.in-Ok.ensures.given c.in-Ok.ensures.can_end c.played.ensures.one_of
+
+pub returns-in-Err-clause-made : goal.returns-in-Err-clause-made
+returns-in-Err-clause-made g c = λ words n meaning make.
+    let memory = made_why (meaning_of_words (map string_bytes c.args.words.now)) (g.I.Source.left c.args.input.now) (g.I.Source.left c.prepared.new.input) c.in-Err.stop
+    c.in-Err.ensures.why words n meaning make in
+    inr (inr (inr (c.stopped.ensures.status ∙ ap status_of memory)))
+
+pub returns-in-Ok-clause-made : goal.returns-in-Ok-clause-made
+returns-in-Ok-clause-made g c = λ words n meaning make. c.played.ensures.one_of

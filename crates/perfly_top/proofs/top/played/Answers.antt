@@ -1,4 +1,4 @@
-use Rattle.perfly_top.proofs.Runs.{part_of, played_of}
+use Rattle.perfly_top.proofs.Runs.{part_of, played_of, whole_of, some_of}
 use Rattle.perfly_top.proofs.top.played.Goals as goal
 
 pub returns-in-Done-clause-part : goal.returns-in-Done-clause-part
@@ -24,3 +24,17 @@ returns-in-NoMemory-clause-part g c =
     part_of c.args.task.words c.args.task.play c.run_of-run.result.played.end c.stopped-in-NoMemory.result.history c.run_of-run.result.played.history
     c.run_of-run.result.played.stats.items (g.O.Sink.written c.args.frames.now) (g.O.Sink.written c.run_of-run.new.frames)
     c.stopped-in-NoMemory.ensures.history c.run_of-run.ensures.run
+
+pub returns-in-Done-clause-whole : goal.returns-in-Done-clause-whole
+returns-in-Done-clause-whole g c = λ told.
+    let run = c.run_of-run.ensures.run in
+    whole_of c.args.task.words c.args.task.play c.tell.result.history c.run_of-run.result.played.history (g.O.Sink.written c.args.frames.now)
+    (g.P.Sink.written c.args.report.now) (g.P.Sink.written c.tell.new.report) c.run_of-run.result.sum c.tell.ensures.history
+    (c.run_of-run.ensures.sum c.in-Done.is) (c.tell.ensures.whole c.args.task.play (run.numbers c.in-Done.is) told)
+
+pub returns-in-Done-clause-some_told : goal.returns-in-Done-clause-some_told
+returns-in-Done-clause-some_told g c = λ told.
+    let run = c.run_of-run.ensures.run in
+    some_of c.args.task.words c.args.task.play c.tell.result.history c.run_of-run.result.played.history (g.O.Sink.written c.args.frames.now)
+    (g.P.Sink.written c.args.report.now) (g.P.Sink.written c.tell.new.report) c.run_of-run.result.sum c.tell.ensures.history
+    (c.run_of-run.ensures.sum c.in-Done.is) (c.tell.ensures.some c.args.task.play (run.numbers c.in-Done.is) told)

@@ -6,7 +6,7 @@ use Rattle.pf_scene.proofs.stock.take_all_home.Goals as goal
 pub loop-updates-preserved : goal.loop-updates-preserved
 loop-updates-preserved c = record {
   bringing = lists_brought_more c.args.cycles.now c.loop-updates.cycles c.take_list_home.new.cycles c.args.home.now.items c.loop-updates.home.items c.pop.new.self.items c.in-Some.updates
-      c.loop-updates.invariant.bringing c.in-Some.ensures.items c.take_list_home.ensures.written c.take_list_home.ensures.most c.take_list_home.ensures.out;
+      c.loop-updates.invariant.bringing c.in-Some.ensures.items c.take_list_home.ensures.written c.take_list_home.ensures.most c.take_list_home.ensures.counts c.take_list_home.ensures.out;
   room = c.pop.ensures.capacity ∙ c.loop-updates.invariant.room;
 }
 

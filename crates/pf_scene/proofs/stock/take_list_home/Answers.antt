@@ -7,7 +7,7 @@ pub loop-i-preserved : goal.loop-i-preserved
 loop-i-preserved c = record {
   bringing = node_brought c.args.cycles.now c.loop-i.cycles c.take_home.new.cycles c.args.updates (nodes_in c.loop-i.updates) (nodes_in c.swap.new.self) c.loop-i.i c.swap.new.place None
       c.loop-i.invariant.bringing (split_at c.loop-i.updates c.loop-i.i c.swap.new.place c.swap.ensures.taken) c.swap.ensures.put
-      c.take_home.ensures.written c.take_home.ensures.most c.take_home.ensures.out;
+      c.take_home.ensures.written c.take_home.ensures.most c.take_home.ensures.counts c.take_home.ensures.out;
   long = swapped_long c.loop-i.updates c.swap.new.self _ c.swap.ensures.ids c.loop-i.invariant.long;
 }
 

@@ -2,7 +2,7 @@ use Rattle.std.proofs.Common.{◌≡◌, ℕ, false}
 use Rattle.pf_io.specs.Causes.{Calm}
 use Rattle.play_format.specs.Plays.{Script}
 use Rattle.play_check.specs.Stuck.{IsStuck}
-use Rattle.pipe_core.specs.Cores.{CanRun}
+use Rattle.pipe_plays.specs.Plays.{CanRun}
 use Rattle.pipe_core.specs.Pipes.{core_of, PipeKeeps}
 use Rattle.pipe_core.specs.Hosts.{GoesOn, HasPlayed}
 use Rattle.pipe_core.proofs.host.rounds.Given as goal

@@ -7,7 +7,8 @@ pub invariant_of-self : goal.invariant_of-self
 invariant_of-self c =
     let t = c.args.self.now in
     record {
-      sized = record { boxes_for_all = t.sized.boxes_for_all; marks_for_all = length-set t.marks.items c.args.id c.args.mark ∙ t.sized.marks_for_all };
+      reserved = t.reserved;
+      sized = length-set t.marks.items c.args.id c.args.mark ∙ t.sized;
       unmarked = subst (λ (n : ℕ). AreCleanFrom n (set t.marks.items c.args.id c.args.mark)) (sym c.max-self.ensures) (clean_above t.marks.items t.marked c.args.id c.args.mark (omega arith) t.unmarked);
     }
 

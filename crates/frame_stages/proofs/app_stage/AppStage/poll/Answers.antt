@@ -1,9 +1,10 @@
 -- A poll is that of the parts.
 use Rattle.std.proofs.Common.{◌≡◌, true, false, Ok, subst}
-use Rattle.frame_stages.specs.declared.answers.Did.TheVariants as did
-use Rattle.frame_stages.specs.Answers.{is_over}
+use Rattle.stage_parts.specs.declared.answers.Did.TheVariants as did
+use Rattle.stage_parts.specs.Answers.{is_over}
 use Rattle.frame_stages.specs.AppWorks.{AppWork, work_of, is_done}
-use Rattle.frame_stages.specs.AppAnswers.{Around, around, Polled, FoundMark}
+use Rattle.frame_stages.specs.Looks.{FoundMark}
+use Rattle.frame_stages.specs.AppAnswers.{Around, around, Polled}
 use Rattle.frame_stages.proofs.app_stage.AppStage.poll.Goals as goal
 
 pub returns-clause-polled : goal.returns-clause-polled

@@ -4,8 +4,8 @@ use Rattle.frame_stages.specs.AppWorks.{AppWork, work_of}
 use Rattle.frame_stages.specs.AppAnswers.{around, Polled}
 use Rattle.std.proofs.Common.{Option, Ok}
 use Rattle.stage_parts.specs.declared.packets.Packet.{Packet}
-use Rattle.frame_stages.specs.declared.answers.Did.{Did}
-use Rattle.frame_stages.specs.Answers.{did_of}
+use Rattle.stage_parts.specs.declared.answers.Did.{Did}
+use Rattle.stage_parts.specs.Answers.{did_of}
 use Rattle.frame_stages.proofs.AppTakes.{held_again}
 use Rattle.frame_stages.proofs.application.Application.go.Goals as goal
 

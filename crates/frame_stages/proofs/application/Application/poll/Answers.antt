@@ -2,7 +2,7 @@
 use Rattle.std.proofs.Common.{true, Option, refl, sym, ◌∙◌, subst}
 use Rattle.seat_lock.proofs.Logs.{found-self}
 use Rattle.pf_scene.specs.Scenes.{SceneState}
-use Rattle.frame_stages.specs.Answers.{is_over}
+use Rattle.stage_parts.specs.Answers.{is_over}
 use Rattle.frame_stages.specs.AppWorks.{work_of}
 use Rattle.frame_stages.specs.AppAnswers.{Around, around, Polled}
 use Rattle.frame_stages.proofs.AppPolled.{over, looked}

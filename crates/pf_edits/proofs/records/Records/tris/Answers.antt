@@ -8,4 +8,4 @@ returns-clause-value c = c.self.invariant.counted.total ∙ ap (λ (t : Table). 
 
 pub returns-clause-wide : goal.returns-clause-wide
 returns-clause-wide c =
-    sym (ap (λ (t : Table). length t.slots) c.self.view_is) ∙ slots_wide c.self.inside.slab c.self.inside.keys.items c.self.invariant.indexed.wide
+    sym (ap (λ (t : Table). length t.slots) c.self.view_is) ∙ slots_wide c.self.inside.slab c.self.inside.keys c.self.invariant.indexed.wide

@@ -1,11 +1,11 @@
-use Rattle.std.proofs.Common.{◌≡◌, ◌+◌, ◌≤◌, reverse, length, drop, vec_len}
-use Rattle.std.specs.Vec.{vec_capacity}
+use Rattle.std.proofs.Common.{◌≡◌, ◌+◌, ◌<◌, ◌≤◌, reverse, drop}
 use Rattle.std.specs.List.{fold}
 use Rattle.pf_model.specs.Edits.{effect}
 use Rattle.pf_model.specs.Merges.{fault_from}
 use Rattle.pf_edits.specs.Extents.{parents_of}
 use Rattle.pf_edits.specs.Working.{told, IsWorking}
 use Rattle.pf_edits.specs.Undoing.{AllUndoable, before_all}
+use Rattle.pf_edits.specs.Refusals.{BeginsWell}
 use Rattle.pf_edits.proofs.work.Work.edits.Given as goal
 
 abbrev pub invariant-loop-e : goal.invariant-loop-e
@@ -17,6 +17,6 @@ invariant-loop-e l = record {
   before : before_all (told l.self) (reverse l.done.items) ≡ told l.initial.self;
   faults : fault_from 1 (told l.initial.self) l.es ≡ fault_from (l.e-index + 1) (told l.self) (drop l.e-index l.es);
   effects : fold effect (told l.initial.self) l.es ≡ fold effect (told l.self) (drop l.e-index l.es);
-  len : vec_len l.done ≡ l.e-index;
-  room : length l.es ≤ vec_capacity l.done;
+  start : l.e-index ≡ 0 → told l.self ≡ told l.initial.self;
+  begun : 0 < l.e-index → BeginsWell (told l.initial.self) l.es;
 }

@@ -7,27 +7,27 @@ use Rattle.pf_edits.proofs.work.Work.settle.Goals as goal
 pub returns-in-Children-clause-told : goal.returns-in-Children-clause-told
 returns-in-Children-clause-told c =
     let w = c.args.self.now in
-    told_nodes w.time w.next_serial w.gone.items _ _ (same_nodes w.records.slots c.settle_links.new.records.slots c.settle_links.ensures.nodes)
+    told_nodes w.time w.next_serial w.gone.items _ _ (same_nodes w.records.slots c.settle_child.new.records.slots c.settle_child.ensures.nodes)
 
 pub returns-in-Children-clause-working : goal.returns-in-Children-clause-working
 returns-in-Children-clause-working c =
     let w = c.args.self.now in
     record {
-      sound = c.settle_links.ensures.sound;
+      sound = c.settle_child.ensures.sound;
       free = c.requires.free;
-      within = subst IsGraphWithinLimits (sym (told_nodes w.time w.next_serial w.gone.items _ _ (same_nodes w.records.slots c.settle_links.new.records.slots c.settle_links.ensures.nodes))) c.requires.within;
+      within = subst IsGraphWithinLimits (sym (told_nodes w.time w.next_serial w.gone.items _ _ (same_nodes w.records.slots c.settle_child.new.records.slots c.settle_child.ensures.nodes))) c.requires.within;
     }
 
 pub returns-in-Deleted-clause-told : goal.returns-in-Deleted-clause-told
 returns-in-Deleted-clause-told c =
     let w = c.args.self.now in
-    told_nodes w.time w.next_serial w.gone.items _ _ (same_nodes w.records.slots c.settle_links-in-Deleted.new.records.slots c.settle_links-in-Deleted.ensures.nodes)
+    told_nodes w.time w.next_serial w.gone.items _ _ (same_nodes w.records.slots c.settle_links.new.records.slots c.settle_links.ensures.nodes)
 
 pub returns-in-Deleted-clause-working : goal.returns-in-Deleted-clause-working
 returns-in-Deleted-clause-working c =
     let w = c.args.self.now in
     record {
-      sound = c.settle_links-in-Deleted.ensures.sound;
+      sound = c.settle_links.ensures.sound;
       free = c.requires.free;
-      within = subst IsGraphWithinLimits (sym (told_nodes w.time w.next_serial w.gone.items _ _ (same_nodes w.records.slots c.settle_links-in-Deleted.new.records.slots c.settle_links-in-Deleted.ensures.nodes))) c.requires.within;
+      within = subst IsGraphWithinLimits (sym (told_nodes w.time w.next_serial w.gone.items _ _ (same_nodes w.records.slots c.settle_links.new.records.slots c.settle_links.ensures.nodes))) c.requires.within;
     }

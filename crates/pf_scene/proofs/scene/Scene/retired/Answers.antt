@@ -9,4 +9,4 @@ pub returns-clause-begun : goal.returns-clause-begun
 returns-clause-begun c =
     let i = c.self.inside in
     subst (λ (v : SceneState). i.retired ≤ (state_in v.shared).frames) c.self.view_is
-    (subst (λ (t : FrameState). i.retired ≤ t.frames) (sym c.self.invariant.kept.after) (knows _ _ _ _ _ _ _ c.self.invariant).retired)
+    (subst (λ (t : FrameState). i.retired ≤ t.frames) (sym c.self.invariant.scene.kept.after) (knows _ _ _ _ _ _ _ c.self.invariant.scene).retired)

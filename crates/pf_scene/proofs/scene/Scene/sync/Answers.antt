@@ -11,6 +11,7 @@ use Rattle.pf_history.specs.declared.commands.Reply.TheVariants as reply
 use Rattle.pf_history.specs.Objects.{FrameState}
 use Rattle.pf_history.specs.Logs.{Log}
 use Rattle.pf_scene.specs.Scenes.{SceneState, KeepsCopies, AreOfRetired, state_in}
+use Rattle.pf_scene.proofs.Counted.{counted_same}
 use Rattle.pf_scene.proofs.Kept.{scene_entered, light_enough, entry_is, sync_state, few_freed}
 use Rattle.pf_scene.proofs.Trimmed.{long_by}
 use Rattle.pf_scene.proofs.Homes.{home_entered}
@@ -34,21 +35,25 @@ invariant_of-self-2 c =
     let r = c.args.retired in
     let e = c.own_entry-entry.result in
     let s : FrameState = record { graph = i.world.graph; views = i.views.items; frames = i.frames; retired = i.retired; merges = i.merges; graves = i.world.graves } in
-    let back = subst (λ (t : FrameState). t.retired ≤ r) c.self.invariant.kept.after (subst (λ (v : SceneState). (state_in v.shared).retired ≤ r) (sym c.self.view_is) c.requires.back) in
-    let begun = subst (λ (t : FrameState). r ≤ t.frames) c.self.invariant.kept.after (subst (λ (v : SceneState). r ≤ (state_in v.shared).frames) (sym c.self.view_is) c.requires.begun) in
+    let back = subst (λ (t : FrameState). t.retired ≤ r) c.self.invariant.scene.kept.after (subst (λ (v : SceneState). (state_in v.shared).retired ≤ r) (sym c.self.view_is) c.requires.back) in
+    let begun = subst (λ (t : FrameState). r ≤ t.frames) c.self.invariant.scene.kept.after (subst (λ (v : SceneState). r ≤ (state_in v.shared).frames) (sym c.self.view_is) c.requires.begun) in
     let freed = c.finish-freed.ensures ∙ c.sync.ensures.freed ∙ ap (λ (b : SerialsSoFar). b.items ++ freed_by r i.world.graves) c.in_ok-freed.ensures in
-    scene_entered i.ahead i.channels i.history.entries c.push_reserved.new.self.entries s _ i.world.marks c.sync.new.self.marks i.weight (i.weight + 1) i.seat (command.Sync r) e (written_at i.world.cycles) (written_at c.sync.new.self.cycles)
-    c.self.invariant (back, begun)
-    (light_enough c.args.self.now i.history.entries i.weight (command.Sync r) (ap (λ (v : SceneState). v.shared.log) (sym c.self.view_is)) c.self.invariant.kept.weighs c.requires.weight)
-    (c.push_reserved.ensures.entries ∙ ap (λ (es : Log). es ++ (i.seat, e) ∷ []) c.reserve.ensures.entries)
-    (entry_is s (command.Sync r) e (reply.Freed c.finish-freed.result) c.own_entry-entry.ensures (ap (λ xs. reply.Freed xs) freed))
-    (sync_state s r c.sync.new.self.graph c.sync.new.self.graves c.sync.ensures.graph c.sync.ensures.graves)
-    c.sync.ensures.marks refl
-    (home_entered i.channels i.history.entries c.push_reserved.new.self.entries i.seat e (command.Sync r) i.world.graph.next_serial c.sync.new.self.graph.next_serial
-    (written_at i.world.cycles) (written_at c.sync.new.self.cycles) c.self.invariant.kept.legal (ap (λ (x : Entry). x.command) c.own_entry-entry.ensures) refl
-    (c.push_reserved.ensures.entries ∙ ap (λ (es : Log). es ++ (i.seat, e) ∷ []) c.reserve.ensures.entries)
-    (subst (λ (g : SceneGraph). i.world.graph.next_serial ≤ g.next_serial) (sym c.sync.ensures.graph) (omega arith))
-    (λ n l. long_by (written_at c.sync.new.self.cycles n) (written_at i.world.cycles n) (c.sync.ensures.written n)) c.self.invariant.home)
+    record {
+      scene =
+          scene_entered i.ahead i.channels i.history.entries c.push_reserved.new.self.entries s _ i.world.marks c.sync.new.self.marks i.weight (i.weight + 1) i.seat (command.Sync r) e (written_at i.world.cycles) (written_at c.sync.new.self.cycles)
+          c.self.invariant.scene (back, begun)
+          (light_enough c.args.self.now i.history.entries i.weight (command.Sync r) (ap (λ (v : SceneState). v.shared.log) (sym c.self.view_is)) c.self.invariant.scene.kept.weighs c.requires.weight)
+          (c.push_reserved.ensures.entries ∙ ap (λ (es : Log). es ++ (i.seat, e) ∷ []) c.reserve.ensures.entries)
+          (entry_is s (command.Sync r) e (reply.Freed c.finish-freed.result) c.own_entry-entry.ensures (ap (λ xs. reply.Freed xs) freed))
+          (sync_state s r c.sync.new.self.graph c.sync.new.self.graves c.sync.ensures.graph c.sync.ensures.graves)
+          c.sync.ensures.marks refl
+          (home_entered i.channels i.history.entries c.push_reserved.new.self.entries i.seat e (command.Sync r) i.world.graph.next_serial c.sync.new.self.graph.next_serial
+          (written_at i.world.cycles) (written_at c.sync.new.self.cycles) c.self.invariant.scene.kept.legal (ap (λ (x : Entry). x.command) c.own_entry-entry.ensures) refl
+          (c.push_reserved.ensures.entries ∙ ap (λ (es : Log). es ++ (i.seat, e) ∷ []) c.reserve.ensures.entries)
+          (subst (λ (g : SceneGraph). i.world.graph.next_serial ≤ g.next_serial) (sym c.sync.ensures.graph) (omega arith))
+          (λ n l. long_by (written_at c.sync.new.self.cycles n) (written_at i.world.cycles n) (c.sync.ensures.written n)) c.self.invariant.scene.home);
+      counted = counted_same i.ahead i.copies i.world.cycles c.sync.new.self.cycles c.self.invariant.counted c.sync.ensures.counts;
+    }
 
 pub returns-clause-accounted : goal.returns-clause-accounted
 returns-clause-accounted c = λ came k.
@@ -56,11 +61,11 @@ returns-clause-accounted c = λ came k.
     let r = c.args.retired in
     let e = c.own_entry-entry.result in
     let s : FrameState = record { graph = i.world.graph; views = i.views.items; frames = i.frames; retired = i.retired; merges = i.merges; graves = i.world.graves } in
-    let back = subst (λ (t : FrameState). t.retired ≤ r) c.self.invariant.kept.after (subst (λ (v : SceneState). (state_in v.shared).retired ≤ r) (sym c.self.view_is) c.requires.back) in
-    let begun = subst (λ (t : FrameState). r ≤ t.frames) c.self.invariant.kept.after (subst (λ (v : SceneState). r ≤ (state_in v.shared).frames) (sym c.self.view_is) c.requires.begun) in
+    let back = subst (λ (t : FrameState). t.retired ≤ r) c.self.invariant.scene.kept.after (subst (λ (v : SceneState). (state_in v.shared).retired ≤ r) (sym c.self.view_is) c.requires.back) in
+    let begun = subst (λ (t : FrameState). r ≤ t.frames) c.self.invariant.scene.kept.after (subst (λ (v : SceneState). r ≤ (state_in v.shared).frames) (sym c.self.view_is) c.requires.begun) in
     kept_synced i.ahead i.channels i.history.entries c.push_reserved.new.self.entries s i.seat e r i.world.cycles c.sync.new.self.cycles i.copies c.args.home.now.items
-    c.self.invariant.kept.legal c.self.invariant.kept.after (ap (λ (x : Entry). x.command) c.own_entry-entry.ensures) back begun
+    c.self.invariant.scene.kept.legal c.self.invariant.scene.kept.after (ap (λ (x : Entry). x.command) c.own_entry-entry.ensures) back begun
     (c.push_reserved.ensures.entries ∙ ap (λ (es : Log). es ++ (i.seat, e) ∷ []) c.reserve.ensures.entries)
-    c.sync.ensures.out c.sync.ensures.most c.self.invariant.home
+    c.sync.ensures.out c.sync.ensures.most c.self.invariant.scene.home
     (subst (λ (v : SceneState). AreOfRetired r v.shared c.args.home.now.items) (sym c.self.view_is) came)
     (subst (λ (v : SceneState). KeepsCopies v) (sym c.self.view_is) k)

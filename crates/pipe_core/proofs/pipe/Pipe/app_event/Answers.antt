@@ -3,6 +3,7 @@ use Rattle.std.proofs.lemmas.Option.{same_Some}
 use Rattle.frame_stages.specs.Flights.{SinkSide}
 use Rattle.frame_stages.specs.AppAnswers.{Polled}
 use Rattle.pf_scene.specs.Scenes.{SceneState}
+use Rattle.frame_stages.specs.Stays.{EndPlace}
 use Rattle.pipe_core.specs.Pipes.{PipeWork, core_of, PipeKeeps, AppLifted, link_work}
 use Rattle.pipe_core.proofs.Polls.{in_order}
 use Rattle.pipe_core.proofs.AppLifts.{before_poll, after_poll}
@@ -55,10 +56,10 @@ returns-clause-lifted g c =
       middle = refl;
       link_a = in_order q.a.line.sent q.a.line.taken c.poll-result.new.to_cull.items.items c.poll-result.new.to_cull.in_order;
       link_c = in_order q.c.line.sent q.c.line.taken c.poll-result.new.from_draw.items.items c.poll-result.new.from_draw.in_order;
-      send_room = poll.send_room;
-      told_taken = poll.told_taken;
-      take_room = poll.take_room;
-      told_sent = poll.told_sent;
+      send_room = ap (λ (e : EndPlace). e.room) poll.to_cull;
+      told_taken = ap (λ (e : EndPlace). e.other_end) poll.to_cull;
+      take_room = ap (λ (e : EndPlace). e.room) poll.from_draw;
+      told_sent = ap (λ (e : EndPlace). e.other_end) poll.from_draw;
       legal = subst IsSeenLegal (sym still) legal;
       polled = subst (λ (scene : SceneState). Polled 0 c.poll-result.result d.app c.poll-result.new.self (before_poll p sink) (after_poll p scene q.a.line.sent q.c.line.taken sink')) (sym still) poll.polled;
       done = poll.done;

@@ -1,4 +1,5 @@
 use Rattle.std.proofs.Common.{refl, sym, ap, subst}
+use Rattle.frame_stages.specs.Stays.{EndPlace}
 use Rattle.pipe_core.specs.Pipes.{PipeWork, core_of, PipeKeeps, Lifted, link_work}
 use Rattle.pipe_core.specs.declared.events.Event.TheVariants as event
 use Rattle.pipe_core.proofs.Polls.{in_order, cull_polls}
@@ -40,10 +41,10 @@ returns-clause-lifted g c =
       link_a = in_order q.a.line.sent q.a.line.taken c.poll.new.from.items.items c.poll.new.from.in_order;
       link_b = in_order q.b.line.sent q.b.line.taken c.poll.new.to.items.items c.poll.new.to.in_order;
       told = poll.told;
-      take_room = poll.take_room;
-      told_sent = poll.told_sent;
-      send_room = poll.send_room;
-      told_taken = poll.told_taken;
+      take_room = ap (λ (e : EndPlace). e.room) poll.from;
+      told_sent = ap (λ (e : EndPlace). e.other_end) poll.from;
+      send_room = ap (λ (e : EndPlace). e.room) poll.to;
+      told_taken = ap (λ (e : EndPlace). e.other_end) poll.to;
       lens = poll.lens;
       keeps = poll.keeps;
       answer = poll.answer;

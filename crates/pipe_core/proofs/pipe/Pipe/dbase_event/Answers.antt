@@ -8,7 +8,8 @@ use Rattle.pipe_core.specs.Pipes.{PipeWork, core_of, PipeKeeps, Lifted, link_wor
 use Rattle.pipe_core.specs.declared.events.Event.TheVariants as event
 use Rattle.pipe_core.proofs.BaseLifts.{known}
 use Rattle.pipe_core.proofs.Turns.{seen_legal, base_polls, IsSeenLegal}
-use Rattle.pipe_core.proofs.Lifting.{base_whole}
+use Rattle.stage_parts.specs.Answers.{is_over}
+use Rattle.pipe_core.proofs.Lifting.{base_whole, found_mark}
 use Rattle.pipe_core.proofs.pipe.Pipe.dbase_event.Goals as goal
 
 pub returns-clause-lifted : goal.returns-clause-lifted
@@ -43,7 +44,7 @@ returns-clause-lifted g c =
           subst (λ (scene : SceneState). DbaseHolds lines channels 0 c.poll-result.new.self scene.shared.log) (sym still) (poll.part lines channels holds);
       answer = subst (λ (scene : SceneState). IsDbaseAnswer 0 c.poll-result.result d.dbase c.poll-result.new.self (known p.scene) (known scene)) (sym still) poll.answer;
       ended = poll.ended;
-      looked = poll.looked;
+      looked = λ alive. found_mark d.desk.shared.log d.desk (is_over c.poll-result.result) (poll.looked alive);
       counted = λ holds. subst KeepsCopies (sym still) (poll.counted holds);
     })
     (subst (PipeKeeps play ahead) (sym c.self.view_is) keeps))

@@ -3,6 +3,7 @@ use Rattle.std.proofs.lemmas.Option.{same_Some}
 use Rattle.stage_parts.specs.declared.packets.Packet.{Packet}
 use Rattle.stage_parts.specs.Packets.{bytes_in}
 use Rattle.stage_parts.specs.Pictures.{streamed}
+use Rattle.frame_stages.specs.Stays.{EndPlace}
 use Rattle.pipe_core.specs.Pipes.{PipeWork, core_of, PipeKeeps, Lifted, link_work}
 use Rattle.pipe_core.specs.declared.events.Event.TheVariants as event
 use Rattle.pipe_core.proofs.Polls.{in_order, draw_polls}
@@ -44,10 +45,10 @@ returns-clause-lifted g c =
       link_b = in_order q.b.line.sent q.b.line.taken c.poll.new.from.items.items c.poll.new.from.in_order;
       link_c = in_order q.c.line.sent q.c.line.taken c.poll.new.to.items.items c.poll.new.to.in_order;
       told = poll.told;
-      take_room = poll.take_room;
-      told_sent = poll.told_sent;
-      send_room = poll.send_room;
-      told_taken = poll.told_taken;
+      take_room = ap (λ (e : EndPlace). e.room) poll.from;
+      told_sent = ap (λ (e : EndPlace). e.other_end) poll.from;
+      send_room = ap (λ (e : EndPlace). e.room) poll.to;
+      told_taken = ap (λ (e : EndPlace). e.other_end) poll.to;
       given = poll.given;
       part = poll.part;
       answer = poll.answer;
@@ -60,7 +61,7 @@ pub returns-clause-stream : goal.returns-clause-stream
 returns-clause-stream g c =
     λ play.
     let state = c.self.inside.app.state in
-    ap (λ (ps : List Packet). streamed state.written state.fault (map bytes_in ps)) (same_Some _ _ c.poll.ensures.told_taken)
+    ap (λ (ps : List Packet). streamed state.written state.fault (map bytes_in ps)) (same_Some _ _ (ap (λ (e : EndPlace). e.other_end) c.poll.ensures.to))
     ∙ ap (λ (x : PipeWork). (core_of play x).pipe.stream) c.self.view_is
 
 pub returns-clause-whole : goal.returns-clause-whole

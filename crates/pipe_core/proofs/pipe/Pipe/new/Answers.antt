@@ -4,7 +4,7 @@ use Rattle.stage_parts.specs.States.{Setup}
 use Rattle.frame_stages.specs.AppWorks as app
 use Rattle.frame_stages.specs.DbaseWorks as base
 use Rattle.frame_stages.specs.DbaseWorks.{DbaseHolds}
-use Rattle.pipe_core.specs.Cores.{setup_of}
+use Rattle.pipe_plays.specs.Plays.{setup_of}
 use Rattle.pipe_core.specs.Pipes.{opening_scene}
 use Rattle.pipe_core.proofs.Openings.{new_keeps, of_ok, one_ok}
 use Rattle.pipe_core.proofs.pipe.Pipe.new.Goals as goal

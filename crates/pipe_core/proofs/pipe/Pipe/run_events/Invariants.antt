@@ -1,7 +1,7 @@
 use Rattle.std.proofs.Common.{ℕ, take}
 use Rattle.pf_io.specs.Causes.{Calm}
 use Rattle.play_format.specs.Plays.{Script}
-use Rattle.pipe_core.specs.Cores.{CanRun}
+use Rattle.pipe_plays.specs.Plays.{CanRun}
 use Rattle.pipe_core.specs.Pipes.{PipeKeeps, HasRun}
 use Rattle.pipe_core.proofs.pipe.Pipe.run_events.Given as goal
 
