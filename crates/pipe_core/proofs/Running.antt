@@ -1,5 +1,6 @@
 -- Runs of events: each part that holds all four moves the core, until all stages have ended.
-use Rattle.std.proofs.Common.{◌≡◌, ◌⊎◌, ℕ, ◌+◌, ◌*◌, ◌≤◌, Bool, true, false, cond, ◌||◌, List, [], ◌∷◌, inl, inr, refl, sym, ap, ◌∙◌, subst, arith}
+use Rattle.std.proofs.Common.{◌≡◌, ◌⊎◌, ℕ, ◌+◌, ◌*◌, ◌≤◌, Bool, true, false, cond, ◌||◌, List, [], ◌∷◌, length, inl, inr, refl, sym, ap, ◌∙◌, subst, arith}
+use Rattle.std.specs.List.{AllByRecursion, flat_map}
 use Rattle.play_format.specs.Plays.{Script}
 use Rattle.play_check.specs.Stuck.{IsStuck}
 use Rattle.stage_parts.specs.Moves.{moved}
@@ -11,7 +12,7 @@ use Rattle.pipe_core.specs.Cores.{CoreState, CoreFits, HaveAllEnded, one_seat}
 use Rattle.pipe_core.specs.Waits.{IsIdleEvent}
 use Rattle.pipe_core.specs.Runs.{HasMoved, Rests, Ran, is_event, holds, holds_all, rounds, rounds_from}
 use Rattle.pipe_core.specs.Laws.{steps_in, RunLaw, BoundLaw}
-use Rattle.pipe_core.proofs.Rounds.{each_held}
+use Rattle.pipe_core.proofs.Rounds.{each_held, cutting_law}
 use Rattle.pipe_core.proofs.Progress.{progress}
 
 pub bound : BoundLaw
@@ -104,7 +105,7 @@ runs play ahead can free (e ∷ events) part n s t fits unset least gone ran =
         later (e ∷ part) n (subst (λ (v : CoreState). n ≤ moved v.pipe) (sym rests.same) least)
         (inr (subst (AreIdle play ahead (e ∷ part)) (sym rests.same) all)) (ap (λ (v : CoreState). v.stopped) rests.same ∙ unset)
 
-ran_fits : (play : Script) (ahead : ℕ) (events : List Event) (s t : CoreState) → CoreFits play ahead s → Ran play ahead events s t → CoreFits play ahead t
+pub ran_fits : (play : Script) (ahead : ℕ) (events : List Event) (s t : CoreState) → CoreFits play ahead s → Ran play ahead events s t → CoreFits play ahead t
 ran_fits play ahead [] s t fits ran = subst (CoreFits play ahead) (sym ran) fits
 ran_fits play ahead (e ∷ events) s t fits ran = ran_fits play ahead events ran.0 t ran.1.fits ran.2
 
@@ -119,3 +120,12 @@ run_law play ahead events s t can free fits unset ran = record { each_part = eac
     by many (inr moves) =
         let most = bound play ahead t (ran_fits play ahead events s t fits ran) in
         absurd (omega (arith, many, moves, most))
+
+-- events that can be cut into enough parts that hold all four end all stages
+pub parts_end : (play : Script) (ahead : ℕ) (parts : List (List Event)) (s t : CoreState) → CanRun play ahead →
+    (IsStuck play.app play.dbase → ⊥) → CoreFits play ahead s → s.stopped ≡ false →
+    AllByRecursion (λ part. holds_all part ≡ true) parts → 16 * (steps_in play + 1) ≤ length parts →
+    Ran play ahead (flat_map (λ part. part) parts) s t → HaveAllEnded play t.pipe
+parts_end play ahead parts s t can free fits unset all many ran =
+    let most = cutting_law parts all in
+    (run_law play ahead (flat_map (λ part. part) parts) s t can free fits unset ran).enough (omega (arith, many, most))

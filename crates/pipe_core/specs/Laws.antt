@@ -45,6 +45,20 @@ CuttingLaw =
     (parts : List (List Event)) → AllByRecursion (λ part. holds_all part ≡ true) parts →
     length parts ≤ rounds (flat_map (λ part. part) parts)
 
+-- a core in which all stages have ended: its history fits the play wholly, and the stream is all its pictures
+pub record IsPlayed (play : Script) (ahead : ℕ) (s : CoreState) : Type 0 where
+  pub ended : HaveAllEnded play s.pipe
+  pub shown : ShowsAll play ahead s.pipe
+
+-- Events of which none answers an error end a play that is not stuck, where they can be cut into enough parts that each
+-- hold all four: 16 for each step of the play, and 16 besides.
+abbrev pub PartsLaw : Type 0
+PartsLaw =
+    (play : Script) (ahead : ℕ) (parts : List (List Event)) (s t : CoreState) → CanRun play ahead →
+    (IsStuck play.app play.dbase → ⊥) → CoreFits play ahead s → s.stopped ≡ false →
+    AllByRecursion (λ part. holds_all part ≡ true) parts → 16 * (steps_in play + 1) ≤ length parts →
+    Ran play ahead (flat_map (λ part. part) parts) s t → IsPlayed play ahead t
+
 -- What a core that fits its play shows, and what it shows where all stages have ended.
 pub record AreShown (play : Script) (ahead : ℕ) (s : CoreState) : Type 0 where
   pub now : ShowsHistory play ahead s.pipe

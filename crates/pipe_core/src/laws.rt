@@ -1,5 +1,5 @@
 //! Laws of the core, each the contract of a call that does nothing.
-ghost use Rattle.pipe_core.specs.Laws.{ProgressLaw, BoundLaw, RunLaw, CuttingLaw, ShownLaw, FreedInPipeLaw};
+ghost use Rattle.pipe_core.specs.Laws.{ProgressLaw, BoundLaw, RunLaw, CuttingLaw, PartsLaw, ShownLaw, FreedInPipeLaw};
 
 use pipe_plays::laws::{a_pipe_shows_its_history, freed_serials_are_written};
 
@@ -24,6 +24,15 @@ pub fn enough_rounds_end_the_play()
 pub fn rounds_are_most()
     ensures { CuttingLaw }
 {}
+
+/// Events of which none answers an error end a play that is not stuck, where they can be cut into parts that each hold all
+/// four, 16 for each step of the play and 16 besides: all stages have ended, the history fits the play wholly, and the
+/// stream is all its pictures.
+pub fn events_in_enough_parts_end_the_play()
+    ensures { PartsLaw }
+{
+    a_pipe_shows_its_history();
+}
 
 /// The history of a core that fits its play is legal and fits the play, and the stream is a front of its pictures; where
 /// all stages have ended, the history fits the play wholly, and the stream is all its pictures.
