@@ -1,0 +1,47 @@
+"""What the tools' commands share: the text of --help, and how they end on an error."""
+import argparse
+import os
+import sys
+
+
+def parser(description):
+    """A parser of a command's words whose help shows the description as it is laid out."""
+    return argparse.ArgumentParser(description=description, formatter_class=argparse.RawDescriptionHelpFormatter)
+
+
+def whole_number(low, high=None):
+    """The kind of a word that is a whole number from low, up to high where that is given."""
+    def whole_number_word(word):
+        value = int(word)
+        if value < low or high is not None and value > high:
+            raise argparse.ArgumentTypeError(f"{word} is not " + (f"from {low} to {high}" if high else f"{low} or more"))
+        return value
+    whole_number_word.__name__ = "whole number"  # argparse says it of a word that is none
+    return whole_number_word
+
+
+def run(main, *errors):
+    """Runs a command; an error of these kinds, or of a file, ends it with a line and the status 1."""
+    name = os.path.basename(sys.argv[0])
+    try:
+        main()
+        sys.stdout.flush()
+    except BrokenPipeError:  # who reads the output has seen enough
+        os.dup2(os.open(os.devnull, os.O_WRONLY), sys.stdout.fileno())
+    except KeyboardInterrupt:
+        sys.exit(130)
+    except (OSError, *errors) as error:
+        sys.exit(f"{name}: {error}")
+
+
+def plural(count, name):
+    """A number of things: 1 frame, 2 frames."""
+    return f"{count:,} {name}" + ("" if count == 1 else "s")
+
+
+def read_bytes(path):
+    """The bytes of a file, or of standard input where the name is "-"."""
+    if path == "-":
+        return sys.stdin.buffer.read()
+    with open(path, "rb") as file:
+        return file.read()
