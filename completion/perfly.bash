@@ -1,0 +1,46 @@
+# Completion for perfly and fly in bash: source this file, or copy it to where bash-completion looks for one (README.md).
+
+# The words of perfly, and those that fly adds.
+_perfly_words="--mode --ahead --make"
+_fly_words="--jobs --quick --help --version"
+
+# The values that may follow a word; of --jobs, as many as there are processors.
+_perfly_values() {
+    case $1 in
+        --mode) echo appculldraw ;;
+        --ahead) echo {1..4} ;;
+        --make) echo {1..256} ;;
+        --jobs) seq -s ' ' "$(nproc 2> /dev/null || echo 4)" ;;
+    esac
+}
+
+# Offers the values of the word before the cursor, else the words that don't stand yet; files behind a redirection alone.
+_perfly() {
+    local cur=${COMP_WORDS[COMP_CWORD]} prev=${COMP_WORDS[COMP_CWORD - 1]} offered=$_perfly_words values word left=""
+    # Bash cuts --ahead=2 into three words.
+    if [ "$cur" = "=" ]; then
+        cur=""
+    elif [ "$prev" = "=" ]; then
+        prev=${COMP_WORDS[COMP_CWORD - 2]}
+    fi
+    [[ ${1##*/} != fly ]] || offered+=" $_fly_words"
+    COMPREPLY=()
+    if [[ $prev == *[\<\>] ]]; then
+        compopt -o filenames 2> /dev/null
+        mapfile -t COMPREPLY < <(compgen -f -- "$cur")
+        return
+    fi
+    if [[ " $offered " == *" $prev "* ]]; then
+        values=$(_perfly_values "$prev")
+        if [ -n "$values" ]; then
+            mapfile -t COMPREPLY < <(compgen -W "$values" -- "$cur")
+            return
+        fi
+    fi
+    for word in $offered; do
+        [[ " ${COMP_WORDS[*]:1:COMP_CWORD-1} " == *" $word "* ]] || left+=" $word"
+    done
+    mapfile -t COMPREPLY < <(compgen -W "$left" -- "$cur")
+}
+
+complete -F _perfly perfly fly
