@@ -18,3 +18,6 @@ pub mod Ends
 pub mod Fresh
 pub mod Undoes
 pub mod Rollbacks
+pub mod LinkFates
+pub mod Tights
+pub mod Merged

@@ -8,7 +8,7 @@ use Rattle.std.proofs.lemmas.List.{take_more}
 use Rattle.pf_model.specs.Graphs.{Look}
 use Rattle.pf_model.proofs.Members.{holds_appended}
 use Rattle.pf_edits.specs.declared.extents.Extent.{Extent}
-use Rattle.pf_edits.specs.Undoing.{AreSettled}
+use Rattle.pf_edits.specs.Settling.{AreSettled}
 use Rattle.pf_model.specs.Limits.{has_child}
 use Rattle.pf_model.proofs.Places.{funext}
 use Rattle.pf_edits.specs.declared.records.Record.{Record}
@@ -28,7 +28,7 @@ others_stay b id xs e =
 
 -- A parent forgotten that has no such child
 
-both : (p q : Bool) → (p && q) ≡ true → (p ≡ true) × (q ≡ true)
+pub both : (p q : Bool) → (p && q) ≡ true → (p ≡ true) × (q ≡ true)
 both true true h = (refl, refl)
 both true false h = absurd (cc)
 both false q h = absurd (cc)
@@ -55,17 +55,21 @@ settled_sound s t parent child nodes extents kept unlinked sound = record {
 pub more_settled : (s t : Slots) (parent : ℕ) (cs : List ℕ) (i : ℕ) → i < length cs → ((b : ℕ) → look_of t b ≡ look_of s b)
     → ((b p : ℕ) → is_in p (parents_of t b) ≡ true → is_in p (parents_of s b) ≡ true)
     → (has_child (look_of t) parent (get_or cs i 0) ≡ false → is_in parent (parents_of t (get_or cs i 0)) ≡ false)
-    → AreSettled (look_of s) (parents_of s) parent (take i cs) → AreSettled (look_of t) (parents_of t) parent (take (i + 1) cs)
-more_settled s t parent cs i within nodes fewer gone before x h out =
-    by (holds_appended x (get_or cs i 0) (take i cs) (sym (ap (is_in x) (take_more cs i 0 within)) ∙ h))
+    → AreSettled s (λ y x. parent == y && is_in x (take i cs)) → AreSettled t (λ y x. parent == y && is_in x (take (i + 1) cs))
+more_settled s t parent cs i within nodes fewer gone before y x h out = at (both (parent == y) (is_in x (take (i + 1) cs)) h)
   where
-    by : (is_in x (take i cs) ≡ true) ⊎ (get_or cs i 0 ≡ x) → is_in parent (parents_of t x) ≡ false
-    by (inl k) =
-        no_true (is_in parent (parents_of t x)) (λ j. not_true (fewer x parent j)
-        (before x k (subst (λ (f : Look). has_child f parent x ≡ false) (funext (look_of t) (look_of s) nodes) out)))
-    by (inr e) =
-        subst (λ (z : ℕ). is_in parent (parents_of t z) ≡ false) e
-        (gone (subst (λ (z : ℕ). has_child (look_of t) parent z ≡ false) (sym e) out))
+    by : (parent == y) ≡ true → (is_in x (take i cs) ≡ true) ⊎ (get_or cs i 0 ≡ x) → is_in y (parents_of t x) ≡ false
+    by same (inl k) =
+        no_true (is_in y (parents_of t x)) (λ j. not_true (fewer x y j)
+        (before y x (ap (λ u. u && is_in x (take i cs)) same ∙ k) (subst (λ (f : Look). has_child f y x ≡ false) (funext (look_of t) (look_of s) nodes) out)))
+    by same (inr e) =
+        subst (λ (p : ℕ). is_in p (parents_of t x) ≡ false) (eqb-true parent y same)
+        (subst (λ (z : ℕ). is_in parent (parents_of t z) ≡ false) e
+        (gone (subst (λ (z : ℕ). has_child (look_of t) parent z ≡ false) (sym e)
+        (subst (λ (p : ℕ). has_child (look_of t) p x ≡ false) (sym (eqb-true parent y same)) out))))
+
+    at : ((parent == y) ≡ true) × (is_in x (take (i + 1) cs) ≡ true) → is_in y (parents_of t x) ≡ false
+    at k = by k.0 (holds_appended x (get_or cs i 0) (take i cs) (sym (ap (is_in x) (take_more cs i 0 within)) ∙ k.1))
 
 -- The parents of a record that is rewritten
 

@@ -1,5 +1,5 @@
 -- What a working graph tells, before and after an edit.
-use Rattle.std.proofs.Common.{◌≡◌, ℕ, ◌≤◌, Bool, true, false, cond, ◌||◌, ◌==◌, ◌⊎◌, inl, inr, List, [], Option, Some, None, is_some, Result, Ok, Err, OnErr, refl, sym, ◌∙◌, ap, subst}
+use Rattle.std.proofs.Common.{◌≡◌, ℕ, ◌≤◌, Bool, true, false, cond, ◌||◌, ◌&&◌, ◌==◌, ◌⊎◌, inl, inr, List, [], Option, Some, None, is_some, Result, Ok, Err, OnErr, refl, sym, ◌∙◌, ap, subst}
 use Rattle.std.specs.Option.{option_map, option_map_or}
 use Rattle.std.proofs.lemmas.Bool.{eqb-true, eq-eqb}
 use Rattle.pf_model.specs.declared.nodes.Node.{Node}
@@ -21,6 +21,7 @@ use Rattle.pf_edits.specs.Listed.{nodes_of}
 use Rattle.pf_edits.specs.Working.{IsWorking}
 use Rattle.pf_edits.proofs.Ups.{head_or_rest, ahead, not_true, no_true}
 use Rattle.pf_edits.proofs.Relinks.{no_cycle}
+use Rattle.pf_edits.proofs.Settles.{both}
 use Rattle.pf_edits.proofs.Listed.{found, looks}
 
 pub on_err : {A E : Type 0} {P : Type 0} (r : Result A E) → P → OnErr r P
@@ -135,3 +136,59 @@ taken_noted s t sound low id r some others x h = ap (is_in id) (others x away) �
 
     away : (x == id) ≡ false
     away = no_true (x == id) (λ e. not_true (ahead (x == id) (is_below (look_of s) x id) e) (no_cycle (look_of s) low id x is))
+
+-- Nodes that are gone, and what is noted again
+
+parent_there : (look : Look) (y x : ℕ) → has_child look y x ≡ true → is_some (look y) ≡ true
+parent_there look y x h = by (look y) h
+  where
+    by : (o : Option Node) → is_in x (option_map_or (λ (n : Node). n.children) o []) ≡ true → is_some o ≡ true
+    by None k = absurd (cc)
+    by (Some n) k = refl
+
+-- no node is gone
+pub none_gone : (s t : Slots) → ((y : ℕ) → is_some (look_of s y) ≡ true → is_some (look_of t y) ≡ true)
+    → (y x : ℕ) → has_child (node_at (nodes_of s)) y x ≡ true → is_some (node_at (nodes_of t) y) ≡ false → false ≡ true
+none_gone s t still y x h gone =
+    absurd (not_true (still y (ap (λ (o : Option Node). is_some o) (sym (found s y)) ∙ parent_there (node_at (nodes_of s)) y x h)) (ap (λ (o : Option Node). is_some o) (sym (found t y)) ∙ gone))
+
+pub put_stays : (s t : Slots) (id : ℕ) (n : Node) → ((b : ℕ) → look_of t b ≡ cond (b == id) (Some n) (look_of s b)) → (y : ℕ) → is_some (look_of s y) ≡ true → is_some (look_of t y) ≡ true
+put_stays s t id n set y there = ap (λ (o : Option Node). is_some o) (set y) ∙ by (y == id)
+  where
+    by : (u : Bool) → is_some (cond u (Some n) (look_of s y)) ≡ true
+    by true = refl
+    by false = there
+
+pub changed_stays : (s t : Slots) (id : ℕ) (f : Node → Node) → ((b : ℕ) → look_of t b ≡ cond (b == id) (option_map f (look_of s b)) (look_of s b))
+    → (y : ℕ) → is_some (look_of s y) ≡ true → is_some (look_of t y) ≡ true
+changed_stays s t id f set y there = ap (λ (o : Option Node). is_some o) (set y) ∙ by (y == id) (look_of s y) there
+  where
+    by : (u : Bool) (o : Option Node) → is_some o ≡ true → is_some (cond u (option_map f o) o) ≡ true
+    by u None k = absurd (cc)
+    by true (Some n) k = refl
+    by false (Some n) k = refl
+
+-- a deleted node's record has the parents that were noted
+pub deleted_back : (s : Slots) (id : ℕ) (r : Record) → record_at s id ≡ Some r → (y x : ℕ) → (id == x && is_in y r.parents) ≡ true → is_in y (parents_of s x) ≡ true
+deleted_back s id r some y x h = by (both (id == x) (is_in y r.parents) h)
+  where
+    by : ((id == x) ≡ true) × (is_in y r.parents ≡ true) → is_in y (parents_of s x) ≡ true
+    by k =
+        subst (λ (z : ℕ). is_in y (parents_of s z) ≡ true) (eqb-true id x k.0)
+        (ap (λ (o : Option Record). is_in y (option_map_or (λ r. r.parents) o [])) some ∙ k.1)
+
+-- and its children
+pub deleted_freed : (s t : Slots) (id : ℕ) (r : Record) → record_at s id ≡ Some r → ((b : ℕ) → look_of t b ≡ cond (b == id) None (look_of s b))
+    → (y x : ℕ) → has_child (node_at (nodes_of s)) y x ≡ true → is_some (node_at (nodes_of t) y) ≡ false → (id == y && is_in x r.node.children) ≡ true
+deleted_freed s t id r some set y x h gone = by (y == id) refl
+  where
+    link : has_child (look_of s) y x ≡ true
+    link = ap (λ (f : Look). has_child f y x) (sym (looks s)) ∙ h
+
+    by : (u : Bool) → (y == id) ≡ u → (id == y && is_in x r.node.children) ≡ true
+    by true e =
+        ap (λ v. v && is_in x r.node.children) (eq-eqb id y (sym (eqb-true y id e)))
+        ∙ sym (ap (λ (o : Option Record). is_in x (option_map_or (λ (n : Node). n.children) (option_map (λ r. r.node) o) [])) some)
+        ∙ subst (λ (z : ℕ). has_child (look_of s) z x ≡ true) (eqb-true y id e) link
+    by false e =
+        absurd (not_true (ap (λ (o : Option Node). is_some o) (found t y ∙ set y ∙ ap (λ u. cond u None (look_of s y)) e) ∙ parent_there (look_of s) y x link) gone)

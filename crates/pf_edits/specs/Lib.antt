@@ -4,4 +4,5 @@ pub mod Extents
 pub mod Listed
 pub mod Working
 pub mod Undoing
+pub mod Settling
 pub mod Refusals

@@ -1,10 +1,7 @@
 -- What undoes an edit.
-use Rattle.std.specs.Prelude.{◌≡◌, ℕ, ◌-◌, ◌==◌, ⊤, true, false, if◌then◌else◌, List, [], ◌∷◌, take, length, Option, Some, None, is_some}
-use Rattle.std.specs.Option.{option_map_or}
-use Rattle.pf_model.specs.declared.edits.Edit.{Edit}
-use Rattle.pf_model.specs.declared.edits.Edit.TheVariants as edit
-use Rattle.pf_model.specs.Graphs.{Look, SceneGraph, node_at, change, put, without}
-use Rattle.pf_model.specs.Limits.{has_child, IsGraphWithinLimits}
+use Rattle.std.specs.Prelude.{◌≡◌, ℕ, ◌-◌, ◌==◌, ◌&&◌, ⊤, Bool, true, false, if◌then◌else◌, List, [], ◌∷◌, take, length, None, is_some}
+use Rattle.pf_model.specs.Graphs.{SceneGraph, node_at, change, put, without}
+use Rattle.pf_model.specs.Limits.{is_there, has_child, IsGraphWithinLimits}
 use Rattle.pf_model.specs.NodeEdits.{with_children, with_kind}
 use Rattle.pf_model.specs.Edits.{with_nodes}
 use Rattle.pf_edits.specs.declared.undo.Older.{Older}
@@ -40,12 +37,31 @@ CanUndo id (older.Deleted r) g parents = (node_at g.nodes id ≡ None) × AllNot
 CanUndo id (older.Children cs) g parents = (is_some (node_at g.nodes id) ≡ true) × AllNote parents id cs
 CanUndo id (older.Kind k) g parents = is_some (node_at g.nodes id) ≡ true
 
+-- the parents noted of a node that an edit deleted, which undoing it notes again
+abbrev pub brings_back : ℕ → Older → ℕ → ℕ → Bool
+brings_back id older.Made y x = false
+brings_back id (older.Deleted r) y x = id == x && is_in y r.parents
+brings_back id (older.Children cs) y x = false
+brings_back id (older.Kind k) y x = false
+
+-- the links of a node to its children that went with it when an edit deleted it
+abbrev pub frees : ℕ → Older → ℕ → ℕ → Bool
+frees id older.Made y x = false
+frees id (older.Deleted r) y x = id == y && is_in x r.node.children
+frees id (older.Children cs) y x = false
+frees id (older.Kind k) y x = false
+
 -- This undoes what was done between the two states.
 pub record IsUndo (u : Undo) (old new : Work) : Type 0 where
   pub can : CanUndo u.id u.older (told new) (parents_of new.records.slots)
   pub before : graph_before u.id u.older (told new) ≡ told old
   pub parents : (b p : ℕ) → is_in p (parents_of old.records.slots b) ≡ true
       → is_in p (parents_before u.id u.older (parents_of new.records.slots) b) ≡ true
+  -- undoing notes nothing that was not noted before
+  pub back : (y x : ℕ) → brings_back u.id u.older y x ≡ true → is_in y (parents_of old.records.slots x) ≡ true
+  -- the links of a node that is gone are told
+  pub freed : (y x : ℕ) → has_child (node_at (told old).nodes) y x ≡ true → is_there (node_at (told new).nodes) y ≡ false
+      → frees u.id u.older y x ≡ true
 
 -- all parents that were noted are noted still
 abbrev pub KeepsParents : Work → Work → Type 0
@@ -62,20 +78,3 @@ AllUndoable g parents (u ∷ us) =
 abbrev pub before_all : SceneGraph → List Undo → SceneGraph
 before_all g [] = g
 before_all g (u ∷ us) = before_all (graph_before u.id u.older g) us
-
--- the child that an edit takes away from the node that it names
-abbrev pub lost_child : Edit → Option ℕ
-lost_child (edit.Remove parent child) = Some child
-lost_child (edit.Replace parent child by) = Some child
-lost_child e = None
-
--- the children of the node that an edit names whose link may be gone after it
-abbrev pub lost_children : Edit → Older → List ℕ
-lost_children e older.Made = []
-lost_children e (older.Deleted r) = r.node.children
-lost_children e (older.Children cs) = option_map_or (λ c. c ∷ []) (lost_child e) []
-lost_children e (older.Kind k) = []
-
--- those of these nodes that are not its children do not have the id noted as a parent
-abbrev pub AreSettled : Look → (ℕ → List ℕ) → ℕ → List ℕ → Type 0
-AreSettled look parents id cs = (x : ℕ) → is_in x cs ≡ true → has_child look id x ≡ false → is_in id (parents x) ≡ false

@@ -30,13 +30,14 @@ pub struct WorkGraph {
 
 impl Model for WorkGraph {
     ghost use Rattle.pf_model.specs.Graphs.{SceneGraph};
-    ghost use Rattle.pf_edits.specs.Working.{told, IsWorking};
+    ghost use Rattle.pf_edits.specs.Working.{told};
+    ghost use Rattle.pf_edits.specs.Settling.{IsSettled};
 
     ghost Value = { SceneGraph };
 
     ghost view = { λ g. told g.work };
 
-    ghost invariant = { λ g. IsWorking g.work };
+    ghost invariant = { λ g. IsSettled g.work };
 }
 
 impl WorkGraph {

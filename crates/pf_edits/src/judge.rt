@@ -70,6 +70,7 @@ impl Work {
         ensures working { IsWorking self.new }
         ensures told { told self.new ≡ told self.old }
         ensures kept { KeepsParents self.old self.new }
+        ensures fewer { KeepsParents self.new self.old }
     {
         fault_with(&mut self.records, &mut self.way, parent, extent)
     }
@@ -81,6 +82,7 @@ impl Work {
         ensures working { IsWorking self.new }
         ensures told { told self.new ≡ told self.old }
         ensures kept { KeepsParents self.old self.new }
+        ensures fewer { KeepsParents self.new self.old }
     {
         if let Some(fault) = fault_of_add(&self.records, &mut self.way, parent, child) {
             return Some(fault);
@@ -96,6 +98,7 @@ impl Work {
         ensures working { IsWorking self.new }
         ensures told { told self.new ≡ told self.old }
         ensures kept { KeepsParents self.old self.new }
+        ensures fewer { KeepsParents self.new self.old }
     {
         if let Some(fault) = fault_of_insert(&self.records, &mut self.way, parent, place, child) {
             return Some(fault);
@@ -111,6 +114,7 @@ impl Work {
         ensures working { IsWorking self.new }
         ensures told { told self.new ≡ told self.old }
         ensures kept { KeepsParents self.old self.new }
+        ensures fewer { KeepsParents self.new self.old }
     {
         if let Some(fault) = fault_of_replace(&self.records, &mut self.way, parent, child, by) {
             return Some(fault);
@@ -134,6 +138,7 @@ impl Work {
         ensures working { IsWorking self.new }
         ensures told { told self.new ≡ told self.old }
         ensures kept { KeepsParents self.old self.new }
+        ensures fewer { KeepsParents self.new self.old }
     {
         match e {
             Edit::Make { id, .. } => fault_of_make(&self.records, *id),

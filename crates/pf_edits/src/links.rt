@@ -9,6 +9,7 @@ ghost use Rattle.pf_model.specs.Edits.{first, size_rules};
 ghost use Rattle.pf_edits.specs.Ways.{is_in, LeadUp};
 ghost use Rattle.pf_edits.specs.Extents.{look_of, parents_of, extent_at, reckoned, child_list, Meets, IsSound};
 ghost use Rattle.pf_edits.specs.Listed.{nodes_of};
+ghost use Rattle.pf_edits.specs.Settling.{Grows};
 
 use crate::climb::{climb, has_child, is_in, reckon_all, reckon_others, set_extent};
 use crate::extents::Extent;
@@ -121,6 +122,9 @@ fn note_parent(records: &mut Records, id: u16, parent: u16) -> Result<(), NoMemo
         → is_in parent (parents_of records.new.slots id) ≡ true) }
     ensures kept { (b : ℕ) → (p : ℕ) → is_in p (parents_of records.old.slots b) ≡ true
         → is_in p (parents_of records.new.slots b) ≡ true }
+    ensures grown { OnOk result (Grows (Some (parent, id)) records.old.slots records.new.slots) }
+    ensures fewer { OnErr result ((b : ℕ) → (p : ℕ) → is_in p (parents_of records.new.slots b) ≡ true
+        → is_in p (parents_of records.old.slots b) ≡ true) }
 {
     match records.take(id) {
         Some(mut record) => {
@@ -151,6 +155,9 @@ pub(crate) fn note_link(records: &mut Records, id: u16, parent: u16) -> Result<(
     ensures noted { OnOk result (is_in parent (parents_of records.new.slots id) ≡ true) }
     ensures kept { (b : ℕ) → (p : ℕ) → is_in p (parents_of records.old.slots b) ≡ true
         → is_in p (parents_of records.new.slots b) ≡ true }
+    ensures grown { OnOk result (Grows (Some (parent, id)) records.old.slots records.new.slots) }
+    ensures fewer { OnErr result ((b : ℕ) → (p : ℕ) → is_in p (parents_of records.new.slots b) ≡ true
+        → is_in p (parents_of records.old.slots b) ≡ true) }
 {
     if has_child(records, parent, id) || is_noted(records, id, parent) {
         return Ok(());

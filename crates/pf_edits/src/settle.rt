@@ -1,11 +1,11 @@
 //! Entries of parents whose link is gone, taken out once nothing is undone any more.
-ghost use Rattle.std.specs.Prelude.{◌≡◌, ◌==◌, ◌&&◌, ◌∷◌, [], ℕ, true, false};
-ghost use Rattle.std.specs.Option.{option_map_or};
+ghost use Rattle.std.specs.Prelude.{◌≡◌, ◌==◌, ◌&&◌, ℕ, true, false};
 ghost use Rattle.pf_model.specs.Limits.{has_child};
 ghost use Rattle.pf_edits.specs.Ways.{is_in};
 ghost use Rattle.pf_edits.specs.Extents.{look_of, parents_of, extent_at, IsSound};
 ghost use Rattle.pf_edits.specs.Working.{told, IsWorking};
-ghost use Rattle.pf_edits.specs.Undoing.{lost_child, lost_children, AreSettled};
+ghost use Rattle.pf_edits.specs.Undoing.{frees, KeepsParents};
+ghost use Rattle.pf_edits.specs.Settling.{asked_link, lost_link, is_link, loses, any_asks, any_takes, any_frees, any_loses, IsTight, IsTightBut, AreSettled};
 
 use crate::climb::has_child;
 use crate::records::Records;
@@ -49,7 +49,9 @@ fn settle_links(records: &mut Records, parent: u16, children: &[u16])
     requires { IsSound records.old.slots }
     ensures nodes { (b : ℕ) → look_of records.new.slots b ≡ look_of records.old.slots b }
     ensures sound { IsSound records.new.slots }
-    ensures settled { AreSettled (look_of records.new.slots) (parents_of records.new.slots) parent children.now }
+    ensures fewer { (b : ℕ) → (p : ℕ) → is_in p (parents_of records.new.slots b) ≡ true
+        → is_in p (parents_of records.old.slots b) ≡ true }
+    ensures settled { AreSettled records.new.slots (λ y x. parent == y && is_in x children.now) }
 {
     for child in children {
         settle_link(records, parent, *child);
@@ -57,7 +59,9 @@ fn settle_links(records: &mut Records, parent: u16, children: &[u16])
 }
 
 /// The parent and the child of the link that an edit asks for.
-fn asked_link(e: &Edit) -> Option<(u16, u16)> {
+fn asked_link(e: &Edit) -> Option<(u16, u16)>
+    ensures { result ≡ asked_link e.now }
+{
     match e {
         Edit::Add { parent, child } => Some((*parent, *child)),
         Edit::Insert { parent, child, .. } => Some((*parent, *child)),
@@ -66,76 +70,115 @@ fn asked_link(e: &Edit) -> Option<(u16, u16)> {
     }
 }
 
-/// The child that an edit takes away from the node that it names.
-fn lost_child(e: &Edit) -> Option<u16>
-    ensures { result ≡ lost_child e.now }
+/// The parent and the child of the link that an edit takes away.
+fn lost_link(e: &Edit) -> Option<(u16, u16)>
+    ensures { result ≡ lost_link e.now }
 {
     match e {
-        Edit::Remove { child, .. } | Edit::Replace { child, .. } => Some(*child),
+        Edit::Replace { parent, child, .. } => Some((*parent, *child)),
+        Edit::Remove { parent, child } => Some((*parent, *child)),
         _ => None,
     }
 }
 
-/// Forgets the parent of a child that an edit took away from it.
-fn settle_child(records: &mut Records, parent: u16, child: Option<u16>)
-    requires { IsSound records.old.slots }
-    ensures nodes { (b : ℕ) → look_of records.new.slots b ≡ look_of records.old.slots b }
-    ensures sound { IsSound records.new.slots }
-    ensures settled { AreSettled (look_of records.new.slots) (parents_of records.new.slots) parent (option_map_or (λ c. c ∷ []) child []) }
-{
-    if let Some(child) = child {
-        settle_link(records, parent, child);
-    }
-}
-
 impl Work {
-    /// Forgets the links that an edit took away.
-    pub(crate) fn settle(&mut self, e: &Edit, u: &Undo)
+    /// Forgets the parent of a pair of parent and child that is no link.
+    fn settle_pair(&mut self, pair: Option<(u16, u16)>)
         requires { IsWorking self.old }
         ensures working { IsWorking self.new }
         ensures told { told self.new ≡ told self.old }
-        ensures settled { AreSettled (look_of self.new.records.slots) (parents_of self.new.records.slots) u.now.id
-            (lost_children e.now u.now.older) }
+        ensures fewer { KeepsParents self.new self.old }
+        ensures settled { AreSettled self.new.records.slots (is_link pair) }
     {
-        match &u.older {
-            Older::Children(_) => settle_child(&mut self.records, u.id, lost_child(e)),
-            Older::Deleted(record) => {
-                settle_links(&mut self.records, u.id, record.node.children.as_slice());
-            }
-            Older::Made | Older::Kind(_) => {}
+        if let Some((parent, child)) = pair {
+            settle_link(&mut self.records, parent, child);
+        }
+    }
+
+    /// Forgets a node that an edit deleted as the parent of its children.
+    fn settle_deleted(&mut self, u: &Undo)
+        requires { IsWorking self.old }
+        ensures working { IsWorking self.new }
+        ensures told { told self.new ≡ told self.old }
+        ensures fewer { KeepsParents self.new self.old }
+        ensures settled { AreSettled self.new.records.slots (frees u.now.id u.now.older) }
+    {
+        if let Older::Deleted(record) = &u.older {
+            settle_links(&mut self.records, u.id, record.node.children.as_slice());
+        }
+    }
+
+    /// Forgets the links that an edit took away.
+    pub(crate) fn settle(&mut self, e: &Edit, u: &Undo)
+        requires working { IsWorking self.old }
+        requires lost { IsTightBut self.old.records.slots (loses e.now u.now) }
+        ensures working { IsWorking self.new }
+        ensures told { told self.new ≡ told self.old }
+        ensures tight { IsTight self.new.records.slots }
+    {
+        self.settle_pair(lost_link(e));
+        self.settle_deleted(u);
+    }
+
+    /// Forgets the links between two nodes that edits took away.
+    fn settle_lost(&mut self, es: &[Edit])
+        requires { IsWorking self.old }
+        ensures working { IsWorking self.new }
+        ensures told { told self.new ≡ told self.old }
+        ensures fewer { KeepsParents self.new self.old }
+        ensures settled { AreSettled self.new.records.slots (any_takes es.now) }
+    {
+        for e in es {
+            self.settle_pair(lost_link(e));
+        }
+    }
+
+    /// Forgets the nodes that edits deleted as the parents of their children.
+    fn settle_all_deleted(&mut self, done: &[Undo])
+        requires { IsWorking self.old }
+        ensures working { IsWorking self.new }
+        ensures told { told self.new ≡ told self.old }
+        ensures fewer { KeepsParents self.new self.old }
+        ensures settled { AreSettled self.new.records.slots (any_frees done.now) }
+    {
+        for undo in done {
+            self.settle_deleted(undo);
         }
     }
 
     /// Forgets the links that edits took away.
     pub(crate) fn settle_all(&mut self, es: &[Edit], done: &[Undo])
-        requires { IsWorking self.old }
+        requires working { IsWorking self.old }
+        requires lost { IsTightBut self.old.records.slots (any_loses es.now done.now) }
         ensures working { IsWorking self.new }
         ensures told { told self.new ≡ told self.old }
+        ensures tight { IsTight self.new.records.slots }
     {
-        for (e, undo) in es.iter().zip(done) {
-            self.settle(e, undo);
-        }
+        self.settle_lost(es);
+        self.settle_all_deleted(done);
     }
 
-    /// Forgets the link that an undone edit had made.
-    fn settle_undone(&mut self, e: &Edit)
+    /// Forgets the links that undone edits had asked for, but for those that there are.
+    fn settle_asked(&mut self, es: &[Edit])
         requires { IsWorking self.old }
         ensures working { IsWorking self.new }
         ensures told { told self.new ≡ told self.old }
-    {
-        if let Some((parent, child)) = asked_link(e) {
-            settle_link(&mut self.records, parent, child);
-        }
-    }
-
-    /// Forgets the links that undone edits had made.
-    pub(crate) fn settle_all_undone(&mut self, es: &[Edit])
-        requires { IsWorking self.old }
-        ensures working { IsWorking self.new }
-        ensures told { told self.new ≡ told self.old }
+        ensures fewer { KeepsParents self.new self.old }
+        ensures settled { AreSettled self.new.records.slots (any_asks es.now) }
     {
         for e in es {
-            self.settle_undone(e);
+            self.settle_pair(asked_link(e));
         }
+    }
+
+    /// Forgets the links that undone edits had asked for.
+    pub(crate) fn settle_all_undone(&mut self, es: &[Edit])
+        requires working { IsWorking self.old }
+        requires asked { IsTightBut self.old.records.slots (any_asks es.now) }
+        ensures working { IsWorking self.new }
+        ensures told { told self.new ≡ told self.old }
+        ensures tight { IsTight self.new.records.slots }
+    {
+        self.settle_asked(es);
     }
 }

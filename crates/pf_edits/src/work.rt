@@ -16,6 +16,7 @@ ghost use Rattle.pf_edits.specs.Extents.{look_of};
 ghost use Rattle.pf_edits.specs.Listed.{nodes_of};
 ghost use Rattle.pf_edits.specs.Working.{told, IsWorking};
 ghost use Rattle.pf_edits.specs.Undoing.{IsUndo, KeepsParents};
+ghost use Rattle.pf_edits.specs.Settling.{asked_link, loses, IsTight, IsTightBut, Grows};
 
 use crate::faults::{child_count, find_node};
 use crate::links::{note_link, relink_freely};
@@ -96,6 +97,7 @@ impl Work {
     pub(crate) fn new(alloc: Global) -> Result<Work, NoMemory>
         ensures working { IfOk result (λ w. IsWorking w) }
         ensures told { IfOk result (λ w. told w ≡ empty_scene) }
+        ensures tight { IfOk result (λ w. IsTight w.records.slots) }
     {
         let mut records = Records::new(alloc)?;
         let scene = Node {
@@ -125,6 +127,8 @@ impl Work {
         ensures unchanged { OnErr result (told self.new ≡ told self.old) }
         ensures undo { IfOk result (λ u. IsUndo u self.old self.new) }
         ensures kept { OnErr result (KeepsParents self.old self.new) }
+        ensures grown { OnOk result (Grows (asked_link (Edit.Make id kind.now)) self.old.records.slots self.new.records.slots) }
+        ensures fewer { OnErr result (KeepsParents self.new self.old) }
     {
         let kind = kind.copy()?;
         let count = self.records.len();
@@ -158,6 +162,8 @@ impl Work {
         ensures unchanged { OnErr result (told self.new ≡ told self.old) }
         ensures undo { IfOk result (λ u. IsUndo u self.old self.new) }
         ensures kept { OnErr result (KeepsParents self.old self.new) }
+        ensures grown { OnOk result (Grows (Some (parent, child)) self.old.records.slots self.new.records.slots) }
+        ensures fewer { OnErr result (KeepsParents self.new self.old) }
     {
         note_link(&mut self.records, child, parent)?;
         let older = relink_freely(&mut self.records, &mut self.way, parent, children);
@@ -176,6 +182,8 @@ impl Work {
         ensures unchanged { OnErr result (told self.new ≡ told self.old) }
         ensures undo { IfOk result (λ u. IsUndo u self.old self.new) }
         ensures kept { OnErr result (KeepsParents self.old self.new) }
+        ensures grown { OnOk result (Grows (asked_link (Edit.Add parent child)) self.old.records.slots self.new.records.slots) }
+        ensures fewer { OnErr result (KeepsParents self.new self.old) }
     {
         let place = child_count(&self.records, parent);
         let children = lengthened(&self.records, parent, place, child)?;
@@ -192,6 +200,8 @@ impl Work {
         ensures unchanged { OnErr result (told self.new ≡ told self.old) }
         ensures undo { IfOk result (λ u. IsUndo u self.old self.new) }
         ensures kept { OnErr result (KeepsParents self.old self.new) }
+        ensures grown { OnOk result (Grows (asked_link (Edit.Insert parent place child)) self.old.records.slots self.new.records.slots) }
+        ensures fewer { OnErr result (KeepsParents self.new self.old) }
     {
         let children = lengthened(&self.records, parent, usize::from(place), child)?;
         self.link(parent, child, children)
@@ -206,6 +216,8 @@ impl Work {
         ensures unchanged { OnErr result (told self.new ≡ told self.old) }
         ensures undo { IfOk result (λ u. IsUndo u self.old self.new) }
         ensures kept { OnErr result (KeepsParents self.old self.new) }
+        ensures grown { OnOk result (Grows (asked_link (Edit.Replace parent child by)) self.old.records.slots self.new.records.slots) }
+        ensures fewer { OnErr result (KeepsParents self.new self.old) }
     {
         let children = replaced(&self.records, parent, child, by)?;
         self.link(parent, by, children)
@@ -220,6 +232,8 @@ impl Work {
         ensures unchanged { OnErr result (told self.new ≡ told self.old) }
         ensures undo { IfOk result (λ u. IsUndo u self.old self.new) }
         ensures kept { OnErr result (KeepsParents self.old self.new) }
+        ensures grown { OnOk result (Grows (asked_link (Edit.Remove parent child)) self.old.records.slots self.new.records.slots) }
+        ensures fewer { OnErr result (KeepsParents self.new self.old) }
     {
         let children = shortened(&self.records, parent, child)?;
         let older = relink_freely(&mut self.records, &mut self.way, parent, children);
@@ -238,6 +252,8 @@ impl Work {
         ensures unchanged { OnErr result (told self.new ≡ told self.old) }
         ensures undo { IfOk result (λ u. IsUndo u self.old self.new) }
         ensures kept { OnErr result (KeepsParents self.old self.new) }
+        ensures grown { OnOk result (Grows (asked_link (Edit.Delete id)) self.old.records.slots self.new.records.slots) }
+        ensures fewer { OnErr result (KeepsParents self.new self.old) }
     {
         let remains = remains_of(&self.records, id)?;
         self.gone.reserve(1)?;
@@ -264,6 +280,8 @@ impl Work {
         ensures unchanged { OnErr result (told self.new ≡ told self.old) }
         ensures undo { IfOk result (λ u. IsUndo u self.old self.new) }
         ensures kept { OnErr result (KeepsParents self.old self.new) }
+        ensures grown { OnOk result (Grows (asked_link edit.now) self.old.records.slots self.new.records.slots) }
+        ensures fewer { OnErr result (KeepsParents self.new self.old) }
     {
         let id = edit.named();
         let kind = new_kind(&self.records, self.time, edit)?;
@@ -285,6 +303,8 @@ impl Work {
         ensures unchanged { OnErr result (told self.new ≡ told self.old) }
         ensures undo { IfOk result (λ u. IsUndo u self.old self.new) }
         ensures kept { OnErr result (KeepsParents self.old self.new) }
+        ensures grown { OnOk result (Grows (asked_link e.now) self.old.records.slots self.new.records.slots) }
+        ensures fewer { OnErr result (KeepsParents self.new self.old) }
     {
         match e {
             Edit::Make { id, kind } => self.make(*id, kind),
@@ -314,6 +334,7 @@ impl Work {
     /// Makes an edit, or refuses it and stays as it was. All its faults are tested before memory is asked.
     pub(crate) fn edit(&mut self, e: &Edit) -> Result<Undo, EditError>
         requires working { IsWorking self.old }
+        requires tight { IsTight self.old.records.slots }
         requires serials { self.old.next_serial < 2 ^ 32 - 1 }
         requires fits { fits e.now ≡ true }
         ensures working { IsWorking self.new }
@@ -322,8 +343,8 @@ impl Work {
         ensures fault { IfErr result (λ r. Refuses r (fault_of (told self.old) e.now)) }
         ensures memory { IsErrOf result EditError.NoMemory → fault_of (told self.old) e.now ≡ None }
         ensures unchanged { OnErr result (told self.new ≡ told self.old) }
-        ensures undo { IfOk result (λ u. IsUndo u self.old self.new) }
-        ensures kept { OnErr result (KeepsParents self.old self.new) }
+        ensures lost { IfOk result (λ u. IsTightBut self.new.records.slots (loses e.now u)) }
+        ensures tight { OnErr result (IsTight self.new.records.slots) }
     {
         if let Some(fault) = self.judge(e) {
             return Err(EditError::Fault(fault));

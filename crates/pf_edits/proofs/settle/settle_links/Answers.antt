@@ -8,6 +8,7 @@ loop-child-preserved c =
     record {
       nodes = λ b. c.settle_link.ensures.nodes b ∙ v.nodes b;
       sound = c.settle_link.ensures.sound;
+      fewer = λ b p h. v.fewer b p (c.settle_link.ensures.fewer b p h);
       settled = more_settled c.loop-child.records.slots c.settle_link.new.records.slots c.args.parent c.args.children.now c.loop-child.child-index c.loop-child-test.true
           c.settle_link.ensures.nodes c.settle_link.ensures.fewer c.settle_link.ensures.gone v.settled;
     }

@@ -6,5 +6,5 @@ use Rattle.pf_edits.proofs.graph.WorkGraph.size.Goals as goal
 
 pub returns : goal.returns
 returns c =
-    ap (λ (e : Extent). e.size) c.extent_at.ensures ∙ size_told c.self.inside.work c.self.invariant 0
+    ap (λ (e : Extent). e.size) c.extent_at.ensures ∙ size_told c.self.inside.work c.self.invariant.working 0
     ∙ ap (λ (g : SceneGraph). size_of (node_at g.nodes) 0) c.self.view_is

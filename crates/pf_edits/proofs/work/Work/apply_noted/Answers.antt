@@ -1,4 +1,4 @@
-use Rattle.std.proofs.Common.{List, ◌∷◌, reverse, sym, ◌∙◌, ap, subst}
+use Rattle.std.proofs.Common.{List, [], ◌∷◌, ◌++◌, reverse, sym, ◌∙◌, ap, subst}
 use Rattle.pf_edits.specs.declared.undo.Undo.{Undo}
 use Rattle.pf_edits.specs.Extents.{parents_of}
 use Rattle.pf_edits.specs.Working.{told}
@@ -18,3 +18,10 @@ returns-clause-undoable c =
     (sym (ap reverse c.in-Ok.ensures.items ∙ one_more c.reserve.new.self.items c.in_ok-undo.undo
     ∙ ap (λ (us : List Undo). c.in_ok-undo.undo ∷ reverse us) c.reserve.ensures.items))
     (undoable_next c.args.self.now c.apply.new.self c.in_ok-undo.undo (reverse c.args.done.now.items) c.requires.working c.in_ok-undo.ensures.undo c.requires.undoable)
+
+pub returns-clause-noted : goal.returns-clause-noted
+returns-clause-noted c = record {
+  undo = c.in_ok-undo.undo;
+  is_undo = c.in_ok-undo.ensures.undo;
+  last = c.in-Ok.ensures.items ∙ ap (λ (us : List Undo). us ++ c.in_ok-undo.undo ∷ []) c.reserve.ensures.items;
+}

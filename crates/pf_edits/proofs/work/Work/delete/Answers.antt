@@ -18,8 +18,9 @@ use Rattle.pf_edits.specs.Working.{told}
 use Rattle.pf_edits.proofs.Listed.{found, looks, without_nodes}
 use Rattle.pf_edits.proofs.Uses.{listed}
 use Rattle.pf_edits.proofs.Ups.{no_true, not_true}
-use Rattle.pf_edits.proofs.Works.{within_after, low_of, made_there, taken_noted, taken_parents}
+use Rattle.pf_edits.proofs.Works.{within_after, low_of, made_there, taken_noted, taken_parents, deleted_back, deleted_freed}
 use Rattle.pf_edits.proofs.Undoes.{back_deleted, without_last}
+use Rattle.pf_edits.proofs.Tights.{taken_grows}
 use Rattle.pf_edits.proofs.work.Work.delete.Goals as goal
 
 pub remove-requires-clause-unused : goal.remove-requires-clause-unused
@@ -79,8 +80,13 @@ returns-clause-undo c =
       );
       before = both w _ _ _ _ nodes gone;
       parents = taken_parents w.records.slots c.remove.new.records.slots c.args.id c.in-Some.record some c.remove.ensures.parents;
+      back = deleted_back w.records.slots c.args.id c.in-Some.record some;
+      freed = deleted_freed w.records.slots c.remove.new.records.slots c.args.id c.in-Some.record some c.remove.ensures.nodes;
     }
 
 pub remains_of-requires : goal.remains_of-requires
 remains_of-requires c =
     there_from (nodes_of c.args.self.now.records.slots) c.args.id (all_passed (delete_rules (nodes_of c.args.self.now.records.slots) c.args.id) c.requires.none).0
+
+pub returns-clause-grown : goal.returns-clause-grown
+returns-clause-grown c = taken_grows c.args.self.now.records.slots c.remove.new.records.slots c.args.id c.remove.ensures.nodes c.remove.ensures.parents

@@ -8,7 +8,7 @@ use Rattle.pf_edits.specs.Extents.{look_of}
 use Rattle.pf_edits.specs.Tables.{Slots}
 use Rattle.pf_edits.specs.Ways.{is_in}
 use Rattle.pf_edits.proofs.Listed.{found, same_nodes, changed_nodes}
-use Rattle.pf_edits.proofs.Works.{on_err, low_of, told_nodes, all_noted, none_above_parent, old_noted, there_after}
+use Rattle.pf_edits.proofs.Works.{on_err, low_of, told_nodes, all_noted, none_above_parent, old_noted, there_after, none_gone, changed_stays}
 use Rattle.pf_edits.proofs.Undoes.{back_children}
 use Rattle.pf_edits.proofs.work.Work.link.Goals as goal
 
@@ -32,6 +32,9 @@ returns-in_err-note_link-clause-unchanged c =
 
 pub returns-in_err-note_link-clause-kept : goal.returns-in_err-note_link-clause-kept
 returns-in_err-note_link-clause-kept c = on_err c.from_residual.result c.note_link.ensures.kept
+
+pub returns-in_err-note_link-clause-fewer : goal.returns-in_err-note_link-clause-fewer
+returns-in_err-note_link-clause-fewer c = on_err c.from_residual.result c.in_err-note_link.ensures.fewer
 
 pub relink_freely-older-requires-clause-low : goal.relink_freely-older-requires-clause-low
 relink_freely-older-requires-clause-low c =
@@ -83,4 +86,11 @@ returns-clause-undo c =
           (back_children mid c.relink_freely-older.new.records.slots c.args.parent c.args.children c.relink_freely-older.result c.relink_freely-older.ensures.back c.relink_freely-older.ensures.nodes
           ∙ same_nodes w.records.slots mid c.note_link.ensures.nodes);
       parents = λ b p h. ap (is_in p) (c.relink_freely-older.ensures.parents b) ∙ c.note_link.ensures.kept b p h;
+      back = λ y x h. absurd (cc);
+      freed = none_gone w.records.slots c.relink_freely-older.new.records.slots
+          (λ y h. changed_stays mid c.relink_freely-older.new.records.slots c.args.parent (with_children c.args.children) c.relink_freely-older.ensures.nodes y
+          (ap (λ (o : Option Node). is_some o) (c.note_link.ensures.nodes y) ∙ h));
     }
+
+pub returns-clause-grown : goal.returns-clause-grown
+returns-clause-grown c = λ b p h. c.in_ok-note_link.ensures.grown b p (sym (ap (is_in p) (c.relink_freely-older.ensures.parents b)) ∙ h)

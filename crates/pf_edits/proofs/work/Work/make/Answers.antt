@@ -10,7 +10,7 @@ use Rattle.pf_edits.specs.Working.{told}
 use Rattle.std.specs.List.{count_by}
 use Rattle.std.proofs.lemmas.Bool.Decides.{nat_tests}
 use Rattle.pf_edits.proofs.Listed.{found, put_nodes, count_is}
-use Rattle.pf_edits.proofs.Works.{keeps_of, told_nodes, unused_of, no_record_of, within_after, made_there, fresh_parents}
+use Rattle.pf_edits.proofs.Works.{keeps_of, told_nodes, unused_of, no_record_of, within_after, made_there, fresh_parents, none_gone, put_stays}
 use Rattle.pf_edits.proofs.Undoes.{back_made}
 use Rattle.std.specs.Option.{option_map}
 use Rattle.pf_edits.specs.declared.records.Record.{Record}
@@ -18,6 +18,7 @@ use Rattle.pf_edits.specs.Tables.{Slots, record_at}
 use Rattle.pf_model.specs.declared.nodes.Kind.{Kind}
 use Rattle.pf_edits.specs.declared.work.Work.{Work}
 use Rattle.pf_edits.specs.Extents.{look_of}
+use Rattle.pf_edits.proofs.Tights.{new_grows}
 use Rattle.pf_edits.proofs.work.Work.make.Goals as goal
 
 free_id : (w : Work) (id : ℕ) → None ≡ first (make_rules (nodes_of w.records.slots) id) → is_some (look_of w.records.slots id) ≡ false
@@ -87,4 +88,9 @@ returns-clause-undo c =
       can = ap (λ (o : Option Node). is_some o) (made_there w.records.slots c.insert.new.records.slots c.args.id _ c.insert.ensures.nodes);
       before = λ i. record { nodes = nodes i; time = w.time; next_serial = one_less w.next_serial i; gone = w.gone.items };
       parents = fresh_parents w.records.slots c.insert.new.records.slots c.args.id _ absent c.insert.ensures.parents;
+      back = λ y x h. absurd (cc);
+      freed = none_gone w.records.slots c.insert.new.records.slots (put_stays w.records.slots c.insert.new.records.slots c.args.id _ c.insert.ensures.nodes);
     }
+
+pub returns-clause-grown : goal.returns-clause-grown
+returns-clause-grown c = new_grows c.args.self.now.records.slots c.insert.new.records.slots c.args.id c.new-2.result c.new-2.ensures c.insert.ensures.parents

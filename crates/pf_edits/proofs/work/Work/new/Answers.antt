@@ -7,6 +7,7 @@ use Rattle.pf_model.specs.Limits.{IsGraphWithinLimits}
 use Rattle.pf_model.proofs.Histories.{limits_empty}
 use Rattle.pf_edits.proofs.Listed.{put_nodes}
 use Rattle.pf_edits.proofs.Fresh.{empty_nodes}
+use Rattle.pf_edits.proofs.Tights.{new_tight}
 use Rattle.pf_edits.proofs.work.Work.new.Goals as goal
 
 both : (ns ms : Nodes) (xs : List Gone) → ns ≡ ms → xs ≡ []
@@ -34,3 +35,6 @@ returns-clause-working c = record {
       ∙ ap (put 0 (scene_with c.new-2.result)) (empty_nodes c.in_ok-records.records.slots c.in_ok-records.ensures.none)
       ∙ ap (λ cs. (0, scene_with cs) ∷ []) c.new-2.ensures) c.new-5.ensures.items)) limits_empty;
 }
+
+pub returns-clause-tight : goal.returns-clause-tight
+returns-clause-tight c = new_tight c.in_ok-records.records.slots c.insert.new.records.slots 0 c.new-3.result c.in_ok-records.ensures.none c.new-3.ensures c.insert.ensures.parents

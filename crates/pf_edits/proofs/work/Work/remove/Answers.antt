@@ -12,8 +12,9 @@ use Rattle.pf_edits.specs.Working.{told}
 use Rattle.pf_edits.proofs.Listed.{found, looks, changed_nodes}
 use Rattle.pf_edits.proofs.Relinks.{no_cycle}
 use Rattle.pf_edits.proofs.Ends.{remove_is, dropped_members}
-use Rattle.pf_edits.proofs.Works.{low_of, told_nodes, within_after, old_noted, there_after}
+use Rattle.pf_edits.proofs.Works.{low_of, told_nodes, within_after, old_noted, there_after, none_gone, changed_stays}
 use Rattle.pf_edits.proofs.Undoes.{back_children}
+use Rattle.pf_edits.proofs.Tights.{same_grows}
 use Rattle.pf_edits.proofs.work.Work.remove.Goals as goal
 
 pub relink_freely-older-requires-clause-low : goal.relink_freely-older-requires-clause-low
@@ -73,8 +74,14 @@ returns-clause-undo c =
       before = told_nodes w.time w.next_serial w.gone.items _ _
           (back_children w.records.slots c.relink_freely-older.new.records.slots c.args.parent c.in_ok-children.children c.relink_freely-older.result c.relink_freely-older.ensures.back c.relink_freely-older.ensures.nodes);
       parents = λ b p h. ap (is_in p) (c.relink_freely-older.ensures.parents b) ∙ h;
+      back = λ y x h. absurd (cc);
+      freed = none_gone w.records.slots c.relink_freely-older.new.records.slots
+          (changed_stays w.records.slots c.relink_freely-older.new.records.slots c.args.parent (with_children c.in_ok-children.children) c.relink_freely-older.ensures.nodes);
     }
 
 pub shortened-requires : goal.shortened-requires
 shortened-requires c =
     there_from (nodes_of c.args.self.now.records.slots) c.args.parent (all_passed (remove_rules (nodes_of c.args.self.now.records.slots) c.args.parent c.args.child) c.requires.none).0
+
+pub returns-clause-grown : goal.returns-clause-grown
+returns-clause-grown c = same_grows None c.args.self.now.records.slots c.relink_freely-older.new.records.slots c.relink_freely-older.ensures.parents

@@ -9,10 +9,12 @@ use Rattle.pf_model.proofs.Changes.{change_kind}
 use Rattle.pf_edits.specs.Listed.{nodes_of}
 use Rattle.pf_edits.specs.Working.{told}
 use Rattle.pf_edits.proofs.Listed.{found, changed_nodes}
-use Rattle.pf_edits.proofs.Works.{told_nodes, within_after, there_after}
+use Rattle.pf_edits.proofs.Works.{told_nodes, within_after, there_after, none_gone, changed_stays}
 use Rattle.pf_edits.proofs.Undoes.{back_kind}
 use Rattle.pf_edits.specs.Extents.{look_of}
 use Rattle.pf_edits.specs.Ways.{is_in}
+use Rattle.pf_edits.specs.Settling.{asked_link}
+use Rattle.pf_edits.proofs.Tights.{same_grows}
 use Rattle.pf_edits.proofs.work.Work.set_attribute.Goals as goal
 
 pub swap_kind-older-requires-clause-there : goal.swap_kind-older-requires-clause-there
@@ -58,8 +60,14 @@ returns-clause-undo c =
       before = told_nodes w.time w.next_serial w.gone.items _ _
           (back_kind w.records.slots c.swap_kind-older.new.records.slots c.named-id.result c.in_ok-kind.kind c.swap_kind-older.result c.swap_kind-older.ensures.back c.swap_kind-older.ensures.nodes);
       parents = λ b p h. ap (is_in p) (c.swap_kind-older.ensures.parents b) ∙ h;
+      back = λ y x h. absurd (cc);
+      freed = none_gone w.records.slots c.swap_kind-older.new.records.slots
+          (changed_stays w.records.slots c.swap_kind-older.new.records.slots c.named-id.result (with_kind c.in_ok-kind.kind) c.swap_kind-older.ensures.nodes);
     }
 
 pub new_kind-requires-clause-there : goal.new_kind-requires-clause-there
 new_kind-requires-clause-there c =
     attribute_there c.args.edit.now (node_at (nodes_of c.args.self.now.records.slots) (named_by c.args.edit.now)) c.requires.attribute (c.requires.none ∙ attribute_fault_is (told c.args.self.now) c.args.edit.now c.requires.attribute)
+
+pub returns-clause-grown : goal.returns-clause-grown
+returns-clause-grown c = same_grows (asked_link c.args.edit.now) c.args.self.now.records.slots c.swap_kind-older.new.records.slots c.swap_kind-older.ensures.parents

@@ -11,6 +11,7 @@ use Rattle.pf_edits.specs.Undoing.{graph_before}
 use Rattle.pf_edits.proofs.Listed.{put_nodes}
 use Rattle.pf_edits.proofs.Works.{keeps_of, unused_of, no_record_of}
 use Rattle.pf_edits.proofs.Rollbacks.{room_for, deleted_apart, absent_record}
+use Rattle.pf_edits.proofs.Tights.{put_grows}
 use Rattle.pf_edits.proofs.work.Work.undo_delete.Goals as goal
 
 pub prove-unreachable-requires : goal.prove-unreachable-requires
@@ -47,3 +48,6 @@ returns-clause-working c =
       free = c.requires.working.free;
       within = subst IsGraphWithinLimits (sym (both w _ _ _ _ (put_nodes w.records.slots c.insert.new.records.slots c.args.id c.args.older.node c.insert.ensures.nodes) rest)) c.requires.within;
     }
+
+pub returns-clause-entries : goal.returns-clause-entries
+returns-clause-entries c = put_grows c.args.self.now.records.slots c.insert.new.records.slots c.args.id c.args.older.parents c.insert.ensures.parents

@@ -4,6 +4,8 @@ use Rattle.pf_model.specs.NodeEdits.{with_kind}
 use Rattle.pf_edits.proofs.Listed.{changed_nodes}
 use Rattle.pf_edits.proofs.Works.{told_nodes}
 use Rattle.pf_edits.proofs.Rollbacks.{there_look}
+use Rattle.std.proofs.Common.{None}
+use Rattle.pf_edits.proofs.Tights.{same_grows}
 use Rattle.pf_edits.proofs.work.Work.undo_kind.Goals as goal
 
 pub swap_kind-requires-clause-there : goal.swap_kind-requires-clause-there
@@ -22,3 +24,6 @@ returns-clause-working c =
       free = c.requires.working.free;
       within = subst IsGraphWithinLimits (sym (told_nodes w.time w.next_serial w.gone.items _ _ (changed_nodes w.records.slots c.swap_kind.new.records.slots c.args.id (with_kind c.args.kind) c.swap_kind.ensures.nodes))) c.requires.within;
     }
+
+pub returns-clause-entries : goal.returns-clause-entries
+returns-clause-entries c = same_grows None c.args.self.now.records.slots c.swap_kind.new.records.slots c.swap_kind.ensures.parents

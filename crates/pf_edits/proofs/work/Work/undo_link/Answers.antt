@@ -4,6 +4,8 @@ use Rattle.pf_model.specs.NodeEdits.{with_children}
 use Rattle.pf_edits.proofs.Listed.{changed_nodes}
 use Rattle.pf_edits.proofs.Works.{low_of, told_nodes}
 use Rattle.pf_edits.proofs.Rollbacks.{link_apart, there_look}
+use Rattle.std.proofs.Common.{None}
+use Rattle.pf_edits.proofs.Tights.{same_grows}
 use Rattle.pf_edits.proofs.work.Work.undo_link.Goals as goal
 
 pub relink_freely-requires-clause-low : goal.relink_freely-requires-clause-low
@@ -28,3 +30,6 @@ returns-clause-working c =
       free = c.relink_freely.ensures.way;
       within = subst IsGraphWithinLimits (sym (told_nodes w.time w.next_serial w.gone.items _ _ (changed_nodes w.records.slots c.relink_freely.new.records.slots c.args.id (with_children c.args.children) c.relink_freely.ensures.nodes))) c.requires.within;
     }
+
+pub returns-clause-entries : goal.returns-clause-entries
+returns-clause-entries c = same_grows None c.args.self.now.records.slots c.relink_freely.new.records.slots c.relink_freely.ensures.parents

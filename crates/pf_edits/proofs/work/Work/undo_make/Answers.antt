@@ -4,6 +4,7 @@ use Rattle.pf_edits.specs.Working.{told}
 use Rattle.pf_edits.proofs.Listed.{without_nodes}
 use Rattle.pf_edits.proofs.Works.{told_nodes}
 use Rattle.pf_edits.proofs.Rollbacks.{made_unused, positive_serial, made_parents}
+use Rattle.pf_edits.proofs.Tights.{taken_grows}
 use Rattle.pf_edits.proofs.work.Work.undo_make.Goals as goal
 
 pub remove-requires-clause-unused : goal.remove-requires-clause-unused
@@ -28,3 +29,6 @@ returns-clause-working c =
       free = c.requires.working.free;
       within = subst IsGraphWithinLimits (sym (told_nodes w.time (w.next_serial - 1) w.gone.items _ _ (without_nodes w.records.slots c.remove.new.records.slots c.args.id c.remove.ensures.nodes))) c.requires.within;
     }
+
+pub returns-clause-entries : goal.returns-clause-entries
+returns-clause-entries c = taken_grows c.args.self.now.records.slots c.remove.new.records.slots c.args.id c.remove.ensures.nodes c.remove.ensures.parents

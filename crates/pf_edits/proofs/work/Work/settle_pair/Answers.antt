@@ -2,7 +2,7 @@ use Rattle.std.proofs.Common.{sym, subst}
 use Rattle.pf_model.specs.Limits.{IsGraphWithinLimits}
 use Rattle.pf_edits.proofs.Listed.{same_nodes}
 use Rattle.pf_edits.proofs.Works.{told_nodes}
-use Rattle.pf_edits.proofs.work.Work.settle_undone.Goals as goal
+use Rattle.pf_edits.proofs.work.Work.settle_pair.Goals as goal
 
 pub returns-in-Some-clause-told : goal.returns-in-Some-clause-told
 returns-in-Some-clause-told c =
