@@ -1,6 +1,6 @@
 -- The greatest values of linear functions in a block, and what they tell of a face.
 use Rattle.std.proofs.Common.{ℕ, ◌+◌, ◌*◌, ◌<◌, ◌≤◌, arith}
-use Rattle.std.specs.Prelude.{ℤ, pos, neg_ℤ, ◌*ℤ◌, ◌≤ℤ◌}
+use Rattle.std.specs.Prelude.{ℤ, pos, neg_ℤ, ◌+ℤ◌, ◌*ℤ◌, ◌≤ℤ◌}
 use Rattle.std.proofs.lemmas.Int.{ints}
 use Rattle.std.proofs.lemmas.Nat.{mul-le}
 use Rattle.fx_math.proofs.Ring.{order, neg-mul, times_le}
@@ -18,8 +18,11 @@ slope_above a x m h l = times_le a (pos x) (pos m) h (omega (arith, ints, l))
 pub slope_below : (a : ℤ) (x m : ℕ) → a ≤ℤ pos 0 → m ≤ x → (a *ℤ pos x) ≤ℤ (a *ℤ pos m)
 slope_below a x m h l = omega (arith, order, times_le (neg_ℤ a) (pos m) (pos x) (omega (arith, ints, h)) (omega (arith, ints, l)), neg-mul a (pos m), neg-mul a (pos x))
 
-pub value_greatest : (g : Linear) (x y m n : ℕ) → (g.a *ℤ pos x) ≤ℤ (g.a *ℤ pos m) → (g.b *ℤ pos y) ≤ℤ (g.b *ℤ pos n) → value_at g x y ≤ℤ value_at g m n
-value_greatest g x y m n h k = omega (arith, order, h, k)
+sum_greatest : (a b p q c : ℤ) → a ≤ℤ p → b ≤ℤ q → (a +ℤ b +ℤ c) ≤ℤ (p +ℤ q +ℤ c)
+sum_greatest a b p q c h k = omega (arith, order, h, k)
+
+pub value_greatest : (g : Linear) (x y m n : ℕ) → ((pos 2 *ℤ g.a) *ℤ pos x) ≤ℤ ((pos 2 *ℤ g.a) *ℤ pos m) → ((pos 2 *ℤ g.b) *ℤ pos y) ≤ℤ ((pos 2 *ℤ g.b) *ℤ pos n) → value_at g x y ≤ℤ value_at g m n
+value_greatest g x y m n h k = sum_greatest _ _ _ _ g.c h k
 
 -- ---- a face whose values at the corners tell that it is not hit before a limit
 pub first_hidden : (f : Face) (b : Block) (limit : ℕ) → IsBelow f.edges.e0 b → IsHidden f b limit

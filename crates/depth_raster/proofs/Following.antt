@@ -103,6 +103,10 @@ all_related b before after P r n all is so_far q s column row =
 pub none_spanned : {X : Type 0} (b : Block) (before : ℕ → ℕ → X) (P : ℕ → ℕ → X → X → Type 0) (r start : ℕ) → SpanRelates b before before P r start start
 none_spanned b before P r start = record { done = λ q lo hi column. absurd (omega (arith, lo, hi)); others = λ q s column apart. refl }
 
+-- pixels that may stay as they are
+pub span_kept : {X : Type 0} (b : Block) (before : ℕ → ℕ → X) (P : ℕ → ℕ → X → X → Type 0) (r start end : ℕ) → ((q : ℕ) → start ≤ q → q < end → q < b.width → P q r (before q r) (before q r)) → SpanRelates b before before P r start end
+span_kept b before P r start end still = record { done = still; others = λ q s column apart. refl }
+
 -- one more pixel is written
 pub span_written : {A X : Type 0} (view : A → X) (d : A) (b : Block) (before : ℕ → ℕ → X) (xs : List A) (P : ℕ → ℕ → X → X → Type 0) (r start q i : ℕ) (v : A) → SpanRelates b before (λ p s. view (get_or xs (place_in b p s) d)) P r start q → length xs ≡ size_of b → start ≤ q → q < b.width → r < b.rows → i ≡ place_in b q r → P q r (view (get_or xs i d)) (view v)
     → SpanRelates b before (λ p s. view (get_or (set xs i v) (place_in b p s) d)) P r start (q + 1)

@@ -1,4 +1,3 @@
-pub mod Added
 pub mod BlockHits
 pub mod Composing
 pub mod Copied
@@ -26,9 +25,7 @@ pub mod PanesLeft
 pub mod PixelTiles
 pub mod Readied
 pub mod Settling
-pub mod Shading
 pub mod Shared
-pub mod Sides
 pub mod Skipped
 pub mod Slotted
 pub mod Sorting

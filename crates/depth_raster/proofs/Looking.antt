@@ -1,19 +1,17 @@
 -- Faces at pixels: what their tests tell of their hits.
 use Rattle.std.proofs.Common.{◌≡◌, ℕ, ◌+◌, ◌*◌, ◌/◌, ◌<◌, ◌≤◌, Bool, true, false, cond, Option, Some, None, refl, ap, sym, ◌∙◌, arith, ⊎_elim}
-use Rattle.std.specs.Prelude.{ℤ, pos, ◌+ℤ◌, ◌*ℤ◌, ◌≤ℤ◌, int_le, int_lt, nat_le, ◌&&◌}
+use Rattle.std.specs.Prelude.{ℤ, pos, ◌≤ℤ◌, int_le, int_lt, nat_le, ◌&&◌, ◌↔◌, IsTrue}
 use Rattle.std.specs.Option.{option_map_or, IfSome, IfNone}
 use Rattle.std.proofs.lemmas.Bool.{and_parts, both_ways, cases_lt}
 use Rattle.std.proofs.lemmas.Bool.Decides.{nat_tests}
 use Rattle.std.proofs.lemmas.Int.{ints}
 use Rattle.std.proofs.lemmas.Nat.{mul-le}
 use Rattle.std.proofs.Math.Nat.{lt-div-mul-add, div-mul-le_self, add-mul}
-use Rattle.fx_math.proofs.Ring.{expand, linear}
 use Rattle.tri_cover.specs.Faces.{is_in_box, is_covered, is_seen_at, depth_at, colour_at, face_hit}
-use Rattle.tri_cover.specs.Linears.{value_at, weight_at, IsTotal}
+use Rattle.tri_cover.specs.Linears.{value_at, weight_at}
 use Rattle.tri_cover.specs.declared.face.Face.{Face}
 use Rattle.tri_cover.specs.declared.hit.Hit.{Hit}
-use Rattle.depth_raster.specs.Looks.{Looks}
-use Rattle.tri_cover.specs.declared.linear.Linear.{Linear}
+use Rattle.depth_raster.specs.Looks.{Looks, IsSeen, IsSeenBefore}
 
 -- ---- the parts of a hit
 pub record IsHitOf (f : Face) (px py : ℕ) (h : Hit) : Type 0 where
@@ -88,17 +86,6 @@ covered_by x y z s a b c d = grind (arith, ints)
 pub covered_is : (f : Face) (px py : ℕ) → IsCoveredAt f px py → is_covered f px py ≡ true
 covered_is f px py is = covered_by (value_at f.edges.e0 px py) (value_at f.edges.e1 px py) (value_at f.edges.e2 px py) (value_at f.edges.sum px py) is.first is.second is.third is.sum
 
--- ---- the sum of the edge values
-polynomial : (a0 a1 a2 b0 b1 b2 c0 c1 c2 x y : ℤ) → (a0 +ℤ a1 +ℤ a2) *ℤ x +ℤ (b0 +ℤ b1 +ℤ b2) *ℤ y +ℤ (c0 +ℤ c1 +ℤ c2) ≡ (a0 *ℤ x +ℤ b0 *ℤ y +ℤ c0) +ℤ (a1 *ℤ x +ℤ b1 *ℤ y +ℤ c1) +ℤ (a2 *ℤ x +ℤ b2 *ℤ y +ℤ c2)
-polynomial a0 a1 a2 b0 b1 b2 c0 c1 c2 x y = simp expand (omega (arith, linear))
-
-pub total_at : (e0 e1 e2 s : Linear) (px py : ℕ) → IsTotal e0 e1 e2 s → value_at s px py ≡ value_at e0 px py +ℤ value_at e1 px py +ℤ value_at e2 px py
-total_at e0 e1 e2 s px py is =
-    ap (λ (a : ℤ). a *ℤ pos px +ℤ s.b *ℤ pos py +ℤ s.c) is.a_is
-    ∙ ap (λ (b : ℤ). (e0.a +ℤ e1.a +ℤ e2.a) *ℤ pos px +ℤ b *ℤ pos py +ℤ s.c) is.b_is
-    ∙ ap (λ (c : ℤ). (e0.a +ℤ e1.a +ℤ e2.a) *ℤ pos px +ℤ (e0.b +ℤ e1.b +ℤ e2.b) *ℤ pos py +ℤ c) is.c_is
-    ∙ polynomial e0.a e1.a e2.a e0.b e1.b e2.b e0.c e1.c e2.c (pos px) (pos py)
-
 -- ---- quotients
 pub limit_reached : (limit n s : ℕ) → 0 < s → limit * s ≤ n → limit ≤ n / s
 limit_reached limit n s some h = let q = lt-div-mul-add {a = n} {b = s} some in ⊎_elim (λ below. absurd (let m = mul-le (n / s + 1) s limit s (omega (arith, below)) (omega arith) in omega (arith, h, q, m, add-mul (n / s) 1 s))) (λ above. above) (cases_lt (n / s) limit)
@@ -143,11 +130,15 @@ looked f px py limit s (Some d) inside covered is some none =
       some.3,
     )
 
--- ---- weights
-pub weights_whole : (f : Face) (px py : ℕ) → is_covered f px py ≡ true → weight_at f.edges.e0 px py + weight_at f.edges.e1 px py + weight_at f.edges.e2 px py ≡ weight_at f.edges.sum px py
-weights_whole f px py h =
-    let c = covered_parts f px py h in
-    omega (arith, ints, c.first, c.second, c.third, c.sum, total_at f.edges.e0 f.edges.e1 f.edges.e2 f.edges.sum px py f.edges.total)
-
-pub weights_some : (f : Face) (px py : ℕ) → is_covered f px py ≡ true → 0 < weight_at f.edges.sum px py
-weights_some f px py h = omega (arith, ints, (covered_parts f px py h).sum)
+-- the same, where the depth does not matter
+pub seen : (f : Face) (px py limit s : ℕ) (b : Bool) → is_in_box f.extent px py ≡ true → is_covered f px py ≡ true → s ≡ weight_at f.edges.sum px py → (IsTrue b ↔ IsSeenBefore f limit s) → IsSeen f px py limit b
+seen f px py limit s true inside covered is before =
+    let at = before.0 refl in
+    let same : f.dividend / s ≡ depth_at f px py = ap (λ (n : ℕ). f.dividend / n) is in
+    (hit_seen f px py inside covered (omega (arith, at.near, same)) (omega (arith, at.far, same)), omega (arith, at.before, same))
+seen f px py limit s false inside covered is before = λ h hits.
+    let parts = hit_parts f px py h hits in
+    let same : depth_at f px py ≡ f.dividend / s = ap (λ (n : ℕ). f.dividend / n) (sym is) in ⊎_elim
+    (λ below. let no : false ≡ true = before.1 (record { near = omega (arith, parts.near, same); far = omega (arith, parts.far, same); before = omega (arith, below, parts.depth, same) }) in cc)
+    (λ above. above)
+    (cases_lt h.depth limit)

@@ -1,94 +1,200 @@
--- Sums along a row: how large they are, what a step makes of them, and the colour that they give.
-use Rattle.std.proofs.Common.{◌≡◌, ℕ, ◌+◌, ◌*◌, ◌/◌, ◌<◌, ◌≤◌, ◌^◌, List, [], ◌∷◌, Option, Some, None, refl, ap, sym, ◌∙◌, subst, arith, lit≤}
-use Rattle.std.specs.Prelude.{ℤ, pos, ◌+ℤ◌, ◌*ℤ◌, ◌≤ℤ◌, ◌<ℤ◌, unsigned_abs}
+-- Weighed sums and means along a row: how large they are, what a step makes of them, and the colours that they give.
+use Rattle.std.proofs.Common.{◌≡◌, ℕ, ◌+◌, ◌*◌, ◌/◌, ◌<◌, ◌≤◌, ◌^◌, [], ◌∷◌, Option, Some, None, true, refl, ap, sym, ◌∙◌, subst, arith, lit≤, ⊎_elim}
+use Rattle.std.specs.Prelude.{ℤ, pos, ◌+ℤ◌, ◌-ℤ◌, ◌*ℤ◌, ◌≤ℤ◌, ◌<ℤ◌, unsigned_abs}
 use Rattle.std.specs.Option.{IfSome}
+use Rattle.std.proofs.lemmas.Bool.{cases_lt}
 use Rattle.std.proofs.lemmas.Int.{ints, by_lt_z}
 use Rattle.std.proofs.Math.Nat.{lt-div-mul-add, div-mul-le_self}
+use Rattle.std.proofs.Math.IntN.{*ℤ-zero}
+use lib.IntN.{*ℤ_comm}
 use Rattle.fx_math.specs.Limits.{size_limit}
 use Rattle.fx_math.specs.Within.{IsWithin}
 use Rattle.fx_math.proofs.Ring.{expand, linear, order, mul-add, mul_left_comm, times_one, times_le, times_lt}
-use Rattle.fx_math.proofs.Size.{within_add, within_mul, within_more}
-use Rattle.tri_cover.specs.Faces.{face_hit}
+use Rattle.fx_math.proofs.Size.{within_add, within_sub, within_mul, within_more}
+use Rattle.tri_cover.specs.Faces.{face_hit, is_covered}
 use Rattle.tri_cover.specs.Hits.{channel}
-use Rattle.tri_cover.specs.Linears.{value_at, weight_at, IsNarrow}
+use Rattle.tri_cover.specs.Linears.{value_at, weight_at, step_of}
 use Rattle.tri_cover.specs.declared.face.Face.{Face}
 use Rattle.tri_cover.specs.declared.hit.Hit.{Hit}
 use Rattle.tri_cover.specs.declared.linear.Linear.{Linear}
-use Rattle.depth_raster.specs.Mixing.{mix, mix_of, AreBytes, AreColours, AreSumsAt, AreStepsOf, DoFit, IsSumOf, AreMeansBy, AreWhole, IsMean, HasMeans}
-use Rattle.depth_raster.specs.declared.mixing.Sums.{Sums}
-use Rattle.depth_raster.proofs.Looking.{hit_parts, covered_parts, quotient_is}
+use Rattle.tri_cover.proofs.EdgeLines.{total_value}
+use Rattle.depth_raster.specs.Means.{IsWeightAt, IsMeanOf, IsSmallMean, AreSmallMeans, IsNextOf, DoFit, AreMeansAt, colour_by, Stays, AreEven}
+use Rattle.depth_raster.specs.Mixing.{mix, mix_of, number_at, change_of, AreBytes}
+use Rattle.depth_raster.specs.Quotients.{IsMean, IsLeft, IsChannel}
+use Rattle.depth_raster.specs.declared.means.Mean.{Mean}
+use Rattle.depth_raster.specs.declared.means.Means.{Means}
+use Rattle.depth_raster.specs.declared.means.Weight.{Weight}
+use Rattle.depth_raster.proofs.Looking.{IsHitOf, IsCoveredAt, hit_parts, covered_parts, quotient_is}
+use Rattle.depth_raster.proofs.Stepped.{value_within, step_within, value_ahead}
 
 -- ---- how large they are
-place_within : (n : ℕ) → n ≤ size_limit → IsWithin (2 ^ 10) (pos n)
-place_within n l = record { size = l }
-
-pub narrow_within : (g : Linear) (px py : ℕ) → IsNarrow g → px ≤ size_limit → py ≤ size_limit → IsWithin (2 ^ 53) (value_at g px py)
-narrow_within g px py narrow column row =
-    within_more (2 ^ 53) (within_add (within_add (within_mul narrow.a_within (place_within px column)) (within_mul narrow.b_within (place_within py row))) narrow.c_within) (lit≤ tt)
-
-pub wide_within : (g : Linear) (px py : ℕ) → px ≤ size_limit → py ≤ size_limit → IsWithin (2 ^ 55) (value_at g px py)
-wide_within g px py column row =
-    within_more (2 ^ 55) (within_add (within_add (within_mul g.wide.a_within (place_within px column)) (within_mul g.wide.b_within (place_within py row))) g.wide.c_within) (lit≤ tt)
-
 byte_within : (n : ℕ) → n < 2 ^ 8 → IsWithin (2 ^ 8) (pos n)
 byte_within n l = record { size = omega (arith, l) }
 
-mix_within : (x y z : ℕ) (a b c : ℤ) → AreBytes x y z → IsWithin (2 ^ 53) a → IsWithin (2 ^ 53) b → IsWithin (2 ^ 53) c → IsWithin (3 * 2 ^ 61) (mix x y z a b c)
+mix_within : (x y z : ℕ) (a b c : ℤ) → AreBytes x y z → IsWithin (2 ^ 82) a → IsWithin (2 ^ 82) b → IsWithin (2 ^ 82) c → IsWithin (2 ^ 92) (mix x y z a b c)
 mix_within x y z a b c bytes p q r =
-    within_more (3 * 2 ^ 61) (within_add (within_add (within_mul (byte_within x bytes.first) p) (within_mul (byte_within y bytes.second) q)) (within_mul (byte_within z bytes.third) r)) (lit≤ tt)
+    within_more (2 ^ 92) (within_add (within_add (within_mul (byte_within x bytes.first) p) (within_mul (byte_within y bytes.second) q)) (within_mul (byte_within z bytes.third) r)) (lit≤ tt)
 
--- ---- a step
-moved : (u a v c : ℤ) → (u +ℤ a) +ℤ v +ℤ c ≡ (u +ℤ v +ℤ c) +ℤ a
-moved u a v c = omega (arith, order)
+number_within : (f : Face) (px py i : ℕ) → AreBytes (channel f.colours 0 i) (channel f.colours 1 i) (channel f.colours 2 i) → px ≤ size_limit → py ≤ size_limit → IsWithin (2 ^ 92) (number_at f px py i)
+number_within f px py i bytes column row =
+    mix_within (channel f.colours 0 i) (channel f.colours 1 i) (channel f.colours 2 i) (value_at f.edges.e0 px py) (value_at f.edges.e1 px py) (value_at f.edges.e2 px py) bytes
+    (value_within f.edges.e0 px py column row) (value_within f.edges.e1 px py column row) (value_within f.edges.e2 px py column row)
 
-value_next : (g : Linear) (px py : ℕ) → value_at g (px + 1) py ≡ value_at g px py +ℤ g.a
-value_next g px py =
-    let step : g.a *ℤ pos (px + 1) ≡ g.a *ℤ pos px +ℤ g.a = mul-add g.a (pos px) (pos 1) ∙ ap (λ (z : ℤ). g.a *ℤ pos px +ℤ z) (times_one g.a) in
-    ap (λ (z : ℤ). z +ℤ g.b *ℤ pos py +ℤ g.c) step ∙ moved (g.a *ℤ pos px) g.a (g.b *ℤ pos py) g.c
+step_small : (g : Linear) → IsWithin (2 ^ 82) (step_of g)
+step_small g = within_more (2 ^ 82) (step_within g) (lit≤ tt)
 
-mixes : (p q r a b c i j k : ℤ) → p *ℤ (a +ℤ i) +ℤ q *ℤ (b +ℤ j) +ℤ r *ℤ (c +ℤ k) ≡ (p *ℤ a +ℤ q *ℤ b +ℤ r *ℤ c) +ℤ (p *ℤ i +ℤ q *ℤ j +ℤ r *ℤ k)
-mixes p q r a b c i j k = omega (arith, order, mul-add p a i, mul-add q b j, mul-add r c k)
+change_within : (f : Face) (i : ℕ) → AreBytes (channel f.colours 0 i) (channel f.colours 1 i) (channel f.colours 2 i) → IsWithin (2 ^ 92) (change_of f i)
+change_within f i bytes =
+    mix_within (channel f.colours 0 i) (channel f.colours 1 i) (channel f.colours 2 i) (step_of f.edges.e0) (step_of f.edges.e1) (step_of f.edges.e2) bytes
+    (step_small f.edges.e0) (step_small f.edges.e1) (step_small f.edges.e2)
 
-mix_next : (x y z : ℕ) (a b c i j k : ℤ) → mix x y z (a +ℤ i) (b +ℤ j) (c +ℤ k) ≡ mix x y z a b c +ℤ mix x y z i j k
-mix_next x y z a b c i j k = mixes (pos x) (pos y) (pos z) a b c i j k
+left_within : (n w : ℤ) (m : Mean) → IsWithin (2 ^ 92) n → IsWithin (2 ^ 82) w → IsWithin (2 ^ 97) (n -ℤ pos m.mean *ℤ w)
+left_within n w m p q = within_more (2 ^ 97) (within_sub p (within_mul (byte_within m.mean m.byte) q)) (lit≤ tt)
 
--- the channel i of the vertices, weighed by the edge values at a pixel
-abbrev mix_at : Face → (px py i : ℕ) → ℤ
-mix_at f px py i = mix_of f.colours i (value_at f.edges.e0 px py) (value_at f.edges.e1 px py) (value_at f.edges.e2 px py)
-
-channel_next : (f : Face) (px py i : ℕ) (s d : ℤ) → s ≡ mix_at f px py i → d ≡ mix_of f.colours i f.edges.e0.a f.edges.e1.a f.edges.e2.a → s +ℤ d ≡ mix_at f (px + 1) py i
-channel_next f px py i s d e h =
-    let g = f.edges in
-    let now = mix_at f px py i in
-    ap (λ (u : ℤ). u +ℤ d) e ∙ ap (λ (u : ℤ). now +ℤ u) h
-    ∙ sym (mix_next (channel f.colours 0 i) (channel f.colours 1 i) (channel f.colours 2 i) (value_at g.e0 px py) (value_at g.e1 px py) (value_at g.e2 px py) g.e0.a g.e1.a g.e2.a)
-    ∙ ap (λ (u : ℤ). mix_of f.colours i u (value_at g.e1 px py +ℤ g.e1.a) (value_at g.e2 px py +ℤ g.e2.a)) (sym (value_next g.e0 px py))
-    ∙ ap (λ (u : ℤ). mix_of f.colours i (value_at g.e0 (px + 1) py) u (value_at g.e2 px py +ℤ g.e2.a)) (sym (value_next g.e1 px py))
-    ∙ ap (λ (u : ℤ). mix_of f.colours i (value_at g.e0 (px + 1) py) (value_at g.e1 (px + 1) py) u) (sym (value_next g.e2 px py))
-
-weight_next : (f : Face) (px py : ℕ) (s d : ℤ) → s ≡ value_at f.edges.sum px py → d ≡ f.edges.sum.a → s +ℤ d ≡ value_at f.edges.sum (px + 1) py
-weight_next f px py s d e h = ap (λ (u : ℤ). u +ℤ d) e ∙ ap (λ (u : ℤ). value_at f.edges.sum px py +ℤ u) h ∙ sym (value_next f.edges.sum px py)
-
-pub sums_next : (f : Face) (px py : ℕ) (s d t : Sums) → AreSumsAt f px py s → AreStepsOf f d → IsSumOf s d t → AreSumsAt f (px + 1) py t
-sums_next f px py s d t are steps is = record {
-  red_is = is.red_is ∙ channel_next f px py 0 s.red d.red are.red_is steps.red_is;
-  green_is = is.green_is ∙ channel_next f px py 1 s.green d.green are.green_is steps.green_is;
-  blue_is = is.blue_is ∙ channel_next f px py 2 s.blue d.blue are.blue_is steps.blue_is;
-  weight_is = is.weight_is ∙ weight_next f px py s.weight d.weight are.weight_is steps.weight_is;
+mean_small : (number step : ℤ) (w : Weight) (m : Mean) → IsWithin (2 ^ 92) number → IsWithin (2 ^ 92) step → IsMeanOf number step w m → IsSmallMean m
+mean_small number step w m p q is = record {
+  rest_within = subst (λ (z : ℤ). IsWithin (2 ^ 97) z) (sym is.rest_is) (left_within number w.here m p w.here_small);
+  change_within = subst (λ (z : ℤ). IsWithin (2 ^ 97) z) (sym is.change_is) (left_within step w.step m q w.step_small);
 }
 
-mix_at_within : (f : Face) (px py i : ℕ) → AreBytes (channel f.colours 0 i) (channel f.colours 1 i) (channel f.colours 2 i) → px ≤ size_limit → py ≤ size_limit → IsWithin (3 * 2 ^ 61) (mix_at f px py i)
-mix_at_within f px py i bytes column row =
-    let g = f.edges in
-    mix_within (channel f.colours 0 i) (channel f.colours 1 i) (channel f.colours 2 i) (value_at g.e0 px py) (value_at g.e1 px py) (value_at g.e2 px py) bytes
-    (narrow_within g.e0 px py g.e0_narrow column row) (narrow_within g.e1 px py g.e1_narrow column row) (narrow_within g.e2 px py g.e2_narrow column row)
+pub means_small : (f : Face) (px py : ℕ) (m : Means) → px ≤ size_limit → py ≤ size_limit → AreMeansAt f px py m → AreSmallMeans m
+means_small f px py m column row at = record {
+  red = mean_small (number_at f px py 0) (change_of f 0) m.weight m.red (number_within f px py 0 at.bytes.red column row) (change_within f 0 at.bytes.red) at.red;
+  green = mean_small (number_at f px py 1) (change_of f 1) m.weight m.green (number_within f px py 1 at.bytes.green column row) (change_within f 1 at.bytes.green) at.green;
+  blue = mean_small (number_at f px py 2) (change_of f 2) m.weight m.blue (number_within f px py 2 at.bytes.blue column row) (change_within f 2 at.bytes.blue) at.blue;
+}
 
-pub sums_fit : (f : Face) (px py : ℕ) (s d : Sums) → AreSumsAt f px py s → AreStepsOf f d → AreColours f.colours → px + 1 ≤ size_limit → py ≤ size_limit → DoFit s d
-sums_fit f px py s d are steps bytes column row = record {
-  red_within = subst (λ (z : ℤ). IsWithin (3 * 2 ^ 61) z) (sym (channel_next f px py 0 s.red d.red are.red_is steps.red_is)) (mix_at_within f (px + 1) py 0 bytes.red column row);
-  green_within = subst (λ (z : ℤ). IsWithin (3 * 2 ^ 61) z) (sym (channel_next f px py 1 s.green d.green are.green_is steps.green_is)) (mix_at_within f (px + 1) py 1 bytes.green column row);
-  blue_within = subst (λ (z : ℤ). IsWithin (3 * 2 ^ 61) z) (sym (channel_next f px py 2 s.blue d.blue are.blue_is steps.blue_is)) (mix_at_within f (px + 1) py 2 bytes.blue column row);
-  weight_within = subst (λ (z : ℤ). IsWithin (3 * 2 ^ 61) z) (sym (weight_next f px py s.weight d.weight are.weight_is steps.weight_is)) (within_more (3 * 2 ^ 61) (wide_within f.edges.sum (px + 1) py column row) (lit≤ tt));
+-- ---- further on in the row
+mixes : (p q r a b c i j k n : ℤ) → p *ℤ (a +ℤ i *ℤ n) +ℤ q *ℤ (b +ℤ j *ℤ n) +ℤ r *ℤ (c +ℤ k *ℤ n) ≡ (p *ℤ a +ℤ q *ℤ b +ℤ r *ℤ c) +ℤ (p *ℤ i +ℤ q *ℤ j +ℤ r *ℤ k) *ℤ n
+mixes p q r a b c i j k n = simp expand (omega (arith, linear))
+
+pub number_ahead : (f : Face) (px py i n : ℕ) → number_at f (px + n) py i ≡ number_at f px py i +ℤ change_of f i *ℤ pos n
+number_ahead f px py i n =
+    let g = f.edges in
+    ap (λ (u : ℤ). mix_of f.colours i u (value_at g.e1 (px + n) py) (value_at g.e2 (px + n) py)) (value_ahead g.e0 px py n)
+    ∙ ap (λ (u : ℤ). mix_of f.colours i (value_at g.e0 px py +ℤ step_of g.e0 *ℤ pos n) u (value_at g.e2 (px + n) py)) (value_ahead g.e1 px py n)
+    ∙ ap (λ (u : ℤ). mix_of f.colours i (value_at g.e0 px py +ℤ step_of g.e0 *ℤ pos n) (value_at g.e1 px py +ℤ step_of g.e1 *ℤ pos n) u) (value_ahead g.e2 px py n)
+    ∙ mixes (pos (channel f.colours 0 i)) (pos (channel f.colours 1 i)) (pos (channel f.colours 2 i)) (value_at g.e0 px py) (value_at g.e1 px py) (value_at g.e2 px py) (step_of g.e0) (step_of g.e1) (step_of g.e2) (pos n)
+
+left_ahead : (number step here change m n : ℤ) → (number -ℤ m *ℤ here) +ℤ (step -ℤ m *ℤ change) *ℤ n ≡ (number +ℤ step *ℤ n) -ℤ m *ℤ (here +ℤ change *ℤ n)
+left_ahead number step here change m n = simp expand (omega (arith, linear))
+
+-- what the mean leaves n pixels further on
+rest_ahead : (f : Face) (px py i n : ℕ) (w : Weight) (m : Mean) → IsWeightAt f px py w → IsMeanOf (number_at f px py i) (change_of f i) w m
+    → m.rest +ℤ m.change *ℤ pos n ≡ number_at f (px + n) py i -ℤ pos m.mean *ℤ (w.here +ℤ w.step *ℤ pos n)
+rest_ahead f px py i n w m at is =
+    ap (λ (z : ℤ). z +ℤ m.change *ℤ pos n) is.rest_is
+    ∙ ap (λ (z : ℤ). (number_at f px py i -ℤ pos m.mean *ℤ w.here) +ℤ z *ℤ pos n) is.change_is
+    ∙ left_ahead (number_at f px py i) (change_of f i) w.here w.step (pos m.mean) (pos n)
+    ∙ ap (λ (z : ℤ). z -ℤ pos m.mean *ℤ (w.here +ℤ w.step *ℤ pos n)) (sym (number_ahead f px py i n))
+
+weight_ahead : (f : Face) (px py n : ℕ) (w : Weight) → IsWeightAt f px py w → w.here +ℤ w.step *ℤ pos n ≡ value_at f.edges.sum (px + n) py
+weight_ahead f px py n w at =
+    ap (λ (z : ℤ). z +ℤ w.step *ℤ pos n) at.here_is
+    ∙ ap (λ (z : ℤ). value_at f.edges.sum px py +ℤ z *ℤ pos n) at.step_is
+    ∙ sym (value_ahead f.edges.sum px py n)
+
+weight_next : (f : Face) (px py : ℕ) (w : Weight) → IsWeightAt f px py w → w.here +ℤ w.step ≡ value_at f.edges.sum (px + 1) py
+weight_next f px py w at = ap (λ (z : ℤ). w.here +ℤ z) (sym (times_one w.step)) ∙ weight_ahead f px py 1 w at
+
+rest_next : (f : Face) (px py i : ℕ) (w : Weight) (m : Mean) → IsWeightAt f px py w → IsMeanOf (number_at f px py i) (change_of f i) w m
+    → m.rest +ℤ m.change ≡ number_at f (px + 1) py i -ℤ pos m.mean *ℤ value_at f.edges.sum (px + 1) py
+rest_next f px py i w m at is =
+    ap (λ (z : ℤ). m.rest +ℤ z) (sym (times_one m.change)) ∙ rest_ahead f px py i 1 w m at is
+    ∙ ap (λ (z : ℤ). number_at f (px + 1) py i -ℤ pos m.mean *ℤ z) (weight_ahead f px py 1 w at)
+
+weight_advanced : (f : Face) (px py : ℕ) (w v : Weight) → IsWeightAt f px py w → v.here ≡ w.here +ℤ w.step → v.step ≡ w.step → IsWeightAt f (px + 1) py v
+weight_advanced f px py w v at here step = record { here_is = here ∙ weight_next f px py w at; step_is = step ∙ at.step_is }
+
+mean_advanced : (f : Face) (px py i : ℕ) (w v : Weight) (m n : Mean) → IsWeightAt f px py w → IsMeanOf (number_at f px py i) (change_of f i) w m → IsNextOf m n → IsWeightAt f (px + 1) py v → v.step ≡ w.step
+    → IsMeanOf (number_at f (px + 1) py i) (change_of f i) v n
+mean_advanced f px py i w v m n at is next there step = record {
+  rest_is = next.rest_is ∙ rest_next f px py i w m at is
+      ∙ ap (λ (z : ℤ). number_at f (px + 1) py i -ℤ pos m.mean *ℤ z) (sym there.here_is)
+      ∙ ap (λ (k : ℕ). number_at f (px + 1) py i -ℤ pos k *ℤ v.here) (sym next.mean_is);
+  change_is = next.change_is ∙ is.change_is
+      ∙ ap (λ (z : ℤ). change_of f i -ℤ pos m.mean *ℤ z) (sym step)
+      ∙ ap (λ (k : ℕ). change_of f i -ℤ pos k *ℤ v.step) (sym next.mean_is);
+}
+
+pub means_advanced : (f : Face) (px py : ℕ) (m n : Means) → AreMeansAt f px py m → IsNextOf m.red n.red → IsNextOf m.green n.green → IsNextOf m.blue n.blue → n.weight.here ≡ m.weight.here +ℤ m.weight.step → n.weight.step ≡ m.weight.step
+    → AreMeansAt f (px + 1) py n
+means_advanced f px py m n at red green blue here step = record {
+  weight = there;
+  red = mean_advanced f px py 0 m.weight n.weight m.red n.red at.weight at.red red there step;
+  green = mean_advanced f px py 1 m.weight n.weight m.green n.green at.weight at.green green there step;
+  blue = mean_advanced f px py 2 m.weight n.weight m.blue n.blue at.weight at.blue blue there step;
+  bytes = at.bytes;
+}
+  where
+    there : IsWeightAt f (px + 1) py n.weight
+    there = weight_advanced f px py m.weight n.weight at.weight here step
+
+rest_fits : (f : Face) (px py i : ℕ) (w : Weight) (m : Mean) → AreBytes (channel f.colours 0 i) (channel f.colours 1 i) (channel f.colours 2 i) → px + 1 ≤ size_limit → py ≤ size_limit → IsWeightAt f px py w → IsMeanOf (number_at f px py i) (change_of f i) w m
+    → IsWithin (2 ^ 97) (m.rest +ℤ m.change)
+rest_fits f px py i w m bytes column row at is =
+    subst (λ (z : ℤ). IsWithin (2 ^ 97) z) (sym (rest_next f px py i w m at is))
+    (left_within (number_at f (px + 1) py i) (value_at f.edges.sum (px + 1) py) m (number_within f (px + 1) py i bytes column row) (value_within f.edges.sum (px + 1) py column row))
+
+pub means_fit : (f : Face) (px py : ℕ) (m : Means) → px + 1 ≤ size_limit → py ≤ size_limit → AreMeansAt f px py m → DoFit m
+means_fit f px py m column row at = record {
+  red = rest_fits f px py 0 m.weight m.red at.bytes.red column row at.weight at.red;
+  green = rest_fits f px py 1 m.weight m.green at.bytes.green column row at.weight at.green;
+  blue = rest_fits f px py 2 m.weight m.blue at.bytes.blue column row at.weight at.blue;
+  weight = subst (λ (z : ℤ). IsWithin (2 ^ 82) z) (sym (weight_next f px py m.weight at.weight)) (value_within f.edges.sum (px + 1) py column row);
+}
+
+-- ---- a mean beside another
+left_less : (number w m : ℤ) → (number -ℤ m *ℤ w) +ℤ w ≡ number -ℤ (m -ℤ pos 1) *ℤ w
+left_less number w m = simp expand (omega (arith, linear, order, times_one w))
+
+left_more : (number w m : ℤ) → (number -ℤ m *ℤ w) -ℤ w ≡ number -ℤ (m +ℤ pos 1) *ℤ w
+left_more number w m = simp expand (omega (arith, linear, order, times_one w))
+
+pub mean_less : (number step : ℤ) (w : Weight) (m n : Mean) → IsMeanOf number step w m → n.mean + 1 ≡ m.mean → n.rest ≡ m.rest +ℤ w.here → n.change ≡ m.change +ℤ w.step → IsMeanOf number step w n
+mean_less number step w m n is mean rest change =
+    let one : pos m.mean -ℤ pos 1 ≡ pos n.mean = omega (arith, ints, mean) in
+    record {
+      rest_is = rest ∙ ap (λ (z : ℤ). z +ℤ w.here) is.rest_is ∙ left_less number w.here (pos m.mean) ∙ ap (λ (z : ℤ). number -ℤ z *ℤ w.here) one;
+      change_is = change ∙ ap (λ (z : ℤ). z +ℤ w.step) is.change_is ∙ left_less step w.step (pos m.mean) ∙ ap (λ (z : ℤ). step -ℤ z *ℤ w.step) one;
+    }
+
+pub mean_more : (number step : ℤ) (w : Weight) (m n : Mean) → IsMeanOf number step w m → n.mean ≡ m.mean + 1 → n.rest ≡ m.rest -ℤ w.here → n.change ≡ m.change -ℤ w.step → IsMeanOf number step w n
+mean_more number step w m n is mean rest change =
+    let one : pos m.mean +ℤ pos 1 ≡ pos n.mean = omega (arith, ints, mean) in
+    record {
+      rest_is = rest ∙ ap (λ (z : ℤ). z -ℤ w.here) is.rest_is ∙ left_more number w.here (pos m.mean) ∙ ap (λ (z : ℤ). number -ℤ z *ℤ w.here) one;
+      change_is = change ∙ ap (λ (z : ℤ). z -ℤ w.step) is.change_is ∙ left_more step w.step (pos m.mean) ∙ ap (λ (z : ℤ). step -ℤ z *ℤ w.step) one;
+    }
+
+-- the number of which a mean leaves a rest
+pub number_whole : (number w r m : ℤ) → r ≡ number -ℤ m *ℤ w → r +ℤ m *ℤ w ≡ number
+number_whole number w r m is = omega (arith, order, is)
+
+-- ---- quotients
+taken : (number w r m : ℤ) → r ≡ number -ℤ m *ℤ w → number ≡ m *ℤ w +ℤ r
+taken number w r m is = omega (arith, order, is)
+
+pub left_mean : (number w r : ℤ) (m : ℕ) → r ≡ number -ℤ pos m *ℤ w → IsLeft r w → IsMean number w m
+left_mean number w r m is left =
+    let whole = taken number w r (pos m) is in
+    record { least = omega (arith, order, whole, left.least); most = omega (arith, order, whole, left.most) }
+
+pub mean_left : (number w r : ℤ) (m : ℕ) → r ≡ number -ℤ pos m *ℤ w → IsMean number w m → IsLeft r w
+mean_left number w r m is mean =
+    let whole = taken number w r (pos m) is in
+    record { least = omega (arith, order, whole, mean.least); most = omega (arith, order, whole, mean.most) }
+
+mean_is : (n w g : ℕ) → IsMean (pos n) (pos w) g → g ≡ n / w
+mean_is n w g mean =
+    let low : g * w ≤ n = omega (arith, ints, mean.least) in
+    let high : n < g * w + w = omega (arith, ints, mean.most) in
+    quotient_is n w g (omega (arith, low, high)) low high
+
+pub quotient_mean : (n w : ℕ) → 0 < w → IsMean (pos n) (pos w) (n / w)
+quotient_mean n w some = record {
+  least = omega (arith, ints, div-mul-le_self n w);
+  most = omega (arith, ints, lt-div-mul-add {a = n} {b = w} some);
 }
 
 -- ---- the colour
@@ -101,36 +207,85 @@ mix_whole x y z a b c p q r =
     ∙ ap (λ (u : ℤ). mix x y z (pos (unsigned_abs a)) u c) (whole b q)
     ∙ ap (λ (u : ℤ). mix x y z (pos (unsigned_abs a)) (pos (unsigned_abs b)) u) (whole c r)
 
+part_least : (x : ℕ) (a : ℤ) → pos 0 ≤ℤ a → pos 0 ≤ℤ (pos x *ℤ a)
+part_least x a p = omega (arith, order, times_le (pos x) (pos 0) a (omega (arith, ints)) p, *ℤ-zero (pos x))
+
+part_most : (x : ℕ) (a : ℤ) → x < 2 ^ 8 → pos 0 ≤ℤ a → (pos x *ℤ a) ≤ℤ (pos 255 *ℤ a)
+part_most x a l p = omega (arith, order, *ℤ_comm (pos x) a, *ℤ_comm (pos 255) a, times_le a (pos x) (pos 255) p (omega (arith, ints, l)))
+
+times_sum : (a b c : ℤ) → pos 255 *ℤ (a +ℤ b +ℤ c) ≡ pos 255 *ℤ a +ℤ pos 255 *ℤ b +ℤ pos 255 *ℤ c
+times_sum a b c = simp expand (omega (arith, linear))
+
+mix_channel : (x y z : ℕ) (a b c w : ℤ) → AreBytes x y z → pos 0 ≤ℤ a → pos 0 ≤ℤ b → pos 0 ≤ℤ c → pos 1 ≤ℤ w → w ≡ a +ℤ b +ℤ c → IsChannel (mix x y z a b c) w
+mix_channel x y z a b c w bytes p q r some is = record {
+  whole = omega (arith, order, part_least x a p, part_least y b q, part_least z c r);
+  some = omega (arith, ints, some);
+  most = omega (arith, order, part_most x a bytes.first p, part_most y b bytes.second q, part_most z c bytes.third r, ap (λ (u : ℤ). pos 255 *ℤ u) is, times_sum a b c);
+}
+
+pub channel_at_covered : (f : Face) (px py i : ℕ) → AreBytes (channel f.colours 0 i) (channel f.colours 1 i) (channel f.colours 2 i) → is_covered f px py ≡ true → IsChannel (number_at f px py i) (value_at f.edges.sum px py)
+channel_at_covered f px py i bytes covered =
+    let at = covered_parts f px py covered in
+    mix_channel (channel f.colours 0 i) (channel f.colours 1 i) (channel f.colours 2 i) (value_at f.edges.e0 px py) (value_at f.edges.e1 px py) (value_at f.edges.e2 px py) (value_at f.edges.sum px py) bytes
+    at.first at.second at.third at.sum (total_value f.edges.e0 f.edges.e1 f.edges.e2 f.edges.sum px py f.edges.total)
+
 abbrev top : Face → (px py i : ℕ) → ℕ
 top f px py i = channel f.colours 0 i * weight_at f.edges.e0 px py + channel f.colours 1 i * weight_at f.edges.e1 px py + channel f.colours 2 i * weight_at f.edges.e2 px py
 
--- the colour at a pixel is this, if it is so by all numbers that the sums there can be
-shade_by : (f : Face) (px py : ℕ) (c : List ℕ)
-    → ((red green blue weight : ℕ) → mix_at f px py 0 ≡ pos red → mix_at f px py 1 ≡ pos green → mix_at f px py 2 ≡ pos blue → value_at f.edges.sum px py ≡ pos weight
-    → c ≡ red / weight ∷ green / weight ∷ blue / weight ∷ [])
-    → IfSome (face_hit f px py) (λ h. c ≡ h.colour)
-shade_by f px py c means = by (face_hit f px py) refl
+-- the colour at a pixel that is hit is that of its means
+pub hit_shade : (f : Face) (px py : ℕ) (h : Hit) (red green blue : ℕ) → face_hit f px py ≡ Some h → IsMean (number_at f px py 0) (value_at f.edges.sum px py) red → IsMean (number_at f px py 1) (value_at f.edges.sum px py) green → IsMean (number_at f px py 2) (value_at f.edges.sum px py) blue
+    → red ∷ green ∷ blue ∷ [] ≡ h.colour
+hit_shade f px py h red green blue hits r g b =
+    ap (λ (v : ℕ). v ∷ green ∷ blue ∷ []) (quotient 0 red r)
+    ∙ ap (λ (v : ℕ). top f px py 0 / weight_at f.edges.sum px py ∷ v ∷ blue ∷ []) (quotient 1 green g)
+    ∙ ap (λ (v : ℕ). top f px py 0 / weight_at f.edges.sum px py ∷ top f px py 1 / weight_at f.edges.sum px py ∷ v ∷ []) (quotient 2 blue b)
+    ∙ sym parts.colour
   where
-    by : (o : Option Hit) → face_hit f px py ≡ o → IfSome o (λ h. c ≡ h.colour)
+    parts : IsHitOf f px py h
+    parts = hit_parts f px py h hits
+
+    at : IsCoveredAt f px py
+    at = covered_parts f px py parts.covered
+
+    sum : value_at f.edges.sum px py ≡ pos (weight_at f.edges.sum px py)
+    sum = whole (value_at f.edges.sum px py) (omega (arith, ints, at.sum))
+
+    quotient : (i m : ℕ) → IsMean (number_at f px py i) (value_at f.edges.sum px py) m → m ≡ top f px py i / weight_at f.edges.sum px py
+    quotient i m mean =
+        let number : number_at f px py i ≡ pos (top f px py i) =
+        mix_whole (channel f.colours 0 i) (channel f.colours 1 i) (channel f.colours 2 i) (value_at f.edges.e0 px py) (value_at f.edges.e1 px py) (value_at f.edges.e2 px py) at.first at.second at.third in
+        mean_is (top f px py i) (weight_at f.edges.sum px py) m
+        (subst (λ (z : ℤ). IsMean (pos (top f px py i)) z m) sum (subst (λ (z : ℤ). IsMean z (value_at f.edges.sum px py) m) number mean))
+
+-- means that are settled where the pixel is covered have the colour of its hit
+pub settled_shade : (f : Face) (px py : ℕ) (m : Means) → AreMeansAt f px py m
+    → (IsChannel (number_at f px py 0) m.weight.here → IsLeft m.red.rest m.weight.here)
+    → (IsChannel (number_at f px py 1) m.weight.here → IsLeft m.green.rest m.weight.here)
+    → (IsChannel (number_at f px py 2) m.weight.here → IsLeft m.blue.rest m.weight.here)
+    → IfSome (face_hit f px py) (λ h. colour_by m ≡ h.colour)
+settled_shade f px py m at red green blue = by (face_hit f px py) refl
+  where
+    there : (i : ℕ) → AreBytes (channel f.colours 0 i) (channel f.colours 1 i) (channel f.colours 2 i) → is_covered f px py ≡ true → IsChannel (number_at f px py i) m.weight.here
+    there i bytes covered = subst (λ (z : ℤ). IsChannel (number_at f px py i) z) (sym at.weight.here_is) (channel_at_covered f px py i bytes covered)
+
+    mean : (i : ℕ) (n : Mean) → IsMeanOf (number_at f px py i) (change_of f i) m.weight n → IsLeft n.rest m.weight.here → IsMean (number_at f px py i) (value_at f.edges.sum px py) n.mean
+    mean i n is left = subst (λ (z : ℤ). IsMean (number_at f px py i) z n.mean) at.weight.here_is (left_mean (number_at f px py i) m.weight.here n.rest n.mean is.rest_is left)
+
+    by : (o : Option Hit) → face_hit f px py ≡ o → IfSome o (λ h. colour_by m ≡ h.colour)
     by None e = tt
     by (Some h) e =
-        let parts = hit_parts f px py h e in
-        let at = covered_parts f px py parts.covered in
-        let above : pos 0 ≤ℤ value_at f.edges.sum px py = omega (arith, ints, at.sum) in
-        let mix_is : (k : ℕ) → mix_at f px py k ≡ pos (top f px py k) = λ k. mix_whole (channel f.colours 0 k) (channel f.colours 1 k) (channel f.colours 2 k) (value_at f.edges.e0 px py) (value_at f.edges.e1 px py) (value_at f.edges.e2 px py) at.first at.second at.third in
-        means (top f px py 0) (top f px py 1) (top f px py 2) (weight_at f.edges.sum px py) (mix_is 0) (mix_is 1) (mix_is 2) (whole (value_at f.edges.sum px py) above)
-        ∙ sym parts.colour
-
-pub mixed_shade : (f : Face) (px py : ℕ) (s : Sums) (c : List ℕ) → AreSumsAt f px py s → AreMeansBy s c → IfSome (face_hit f px py) (λ h. c ≡ h.colour)
-mixed_shade f px py s c are means =
-    shade_by f px py c (λ red green blue weight r g b w. means red green blue weight (are.red_is ∙ r) (are.green_is ∙ g) (are.blue_is ∙ b) (are.weight_is ∙ w))
+        let covered = (hit_parts f px py h e).covered in
+        hit_shade f px py h m.red.mean m.green.mean m.blue.mean e
+        (mean 0 m.red at.red (red (there 0 at.bytes.red covered)))
+        (mean 1 m.green at.green (green (there 1 at.bytes.green covered)))
+        (mean 2 m.blue at.blue (blue (there 2 at.bytes.blue covered)))
 
 -- ---- the colour between two pixels of a row: the sums there are means of those at the two
 line_between : (a x v c i j : ℤ) → (i +ℤ j) *ℤ (a *ℤ (x +ℤ i) +ℤ v +ℤ c) ≡ j *ℤ (a *ℤ x +ℤ v +ℤ c) +ℤ i *ℤ (a *ℤ (x +ℤ (i +ℤ j)) +ℤ v +ℤ c)
 line_between a x v c i j = simp expand (omega (arith, linear))
 
 value_between : (g : Linear) (px py i j : ℕ) → pos (i + j) *ℤ value_at g (px + i) py ≡ pos j *ℤ value_at g px py +ℤ pos i *ℤ value_at g (px + (i + j)) py
-value_between g px py i j = line_between g.a (pos px) (g.b *ℤ pos py) g.c (pos i) (pos j)
+value_between g px py i j = line_between (step_of g) (pos px) ((pos 2 *ℤ g.b) *ℤ pos py) g.c (pos i) (pos j)
 
 product_between : (n i j p a x y : ℤ) → n *ℤ a ≡ j *ℤ x +ℤ i *ℤ y → n *ℤ (p *ℤ a) ≡ j *ℤ (p *ℤ x) +ℤ i *ℤ (p *ℤ y)
 product_between n i j p a x y e =
@@ -142,7 +297,7 @@ sum_between : (n i j a b c a0 b0 c0 a1 b1 c1 : ℤ) → n *ℤ a ≡ j *ℤ a0 +
 sum_between n i j a b c a0 b0 c0 a1 b1 c1 d e f =
     omega (arith, order, d, e, f, mul-add n (a +ℤ b) c, mul-add n a b, mul-add j (a0 +ℤ b0) c0, mul-add j a0 b0, mul-add i (a1 +ℤ b1) c1, mul-add i a1 b1)
 
-mix_between : (f : Face) (px py k i j : ℕ) → pos (i + j) *ℤ mix_at f (px + i) py k ≡ pos j *ℤ mix_at f px py k +ℤ pos i *ℤ mix_at f (px + (i + j)) py k
+mix_between : (f : Face) (px py k i j : ℕ) → pos (i + j) *ℤ number_at f (px + i) py k ≡ pos j *ℤ number_at f px py k +ℤ pos i *ℤ number_at f (px + (i + j)) py k
 mix_between f px py k i j =
     let part : (v : ℕ) (g : Linear) → pos (i + j) *ℤ (pos v *ℤ value_at g (px + i) py) ≡ pos j *ℤ (pos v *ℤ value_at g px py) +ℤ pos i *ℤ (pos v *ℤ value_at g (px + (i + j)) py) =
     λ v g. product_between (pos (i + j)) (pos i) (pos j) (pos v) (value_at g (px + i) py) (value_at g px py) (value_at g (px + (i + j)) py) (value_between g px py i j) in
@@ -196,74 +351,38 @@ mean_between k i j n w n0 w0 n1 w1 g p q some is d e first last =
       most = strict_between k i j n (pos g *ℤ w +ℤ w) n0 (pos g *ℤ w0 +ℤ w0) n1 (pos g *ℤ w1 +ℤ w1) p q some is d high first.most last.most;
     }
 
-mean_is : (n w g : ℕ) → IsMean (pos n) (pos w) g → g ≡ n / w
-mean_is n w g mean =
-    let low : g * w ≤ n = omega (arith, ints, mean.least) in
-    let high : n < g * w + w = omega (arith, ints, mean.most) in
-    quotient_is n w g (omega (arith, low, high)) low high
+-- ---- means that are the same at two pixels of a row
+abbrev MeanAt : Face → (px py i m : ℕ) → Type 0
+MeanAt f px py i m = IsMean (number_at f px py i) (value_at f.edges.sum px py) m
 
-quotient_mean : (n w : ℕ) → 0 < w → IsMean (pos n) (pos w) (n / w)
-quotient_mean n w some = record {
-  least = omega (arith, ints, div-mul-le_self n w);
-  most = omega (arith, ints, lt-div-mul-add {a = n} {b = w} some);
-}
+channel_between : (f : Face) (px py k i j m : ℕ) → 0 < i + j → MeanAt f px py k m → MeanAt f (px + (i + j)) py k m → MeanAt f (px + i) py k m
+channel_between f px py k i j m some first last =
+    mean_between (pos (i + j)) (pos i) (pos j) (number_at f (px + i) py k) (value_at f.edges.sum (px + i) py) (number_at f px py k) (value_at f.edges.sum px py) (number_at f (px + (i + j)) py k) (value_at f.edges.sum (px + (i + j)) py) m
+    (omega (arith, ints)) (omega (arith, ints)) (omega (arith, ints, some)) refl (mix_between f px py k i j) (value_between f.edges.sum px py i j) first last
 
--- the mean of a channel between two pixels at which it is the same
-channel_between : (f : Face) (px py k i j : ℕ) (n0 w0 n1 w1 : ℤ) (n w g : ℕ) → 0 < i + j → n0 ≡ mix_at f px py k → w0 ≡ value_at f.edges.sum px py → n1 ≡ mix_at f (px + (i + j)) py k → w1 ≡ value_at f.edges.sum (px + (i + j)) py
-    → mix_at f (px + i) py k ≡ pos n → value_at f.edges.sum (px + i) py ≡ pos w → IsMean n0 w0 g → IsMean n1 w1 g → g ≡ n / w
-channel_between f px py k i j n0 w0 n1 w1 n w g some a b c d e h first last =
-    mean_is n w g (mean_between (pos (i + j)) (pos i) (pos j) (pos n) (pos w) n0 w0 n1 w1 g (omega (arith, ints)) (omega (arith, ints)) (omega (arith, ints, some)) refl number weight first last)
+here_mean : (f : Face) (px py i n : ℕ) (w : Weight) (m : Mean) → IsWeightAt f px py w → IsMeanOf (number_at f px py i) (change_of f i) w m → Stays m w n → MeanAt f px py i m.mean
+here_mean f px py i n w m at is stays =
+    subst (λ (z : ℤ). IsMean (number_at f px py i) z m.mean) at.here_is (left_mean (number_at f px py i) w.here m.rest m.mean is.rest_is stays.here)
+
+there_mean : (f : Face) (px py i n : ℕ) (w : Weight) (m : Mean) → IsWeightAt f px py w → IsMeanOf (number_at f px py i) (change_of f i) w m → Stays m w n → MeanAt f (px + n) py i m.mean
+there_mean f px py i n w m at is stays =
+    subst (λ (z : ℤ). IsMean (number_at f (px + n) py i) z m.mean) (weight_ahead f px py n w at)
+    (left_mean (number_at f (px + n) py i) (w.here +ℤ w.step *ℤ pos n) (m.rest +ℤ m.change *ℤ pos n) m.mean (rest_ahead f px py i n w m at is) stays.there)
+
+-- the mean at each pixel up to n further on
+stays_mean : (f : Face) (px py k i j : ℕ) (w : Weight) (m : Mean) → IsWeightAt f px py w → IsMeanOf (number_at f px py k) (change_of f k) w m → Stays m w (i + j) → MeanAt f (px + i) py k m.mean
+stays_mean f px py k i j w m at is stays = ⊎_elim
+    (λ some. channel_between f px py k i j m.mean some (here_mean f px py k (i + j) w m at is stays) (there_mean f px py k (i + j) w m at is stays))
+    (λ none. subst (λ (x : ℕ). MeanAt f x py k m.mean) (omega (arith, none)) (here_mean f px py k (i + j) w m at is stays))
+    (cases_lt 0 (i + j))
+
+pub even_shade : (f : Face) (px py i j : ℕ) (m : Means) → AreMeansAt f px py m → AreEven m (i + j) → IfSome (face_hit f (px + i) py) (λ h. colour_by m ≡ h.colour)
+even_shade f px py i j m at even = by (face_hit f (px + i) py) refl
   where
-    number : pos (i + j) *ℤ pos n ≡ pos j *ℤ n0 +ℤ pos i *ℤ n1
-    number =
-        ap (λ (z : ℤ). pos (i + j) *ℤ z) (sym e) ∙ mix_between f px py k i j
-        ∙ ap (λ (z : ℤ). pos j *ℤ z +ℤ pos i *ℤ mix_at f (px + (i + j)) py k) (sym a) ∙ ap (λ (z : ℤ). pos j *ℤ n0 +ℤ pos i *ℤ z) (sym c)
-
-    weight : pos (i + j) *ℤ pos w ≡ pos j *ℤ w0 +ℤ pos i *ℤ w1
-    weight =
-        ap (λ (z : ℤ). pos (i + j) *ℤ z) (sym h) ∙ value_between f.edges.sum px py i j
-        ∙ ap (λ (z : ℤ). pos j *ℤ z +ℤ pos i *ℤ value_at f.edges.sum (px + (i + j)) py) (sym b) ∙ ap (λ (z : ℤ). pos j *ℤ w0 +ℤ pos i *ℤ z) (sym d)
-
-pub shade_between : (f : Face) (px py i j : ℕ) (first last : Sums) (c : List ℕ) → 0 < i + j → AreSumsAt f px py first → AreSumsAt f (px + (i + j)) py last → AreWhole first → AreMeansBy first c → HasMeans last c
-    → IfSome (face_hit f (px + i) py) (λ h. c ≡ h.colour)
-shade_between f px py i j first last c some are others are_whole means has =
-    shade_by f (px + i) py c (λ red green blue weight r g b w.
-    is
-    ∙ ap (λ (v : ℕ). v ∷ green0 / weight0 ∷ blue0 / weight0 ∷ []) (channel_between f px py 0 i j first.red first.weight last.red last.weight red weight (red0 / weight0) some are.red_is are.weight_is others.red_is others.weight_is r w (mean red0 first.red red_is) there.red)
-    ∙ ap (λ (v : ℕ). red / weight ∷ v ∷ blue0 / weight0 ∷ []) (channel_between f px py 1 i j first.green first.weight last.green last.weight green weight (green0 / weight0) some are.green_is are.weight_is others.green_is others.weight_is g w (mean green0 first.green green_is) there.green)
-    ∙ ap (λ (v : ℕ). red / weight ∷ green / weight ∷ v ∷ []) (channel_between f px py 2 i j first.blue first.weight last.blue last.weight blue weight (blue0 / weight0) some are.blue_is are.weight_is others.blue_is others.weight_is b w (mean blue0 first.blue blue_is) there.blue))
-  where
-    red0 : ℕ
-    red0 = unsigned_abs first.red
-
-    green0 : ℕ
-    green0 = unsigned_abs first.green
-
-    blue0 : ℕ
-    blue0 = unsigned_abs first.blue
-
-    weight0 : ℕ
-    weight0 = unsigned_abs first.weight
-
-    red_is : first.red ≡ pos red0
-    red_is = whole first.red are_whole.red
-
-    green_is : first.green ≡ pos green0
-    green_is = whole first.green are_whole.green
-
-    blue_is : first.blue ≡ pos blue0
-    blue_is = whole first.blue are_whole.blue
-
-    weight_is : first.weight ≡ pos weight0
-    weight_is = whole first.weight (omega (arith, ints, are_whole.weight))
-
-    is : c ≡ red0 / weight0 ∷ green0 / weight0 ∷ blue0 / weight0 ∷ []
-    is = means red0 green0 blue0 weight0 red_is green_is blue_is weight_is
-
-    mean : (n : ℕ) (z : ℤ) → z ≡ pos n → IsMean z first.weight (n / weight0)
-    mean n z e =
-        subst (λ (y : ℤ). IsMean z y (n / weight0)) (sym weight_is)
-        (subst (λ (y : ℤ). IsMean y (pos weight0) (n / weight0)) (sym e) (quotient_mean n weight0 (omega (arith, ints, are_whole.weight))))
-
-    there : HasMeans last (red0 / weight0 ∷ green0 / weight0 ∷ blue0 / weight0 ∷ [])
-    there = subst (λ (v : List ℕ). HasMeans last v) is has
+    by : (o : Option Hit) → face_hit f (px + i) py ≡ o → IfSome o (λ h. colour_by m ≡ h.colour)
+    by None e = tt
+    by (Some h) e =
+        hit_shade f (px + i) py h m.red.mean m.green.mean m.blue.mean e
+        (stays_mean f px py 0 i j m.weight m.red at.weight at.red even.red)
+        (stays_mean f px py 1 i j m.weight m.green at.weight at.green even.green)
+        (stays_mean f px py 2 i j m.weight m.blue at.weight at.blue even.blue)

@@ -1,11 +1,9 @@
 -- Columns and rows outside of which a triangle is not hit.
-use Rattle.std.specs.Prelude.{◌≡◌, ⊤, ℕ, ◌+◌, ◌<◌, ◌≤◌, [], None}
+use Rattle.std.specs.Prelude.{◌≡◌, ⊤, ℕ, ◌+◌, ◌<◌, ◌≤◌, [], Option, Some, None}
 use Rattle.fx_math.specs.declared.lenses.Lens.{Lens}
 use Rattle.pf_model.specs.declared.geometry.Tri.{Tri}
 use Rattle.tri_cover.specs.Hits.{hit}
 use Rattle.tri_cover.specs.declared.face.Face as faces
-use Rattle.tri_cover.specs.declared.ready.Ready.{Ready}
-use Rattle.tri_cover.specs.declared.ready.Ready.TheVariants.{Nothing, Face, Slow}
 use Rattle.depth_raster.specs.declared.extents.Extent.{Extent}
 
 -- the triangle is not hit at the pixel
@@ -28,10 +26,9 @@ pub record IsFaceBox (f : faces.Face) (e : Extent) : Type 0 where
   pub top : e.top ≡ f.extent.rows.first
   pub bottom : e.bottom ≡ f.extent.rows.last + 1
 
-abbrev pub IsBoxOf : Ready → Extent → Type 0
-IsBoxOf Nothing e = ⊤
-IsBoxOf (Face f) e = IsFaceBox f e
-IsBoxOf Slow e = ⊤
+abbrev pub IsBoxOf : Option faces.Face → Extent → Type 0
+IsBoxOf None e = ⊤
+IsBoxOf (Some f) e = IsFaceBox f e
 
 -- the pixel lies in the columns and rows
 pub record IsWithin (e : Extent) (px py : ℕ) : Type 0 where

@@ -1,10 +1,13 @@
 pub mod Faces
-pub mod Extents
 pub mod Around
 pub mod Looks
 pub mod Edges
-pub mod Shades
+pub mod Weights
 pub mod Mixing
+pub mod Sums
+pub mod Quotients
+pub mod Means
+pub mod Runs
 pub mod Blocks
 pub mod Marks
 pub mod Following

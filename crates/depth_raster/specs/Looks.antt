@@ -1,8 +1,8 @@
 -- What is asked of a face at a pixel.
-use Rattle.std.specs.Prelude.{◌≡◌, ℕ, ◌+◌, ◌<◌, ◌≤◌, Option, Some, None, Bool, ◌&&◌, ℤ, pos, ◌<ℤ◌, int_le, int_lt}
+use Rattle.std.specs.Prelude.{◌≡◌, ℕ, ◌+◌, ◌/◌, ◌<◌, ◌≤◌, Option, Some, None, Bool, true, false, pos, ◌<ℤ◌}
 use Rattle.tri_cover.specs.declared.face.Face.{Face}
 use Rattle.tri_cover.specs.declared.hit.Hit.{Hit}
-use Rattle.tri_cover.specs.Faces.{face_hit, colour_at}
+use Rattle.tri_cover.specs.Faces.{face_hit, depth_at, colour_at}
 use Rattle.tri_cover.specs.Linears.{value_at}
 use Rattle.tri_cover.specs.declared.linear.Linear.{Linear}
 use Rattle.depth_raster.specs.declared.blocks.Block.{Block}
@@ -12,6 +12,17 @@ abbrev pub Looks : Face → (px py limit : ℕ) → Option ℕ → Type 0
 Looks f px py limit None = (h : Hit) → face_hit f px py ≡ Some h → limit ≤ h.depth
 Looks f px py limit (Some depth) = (face_hit f px py ≡ Some (record { depth = depth; colour = colour_at f px py })) × (depth < limit)
 
+-- the same, where the depth does not matter
+abbrev pub IsSeen : Face → (px py limit : ℕ) → Bool → Type 0
+IsSeen f px py limit true = Looks f px py limit (Some (depth_at f px py))
+IsSeen f px py limit false = Looks f px py limit None
+
+-- the depth of the face, where its edge values have this sum, is one at which it is seen, and before the limit
+pub record IsSeenBefore (f : Face) (limit sum : ℕ) : Type 0 where
+  pub near : f.extent.near ≤ f.dividend / sum
+  pub far : f.dividend / sum ≤ f.extent.far
+  pub before : f.dividend / sum < limit
+
 -- at no pixel of the block the face is hit before the limit
 abbrev pub IsHidden : Face → Block → (limit : ℕ) → Type 0
 IsHidden f b limit = (q r : ℕ) (h : Hit) → q < b.width → r < b.rows → face_hit f (b.left + q) (b.first + r) ≡ Some h → limit ≤ h.depth
@@ -19,8 +30,3 @@ IsHidden f b limit = (q r : ℕ) (h : Hit) → q < b.width → r < b.rows → fa
 -- the linear function is below 0 at each pixel of the block
 abbrev pub IsBelow : Linear → Block → Type 0
 IsBelow g b = (q r : ℕ) → q < b.width → r < b.rows → value_at g (b.left + q) (b.first + r) <ℤ pos 0
-
--- edge values at a pixel that is covered, and their sum
-abbrev pub are_covering : (first second third sum : ℤ) → Bool
-are_covering first second third sum =
-    int_le (pos 0) first && int_le (pos 0) second && int_le (pos 0) third && int_lt (pos 0) sum

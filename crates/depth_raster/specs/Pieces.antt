@@ -3,7 +3,6 @@ use Rattle.std.specs.Prelude.{◌≡◌, ℕ, ◌+◌, ◌-◌, ◌<◌, List, [
 use Rattle.fx_math.specs.declared.lenses.Lens.{Lens}
 use Rattle.tri_cover.specs.declared.face.Face as faces
 use Rattle.tri_cover.specs.declared.hit.Hit.{Hit}
-use Rattle.tri_cover.specs.declared.ready.Ready.TheVariants.{Face}
 use Rattle.tri_cover.specs.Hits.{hit}
 use Rattle.tri_cover.specs.Picture.{Fragment}
 use Rattle.depth_raster.specs.Faces.{fragment_by, glazed_by_face}
@@ -31,7 +30,7 @@ AreMadeReady lens before after =
 
 -- the piece has this face
 abbrev pub HasFace : Piece → faces.Face → Type 0
-HasFace p f = p.ready ≡ Face f
+HasFace p f = p.ready ≡ Some f
 
 -- the ranks of pieces are their places, from 1
 abbrev pub AreRanked : List Piece → Type 0
@@ -54,10 +53,14 @@ pieces_over lens ps px py m = fold (λ n p. mark_over lens px py p.face n) m ps
 abbrev pub pieces_glaze : Lens → List Piece → (behind : Option Fragment) → (px py : ℕ) → List ℕ → List ℕ
 pieces_glaze lens ps behind px py under = fold (λ u p. glazed_by_face lens px py p.face behind u) under ps
 
+-- the colour at a pixel of a mark where no piece is nearest: that before, or the background where nothing is drawn
+abbrev pub kept_colour : (back : List ℕ) → Mark → (before : List ℕ) → List ℕ
+kept_colour back m before = if nat_lt m.depth 2147483648 then before else back
+
 -- The colour at a pixel of a mark, after pieces are drawn: that of the piece's hit; where none of them is nearest, the colour
 -- before, or the background where nothing is drawn.
 pub record IsColoured (lens : Lens) (px py : ℕ) (back : List ℕ) (ps : List Piece) (m : Mark) (before after : List ℕ) : Type 0 where
-  pub old : m.rank ≡ 0 → after ≡ (if nat_lt m.depth 2147483648 then before else back)
+  pub old : m.rank ≡ 0 → after ≡ kept_colour back m before
   pub fresh : (k : ℕ) (p : Piece) (h : Hit) → m.rank ≡ k + 1 → slice_get ps k ≡ Some p
       → hit lens px py [] p.face.tri ≡ Some h → after ≡ h.colour
 

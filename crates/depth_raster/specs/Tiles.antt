@@ -1,12 +1,13 @@
 -- Tiles, and what a drawing makes of them.
 use Rattle.std.specs.Prelude.{◌≡◌, ℕ, ◌+◌, ◌<◌, ◌≤◌, Bool, true, false, List, [], slice_index_or, fold, Option, Some, None}
+use Rattle.std.specs.Option.{IfSome}
 use Rattle.fx_math.specs.declared.lenses.Lens.{Lens}
 use Rattle.tri_cover.specs.declared.hit.Hit.{Hit}
 use Rattle.tri_cover.specs.Hits.{hit}
 use Rattle.tri_cover.specs.Picture.{Fragment, nearer}
 use Rattle.depth_raster.specs.Blocks.{place_in, colour_in}
 use Rattle.depth_raster.specs.Faces.{glazed_by_face}
-use Rattle.depth_raster.specs.Pieces.{fragments_by, pieces_glaze, IsColoured, settled}
+use Rattle.depth_raster.specs.Pieces.{fragments_by, pieces_glaze, IsColoured, kept_colour, settled}
 use Rattle.depth_raster.specs.Marks.{nothing, no_mark, mark_over, seen_as, behind_as}
 use Rattle.depth_raster.specs.Following.{Follows, Relates}
 use Rattle.depth_raster.specs.declared.blocks.Block.{Block}
@@ -66,6 +67,14 @@ pub record IsCleared (before after : Tile) : Type 0 where
 -- the colours before and after pieces are drawn, at a pixel of a block
 abbrev pub painted_within : Lens → (back : List ℕ) → List Piece → Block → List Mark → (q r : ℕ) → (before after : List ℕ) → Type 0
 painted_within lens back ps b marks q r before after = IsColoured lens (b.left + q) (b.first + r) back ps (mark_in b marks q r) before after
+
+-- the same of a pixel at which no piece is nearest
+abbrev pub kept_within : (back : List ℕ) → Block → List Mark → (q r : ℕ) → (before after : List ℕ) → Type 0
+kept_within back b marks q r before after = after ≡ kept_colour back (mark_in b marks q r) before
+
+-- and of one at which this piece is nearest: it has the colour of the piece's hit
+abbrev pub hit_within : Lens → Piece → Block → (q r : ℕ) → (before after : List ℕ) → Type 0
+hit_within lens p b q r before after = IfSome (hit lens (b.left + q) (b.first + r) [] p.face.tri) (λ h. after ≡ h.colour)
 
 -- the colours after pieces are drawn, and the marks without their ranks
 pub record IsPainted (lens : Lens) (back : List ℕ) (ps : List Piece) (before after : Tile) : Type 0 where

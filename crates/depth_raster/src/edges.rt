@@ -1,22 +1,22 @@
 //! The edge values of a face along a row, by steps from each pixel to the next.
-ghost use Rattle.std.specs.Prelude.{◌≡◌, ◌<◌, true, false, IfSome, IfNone, unsigned_abs};
+ghost use Rattle.std.specs.Prelude.{◌≡◌, ◌<◌, ◌^◌, false, IfSome, IfNone};
 ghost use Rattle.fx_math.specs.Limits.{size_limit};
+ghost use Rattle.fx_math.specs.Within.{IsWithin};
+ghost use Rattle.depth_raster.specs.Weights.{AreSmall, are_covering, IsWeightOf};
 
-use crate::looks::are_covering;
 use tri_cover::Face;
 
-/// The three edge values of a face and their sum: at a pixel, or by how much they differ between a pixel and the next one of
-/// its row.
+/// The three edge values of a face: at a pixel, or by how much they change from a pixel to the next one of its row.
 #[derive(Clone, Copy)]
 pub(crate) struct EdgeValues {
-    first: i64,
-    second: i64,
-    third: i64,
-    sum: i64,
+    first: i128,
+    second: i128,
+    third: i128,
+    ghost small: { AreSmall first second third },
 }
 
 impl EdgeValues {
-    ghost use Rattle.depth_raster.specs.Edges.{AreValuesAt, AreSlopesOf, DoFit, IsSumOf, are_covering_values};
+    ghost use Rattle.depth_raster.specs.Edges.{AreValuesAt, AreSlopesOf, DoFit, IsSumOf};
 
     /// Those at a pixel.
     pub(crate) fn at(face: &Face, px: u16, py: u16) -> EdgeValues
@@ -28,19 +28,17 @@ impl EdgeValues {
             first: face.edges.e0.at(px, py),
             second: face.edges.e1.at(px, py),
             third: face.edges.e2.at(px, py),
-            sum: face.edges.sum.at(px, py),
         }
     }
 
-    /// By how much they differ between a pixel and the next one of its row.
+    /// By how much they change from a pixel to the next one of its row.
     pub(crate) fn steps(face: &Face) -> EdgeValues
         ensures { AreSlopesOf face.now result }
     {
         EdgeValues {
-            first: face.edges.e0.a,
-            second: face.edges.e1.a,
-            third: face.edges.e2.a,
-            sum: face.edges.sum.a,
+            first: face.edges.e0.step(),
+            second: face.edges.e1.step(),
+            third: face.edges.e2.step(),
         }
     }
 
@@ -53,26 +51,33 @@ impl EdgeValues {
             first: self.first + steps.first,
             second: self.second + steps.second,
             third: self.third + steps.third,
-            sum: self.sum + steps.sum,
         }
     }
 
     /// Their sum, where they are those of a pixel that is covered.
-    pub(crate) fn covered(&self) -> Option<u64>
-        ensures some { IfSome result (λ s. (are_covering_values self.now ≡ true) × (s ≡ unsigned_abs self.now.sum) × (0 < s)) }
-        ensures none { IfNone result (are_covering_values self.now ≡ false) }
+    pub(crate) fn covered(&self) -> Option<u128>
+        ensures some { IfSome result (IsWeightOf self.now.first self.now.second self.now.third) }
+        ensures none { IfNone result (are_covering self.now.first self.now.second self.now.third ≡ false) }
     {
-        if self.are_covering() {
-            Some(self.sum.unsigned_abs())
-        } else {
-            None
-        }
+        weight(self.first, self.second, self.third)
     }
+}
 
-    /// Whether they are those of a pixel that is covered.
-    fn are_covering(&self) -> bool
-        ensures { result ≡ are_covering_values self.now }
-    {
-        are_covering(self.first, self.second, self.third, self.sum)
+/// The sum of three edge values, where they are those of a pixel that is covered.
+fn weight(first: i128, second: i128, third: i128) -> Option<u128>
+    requires first { IsWithin (2 ^ 82) first }
+    requires second { IsWithin (2 ^ 82) second }
+    requires third { IsWithin (2 ^ 82) third }
+    ensures some { IfSome result (IsWeightOf first second third) }
+    ensures none { IfNone result (are_covering first second third ≡ false) }
+{
+    if first < 0 || second < 0 || third < 0 {
+        return None;
+    }
+    let sum = first + second + third;
+    if sum > 0 {
+        Some(sum.unsigned_abs())
+    } else {
+        None
     }
 }

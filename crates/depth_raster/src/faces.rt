@@ -1,18 +1,14 @@
 //! Triangles of a draw list in eye coordinates.
-ghost use Rattle.std.specs.Prelude.{◌≡◌, ◌<◌, ◌-◌, [], length, IfSome};
+ghost use Rattle.std.specs.Prelude.{◌≡◌, ◌<◌, ◌-◌, [], length};
 ghost use Rattle.draw_list.specs.Items.{instance_of_item};
 ghost use Rattle.draw_list.specs.Joints.{steps_at};
 ghost use Rattle.tri_cover.specs.Glass.{alpha_of};
-ghost use Rattle.tri_cover.specs.Hits.{hit, HitsAs};
-ghost use Rattle.depth_raster.specs.Faces.{glazed_by_face, IsFaceOf};
-ghost use Rattle.depth_raster.specs.Marks.{mark_over, behind_as};
+ghost use Rattle.tri_cover.specs.Hits.{HitsAs};
+ghost use Rattle.depth_raster.specs.Faces.{IsFaceOf};
 
-use crate::glazing::blend;
 use crate::marks::Mark;
 use draw_list::{DrawList, Item};
-use fx_math::Lens;
 use pf_model::Tri;
-use tri_cover::cover;
 
 /// A triangle in eye coordinates, with what its item says of it: its place, its decal shift, its number in the item and the
 /// alpha of glass; and its rank among the faces that are drawn together, from 1.
@@ -42,19 +38,6 @@ impl Face {
         }
     }
 
-    /// The nearer of what is nearest at a pixel and this face.
-    #[tactic(auto, unfolding(crate::specs::Marks::mark_over))]
-    pub(crate) fn over(&self, mark: Mark, lens: &Lens, px: u16, py: u16) -> Mark
-        requires x { px < lens.now.w }
-        requires y { py < lens.now.h }
-        ensures { result ≡ mark_over lens.now px py self.now mark }
-    {
-        match cover(&self.tri, px, py, lens) {
-            Some(hit) => mark.lesser(self.mark(hit.depth)),
-            None => mark,
-        }
-    }
-
     /// The mark of a hit at a depth.
     pub(crate) fn mark(&self, depth: u32) -> Mark
         ensures { result ≡ record {
@@ -69,43 +52,6 @@ impl Face {
             place: self.place,
             number: self.number,
             rank: self.rank,
-        }
-    }
-
-    /// The colour of this face at a pixel where it hits.
-    pub(crate) fn colour(&self, lens: &Lens, px: u16, py: u16) -> [u8; 3]
-        requires x { px < lens.now.w }
-        requires y { py < lens.now.h }
-        ensures { IfSome (hit lens.now px py [] self.now.tri) (λ h. result ≡ h.colour) }
-    {
-        match cover(&self.tri, px, py, lens) {
-            Some(hit) => hit.colour,
-            None => [0; 3],
-        }
-    }
-
-    /// What this face, of glass, leaves of the colour under it at a pixel.
-    pub(crate) fn glazed(
-        &self,
-        behind: &Mark,
-        under: [u8; 3],
-        lens: &Lens,
-        px: u16,
-        py: u16,
-    ) -> [u8; 3]
-        requires x { px < lens.now.w }
-        requires y { py < lens.now.h }
-        ensures { result ≡ glazed_by_face lens.now px py self.now (behind_as behind.now) under }
-    {
-        match cover(&self.tri, px, py, lens) {
-            Some(hit) => {
-                if behind.depth < hit.depth.saturating_sub(self.shift) {
-                    under
-                } else {
-                    blend(self.alpha, hit.colour, under)
-                }
-            }
-            None => under,
         }
     }
 }

@@ -1,6 +1,7 @@
 //! Faces that change nothing in a block of pixels.
-ghost use Rattle.std.specs.Prelude.{◌≡◌, ℕ, ◌+◌, ◌<◌, ◌≤◌, pos, ◌*ℤ◌, ◌≤ℤ◌, IsTrue};
+ghost use Rattle.std.specs.Prelude.{◌≡◌, ℕ, ◌+◌, ◌<◌, ◌≤◌, ◌^◌, pos, ◌*ℤ◌, ◌≤ℤ◌, IsTrue};
 ghost use Rattle.fx_math.specs.Limits.{size_limit};
+ghost use Rattle.fx_math.specs.Within.{IsWithin};
 ghost use Rattle.tri_cover.specs.Linears.{value_at};
 ghost use Rattle.depth_raster.specs.Looks.{IsHidden, IsBelow};
 
@@ -13,6 +14,7 @@ use tri_cover::{Face, Linear};
 pub(crate) fn is_hidden(face: &Face, block: &Block, limit: u64) -> bool
     requires columns { block.now.left + block.now.width ≤ size_limit }
     requires rows { block.now.first + block.now.rows ≤ size_limit }
+    requires limit { limit < 2 ^ 40 }
     ensures { IsTrue result → IsHidden face.now block.now limit }
 {
     if block.width == 0 {
@@ -53,6 +55,7 @@ fn is_far(face: &Face, block: &Block, limit: u64) -> bool
     requires high { 0 < block.now.rows }
     requires columns { block.now.left + block.now.width ≤ size_limit }
     requires rows { block.now.first + block.now.rows ≤ size_limit }
+    requires limit { limit < 2 ^ 40 }
     ensures { IsTrue result → IsHidden face.now block.now limit }
 {
     let sum = greatest(&face.edges.sum, block);
@@ -63,20 +66,23 @@ fn is_far(face: &Face, block: &Block, limit: u64) -> bool
 }
 
 /// A number, or 0 in place of one below it.
-fn positive(number: i64) -> u64
-    ensures { number ≤ℤ pos result }
+fn positive(number: i128) -> u128
+    requires { IsWithin (2 ^ 82) number }
+    ensures value { number ≤ℤ pos result }
+    ensures bound { result < 2 ^ 84 }
 {
     if number < 0 { 0 } else { number.unsigned_abs() }
 }
 
 /// The greatest value of a linear function in a block: that at one of its corners.
-fn greatest(linear: &Linear, block: &Block) -> i64
+fn greatest(linear: &Linear, block: &Block) -> i128
     requires wide { 0 < block.now.width }
     requires high { 0 < block.now.rows }
     requires columns { block.now.left + block.now.width ≤ size_limit }
     requires rows { block.now.first + block.now.rows ≤ size_limit }
-    ensures { (q r : ℕ) → q < block.now.width → r < block.now.rows
+    ensures greatest { (q r : ℕ) → q < block.now.width → r < block.now.rows
         → value_at linear.now (block.now.left + q) (block.now.first + r) ≤ℤ result }
+    ensures bound { IsWithin (2 ^ 82) result }
 {
     let px = corner(linear.a, block.left, block.width);
     let py = corner(linear.b, block.first, block.rows);
@@ -87,7 +93,7 @@ fn greatest(linear: &Linear, block: &Block) -> i64
 fn corner(slope: i64, first: u16, count: u16) -> u16
     requires some { 0 < count }
     requires fits { first + count ≤ size_limit }
-    ensures greatest { (x : ℕ) → x < count → (slope *ℤ pos (first + x)) ≤ℤ (slope *ℤ pos result) }
+    ensures greatest { (x : ℕ) → x < count → ((pos 2 *ℤ slope) *ℤ pos (first + x)) ≤ℤ ((pos 2 *ℤ slope) *ℤ pos result) }
     ensures bound { result < size_limit }
 {
     if slope > 0 {

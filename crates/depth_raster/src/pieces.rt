@@ -1,9 +1,7 @@
 //! Faces made ready to be drawn.
 ghost use Rattle.std.specs.Prelude.{◌≡◌};
-ghost use Rattle.tri_cover.specs.Hits.{vertex};
 ghost use Rattle.tri_cover.specs.Readiness.{IsReady};
 ghost use Rattle.depth_raster.specs.Around.{IsAround, IsBoxOf};
-ghost use Rattle.depth_raster.specs.Extents.{Surrounds};
 ghost use Rattle.depth_raster.specs.Pieces.{IsMadeReady, AreMadeReady};
 
 use crate::extents::Extent;
@@ -13,17 +11,18 @@ use crate::work::are_many;
 use fx_math::Lens;
 use pf_model::Tri;
 use std::thread::{Threads, for_each_mut};
-use tri_cover::{Ready, face_of};
+use tri_cover::face_of;
 
 /// In how many threads many faces are made ready.
 const MAKERS: usize = 4;
 
-/// A face, and of its triangle what is reckoned once it is made ready: that by which it is looked at, a float that is about the
-/// dividend of its depths, from which they are guessed, and the columns and rows in which it can be hit.
+/// A labelled face, and of its triangle what is reckoned once it is made ready: the face by which it is looked at, where it can be
+/// hit at all, a float that is about the dividend of its depths, from which they are guessed, and the columns and rows in which
+/// it can be hit.
 #[derive(Clone, Copy)]
 pub(crate) struct Piece {
     pub(crate) face: Face,
-    pub(crate) ready: Ready,
+    pub(crate) ready: Option<tri_cover::Face>,
     pub(crate) about: f64,
     pub(crate) extent: Extent,
 }
@@ -35,7 +34,7 @@ impl Piece {
     {
         Piece {
             face,
-            ready: Ready::Nothing,
+            ready: None,
             about: 0.0,
             extent: Extent {
                 left: 0,
@@ -58,10 +57,10 @@ impl Piece {
 }
 
 /// A float that is about the dividend of a face; 0 where there is none.
-fn about_dividend(ready: &Ready) -> f64 {
+fn about_dividend(ready: &Option<tri_cover::Face>) -> f64 {
     match ready {
-        Ready::Face(face) => about(face.dividend),
-        _ => 0.0,
+        Some(face) => about(face.dividend),
+        None => 0.0,
     }
 }
 
@@ -99,41 +98,24 @@ fn make_ready_in_turn(pieces: &mut [Piece], lens: &Lens)
     }
 }
 
-/// The columns and rows in which a triangle can be hit: none, those of its face, or, where it has no face, those of its
-/// vertices.
-fn extent_of(tri: &Tri, ready: &Ready, lens: &Lens) -> Extent
+/// The columns and rows in which a triangle can be hit: those of its face, or none.
+fn extent_of(tri: &Tri, ready: &Option<tri_cover::Face>, lens: &Lens) -> Extent
     requires { IsReady lens.now tri.now ready.now }
     ensures around { IsAround lens.now tri.now result }
     ensures exact { IsBoxOf ready.now result }
 {
     match ready {
-        Ready::Nothing => Extent {
-            left: 0,
-            right: 0,
-            top: 0,
-            bottom: 0,
-        },
-        Ready::Face(face) => Extent {
+        Some(face) => Extent {
             left: face.extent.columns.first,
             right: face.extent.columns.last + 1,
             top: face.extent.rows.first,
             bottom: face.extent.rows.last + 1,
         },
-        Ready::Slow => extent_around(tri, lens),
+        None => Extent {
+            left: 0,
+            right: 0,
+            top: 0,
+            bottom: 0,
+        },
     }
-}
-
-/// Columns and rows outside of which a triangle is not hit.
-fn extent_around(tri: &Tri, lens: &Lens) -> Extent
-    ensures { IsAround lens.now tri.now result }
-{
-    surrounding(tri, lens)
-}
-
-fn surrounding(tri: &Tri, lens: &Lens) -> Extent
-    ensures { Surrounds lens.now (vertex tri.now 0) (vertex tri.now 1) (vertex tri.now 2)
-        result.left result.right result.top result.bottom }
-{
-    let [u, v, w] = tri.v;
-    Extent::around(lens, u, v, w)
 }

@@ -1,5 +1,5 @@
 //! Faces over the marks of a tile.
-ghost use Rattle.std.specs.Prelude.{◌≡◌, ℕ, ◌+◌, ◌<◌, ◌≤◌, All, IsTrue, length, slice_set, slice_index_or};
+ghost use Rattle.std.specs.Prelude.{◌≡◌, ℕ, ◌+◌, ◌<◌, ◌≤◌, All, length, slice_set, slice_index_or};
 ghost use Rattle.fx_math.specs.declared.lenses.Lens.{Lens};
 ghost use Rattle.depth_raster.specs.Around.{IsWithin};
 ghost use Rattle.depth_raster.specs.Blocks.{IsBlockOf, size_of};
@@ -7,7 +7,7 @@ ghost use Rattle.depth_raster.specs.Edges.{AreValuesAt};
 ghost use Rattle.depth_raster.specs.Following.{Follows, RowFollows};
 ghost use Rattle.depth_raster.specs.Marks.{mark_over, no_mark};
 ghost use Rattle.depth_raster.specs.Pieces.{IsPieceOf, HasFace};
-ghost use Rattle.depth_raster.specs.Tiles.{mark_in, within, face_over, MarksFollow, IsBehind};
+ghost use Rattle.depth_raster.specs.Tiles.{mark_in, within, face_over, MarksFollow};
 
 use crate::blocks::Block;
 use crate::edges::EdgeValues;
@@ -17,7 +17,7 @@ use crate::pieces::Piece;
 use crate::pixels::{limit, nearer};
 use crate::tile::Tile;
 use fx_math::Lens;
-use tri_cover::{Face, Ready};
+use tri_cover::Face;
 
 /// Draws a piece over the marks of a tile.
 pub(crate) fn draw_piece(tile: &mut Tile, lens: &Lens, piece: &Piece)
@@ -25,24 +25,25 @@ pub(crate) fn draw_piece(tile: &mut Tile, lens: &Lens, piece: &Piece)
     requires ready { IsPieceOf lens.now piece.now }
     ensures { MarksFollow (face_over lens.now piece.now.face) tile.old tile.new }
 {
-    let block = tile.block;
-    if is_behind(piece, &block, tile.top, lens) {
-        return;
+    match &piece.ready {
+        Some(face) => draw_face(tile, lens, piece, face),
+        None => {}
     }
-    draw_marks(&mut tile.marks, &block, lens, piece);
-    tile.top = greatest_within(&tile.marks, tile.top);
 }
 
-/// Whether the values at the corners of a block tell that a piece is hit nowhere in it before a depth.
-fn is_behind(piece: &Piece, block: &Block, depth: u32, lens: &Lens) -> bool
-    requires block { IsBlockOf lens.now block.now }
+/// Draws the piece of a face over the marks of a tile.
+fn draw_face(tile: &mut Tile, lens: &Lens, piece: &Piece, face: &Face)
+    requires block { IsBlockOf lens.now tile.old.block }
     requires ready { IsPieceOf lens.now piece.now }
-    ensures { IsTrue result → IsBehind lens.now piece.now.face block.now depth }
+    requires face { HasFace piece.now face.now }
+    ensures { MarksFollow (face_over lens.now piece.now.face) tile.old tile.new }
 {
-    match &piece.ready {
-        Ready::Face(face) => is_hidden(face, block, limit(depth, piece.face.shift)),
-        _ => false,
+    let block = tile.block;
+    if is_hidden(face, &block, limit(tile.top, piece.face.shift)) {
+        return;
     }
+    draw_marks(&mut tile.marks, &block, lens, piece, face);
+    tile.top = greatest_within(&tile.marks, tile.top);
 }
 
 /// A depth behind which no mark lies, from one that is known to be so: the greatest of marks, looked for until one has that
@@ -68,67 +69,30 @@ fn greater(a: u32, b: u32) -> u32
     if a < b { b } else { a }
 }
 
-/// Draws a piece over the marks of a block.
-fn draw_marks(marks: &mut [Mark], block: &Block, lens: &Lens, piece: &Piece)
+/// Draws the piece of a face over the marks of a block.
+fn draw_marks(marks: &mut [Mark], block: &Block, lens: &Lens, piece: &Piece, face: &Face)
     requires len { length marks.old ≡ size_of block.now }
     requires block { IsBlockOf lens.now block.now }
     requires ready { IsPieceOf lens.now piece.now }
+    requires face { HasFace piece.now face.now }
     ensures { Follows block.now.width block.now.rows (mark_in block.now marks.old) (mark_in block.now marks.new)
         (within block.now (face_over lens.now piece.now.face)) }
 {
     let extent = piece.extent;
     for r in block.rows_from(extent.top)..block.rows_to(extent.bottom) {
-        draw_row(marks, block, lens, piece, r);
-    }
-}
-
-/// Draws a piece over the marks of a row of a block.
-fn draw_row(marks: &mut [Mark], block: &Block, lens: &Lens, piece: &Piece, r: u16)
-    requires len { length marks.old ≡ size_of block.now }
-    requires block { IsBlockOf lens.now block.now }
-    requires ready { IsPieceOf lens.now piece.now }
-    requires row { r < block.now.rows }
-    requires top { piece.now.extent.top ≤ block.now.first + r }
-    requires bottom { block.now.first + r < piece.now.extent.bottom }
-    ensures { RowFollows block.now (mark_in block.now marks.old) (mark_in block.now marks.new)
-        (within block.now (face_over lens.now piece.now.face)) r }
-{
-    match &piece.ready {
-        Ready::Face(face) => draw_face(marks, block, lens, piece, face, r),
-        _ => draw_pixels(marks, block, lens, piece, r),
-    }
-}
-
-/// Draws a piece over the marks of a row of a block, each by itself.
-fn draw_pixels(marks: &mut [Mark], block: &Block, lens: &Lens, piece: &Piece, r: u16)
-    requires len { length marks.old ≡ size_of block.now }
-    requires block { IsBlockOf lens.now block.now }
-    requires ready { IsPieceOf lens.now piece.now }
-    requires row { r < block.now.rows }
-    requires top { piece.now.extent.top ≤ block.now.first + r }
-    requires bottom { block.now.first + r < piece.now.extent.bottom }
-    ensures { RowFollows block.now (mark_in block.now marks.old) (mark_in block.now marks.new)
-        (within block.now (face_over lens.now piece.now.face)) r }
-{
-    let extent = piece.extent;
-    for q in block.columns_from(extent.left)..block.columns_to(extent.right) {
-        let place = block.place(q, r);
-        let over = piece
-            .face
-            .over(marks[place], lens, block.left + q, block.first + r);
-        marks[place] = over;
+        draw_row(marks, block, lens, piece, face, r);
     }
 }
 
 /// Draws the piece of a face over the marks of a row of a block, from each pixel to the next.
-fn draw_face(marks: &mut [Mark], block: &Block, lens: &Lens, piece: &Piece, face: &Face, r: u16)
+fn draw_row(marks: &mut [Mark], block: &Block, lens: &Lens, piece: &Piece, face: &Face, r: u16)
     requires len { length marks.old ≡ size_of block.now }
     requires block { IsBlockOf lens.now block.now }
     requires ready { IsPieceOf lens.now piece.now }
+    requires face { HasFace piece.now face.now }
     requires row { r < block.now.rows }
     requires top { piece.now.extent.top ≤ block.now.first + r }
     requires bottom { block.now.first + r < piece.now.extent.bottom }
-    requires face { HasFace piece.now face.now }
     ensures { RowFollows block.now (mark_in block.now marks.old) (mark_in block.now marks.new)
         (within block.now (face_over lens.now piece.now.face)) r }
 {

@@ -2,7 +2,7 @@
 use fx_math::{Lens, MAX_COORDINATE, Vec3};
 use pf_model::Tri;
 use std::test::Fail;
-use tri_cover::{Hit, Ready, Stepper, face_of};
+use tri_cover::{Hit, Stepper, face_of};
 
 /// A triangle that is red, green and blue at these corners.
 fn tri(corners: [[i32; 3]; 3]) -> Option<Tri> {
@@ -17,17 +17,12 @@ fn tri(corners: [[i32; 3]; 3]) -> Option<Tri> {
     })
 }
 
-/// The columns and the rows that a triangle is ready for, and how near it comes.
-fn readied(corners: [[i32; 3]; 3], w: u16, h: u16) -> Option<([u16; 4], i32)> {
+/// The first and last of the columns, and of the rows, that a triangle is ready for.
+fn readied(corners: [[i32; 3]; 3], w: u16, h: u16) -> Option<[u16; 4]> {
     let lens = Lens::new(w, h, 1, 1, MAX_COORDINATE)?;
-    let Ready::Face(face) = face_of(&tri(corners)?, &lens) else {
-        return None;
-    };
+    let face = face_of(&tri(corners)?, &lens)?;
     let (columns, rows) = (face.extent.columns, face.extent.rows);
-    Some((
-        [columns.first, columns.last, rows.first, rows.last],
-        face.nearest,
-    ))
+    Some([columns.first, columns.last, rows.first, rows.last])
 }
 
 #[test]
@@ -46,9 +41,9 @@ fn readies_triangles(rt: HostRuntime) {
     let edge_on = [[0, 4_096, 0], [0, 8_192, 0], [0, 4_096, 4_096]];
     let behind = [[0, -4_096, 0], [4_096, -4_096, 0], [0, -4_096, 4_096]];
     for (corners, w, h, want) in [
-        (covering, 2, 2, Some(([0, 1, 0, 1], 4_096))),
-        (small, 8, 8, Some(([3, 4, 2, 3], 4_096))),
-        (across, 3, 1, Some(([0, 2, 0, 0], -4_096))),
+        (covering, 2, 2, Some([0, 1, 0, 1])),
+        (small, 8, 8, Some([3, 4, 2, 3])),
+        (across, 3, 1, Some([0, 2, 0, 0])),
         (edge_on, 2, 2, None),
         (behind, 2, 2, None),
     ] {

@@ -1,20 +1,15 @@
 -- Edge values as linear functions of the pixel.
-use Rattle.std.proofs.Common.{◌≡◌, ℕ, ◌*◌, ◌^◌, lit≤, Bool, true, false, if◌then◌else◌, sym, ap, ◌∙◌, subst, arith, refl}
+use Rattle.std.proofs.Common.{◌≡◌, ℕ, ◌*◌, Bool, true, false, if◌then◌else◌, sym, ap, ◌∙◌, subst, arith, refl}
 use Rattle.std.specs.Prelude.{ℤ, pos, neg_ℤ, ◌+ℤ◌, ◌-ℤ◌, ◌*ℤ◌, int_lt}
-use Rattle.std.proofs.lemmas.Int.{ints}
-use Rattle.fx_math.specs.Within.{IsWithin}
 use Rattle.fx_math.specs.Plain.{Point, point}
-use Rattle.fx_math.specs.Views.{point_of}
-use Rattle.fx_math.specs.declared.vectors.Vec3.{Vec3}
-use Rattle.fx_math.proofs.Size.{within_add, within_neg, within_mul, within_more}
 use Rattle.fx_math.specs.Hit.{Edges, edges, det3, ray}
 use Rattle.fx_math.specs.declared.lenses.Lens.{Lens}
 use Rattle.fx_math.proofs.Ring.{expand, linear}
 use Rattle.tri_cover.specs.declared.linear.Linear.{Linear}
 use Rattle.tri_cover.specs.declared.edge_functions.EdgeFunctions.{EdgeFunctions}
 use Rattle.tri_cover.specs.Linears.{value_at, IsTotal}
-use Rattle.tri_cover.specs.Planes.{cross, product, turned_point, IsSmallPlane, AreSmallPlanes, IsLinearOf, AreEdgesOf}
-use Rattle.tri_cover.specs.Normals.{turned, AreShort}
+use Rattle.tri_cover.specs.Planes.{cross, product, turned_point, IsLinearOf, AreEdgesOf}
+use Rattle.tri_cover.specs.Normals.{turned}
 use Rattle.tri_cover.proofs.Turned.{turned_edges}
 
 -- ---- a determinant is a scalar product with a normal
@@ -40,15 +35,15 @@ pub ray_line : (lens : Lens) (k : Point) (px py : ℕ) → (pos 2 *ℤ k.x) *ℤ
 unfolding ray product
 ray_line lens k px py = line k.x k.y k.z (pos lens.w) (pos (2 * lens.f)) (pos lens.h) (pos px) (pos py)
 
-sum_line : (a b c d e f g h i p q : ℤ) → (a +ℤ b +ℤ c) *ℤ p +ℤ (d +ℤ e +ℤ f) *ℤ q +ℤ (g +ℤ h +ℤ i)
-    ≡ (a *ℤ p +ℤ d *ℤ q +ℤ g) +ℤ (b *ℤ p +ℤ e *ℤ q +ℤ h) +ℤ (c *ℤ p +ℤ f *ℤ q +ℤ i)
+sum_line : (a b c d e f g h i p q : ℤ) → (pos 2 *ℤ (a +ℤ b +ℤ c)) *ℤ p +ℤ (pos 2 *ℤ (d +ℤ e +ℤ f)) *ℤ q +ℤ (g +ℤ h +ℤ i)
+    ≡ ((pos 2 *ℤ a) *ℤ p +ℤ (pos 2 *ℤ d) *ℤ q +ℤ g) +ℤ ((pos 2 *ℤ b) *ℤ p +ℤ (pos 2 *ℤ e) *ℤ q +ℤ h) +ℤ ((pos 2 *ℤ c) *ℤ p +ℤ (pos 2 *ℤ f) *ℤ q +ℤ i)
 sum_line a b c d e f g h i p q = simp expand (omega (arith, linear))
 
 pub total_value : (e0 e1 e2 sum : Linear) (px py : ℕ) → IsTotal e0 e1 e2 sum → value_at sum px py ≡ value_at e0 px py +ℤ value_at e1 px py +ℤ value_at e2 px py
 total_value e0 e1 e2 sum px py t =
-    ap (λ (z : ℤ). z *ℤ pos px +ℤ sum.b *ℤ pos py +ℤ sum.c) t.a_is
-    ∙ ap (λ (z : ℤ). (e0.a +ℤ e1.a +ℤ e2.a) *ℤ pos px +ℤ z *ℤ pos py +ℤ sum.c) t.b_is
-    ∙ ap (λ (z : ℤ). (e0.a +ℤ e1.a +ℤ e2.a) *ℤ pos px +ℤ (e0.b +ℤ e1.b +ℤ e2.b) *ℤ pos py +ℤ z) t.c_is
+    ap (λ (z : ℤ). (pos 2 *ℤ z) *ℤ pos px +ℤ (pos 2 *ℤ sum.b) *ℤ pos py +ℤ sum.c) t.a_is
+    ∙ ap (λ (z : ℤ). (pos 2 *ℤ (e0.a +ℤ e1.a +ℤ e2.a)) *ℤ pos px +ℤ (pos 2 *ℤ z) *ℤ pos py +ℤ sum.c) t.b_is
+    ∙ ap (λ (z : ℤ). (pos 2 *ℤ (e0.a +ℤ e1.a +ℤ e2.a)) *ℤ pos px +ℤ (pos 2 *ℤ (e0.b +ℤ e1.b +ℤ e2.b)) *ℤ pos py +ℤ z) t.c_is
     ∙ sum_line e0.a e1.a e2.a e0.b e1.b e2.b e0.c e1.c e2.c (pos px) (pos py)
 
 -- ---- with the signs turned
@@ -79,44 +74,6 @@ values_turned lens u v w volume g px py is =
     let third : value_at g.e2 px py ≡ turned volume (det3 u v (ray lens px py)) = edge_value lens volume _ (cross u v) g.e2 px py is.third_is (det_third (ray lens px py) u v) in
     rw (first, second, third)
 
--- ---- short normals
-short_flip : (is_back : Bool) (z : ℤ) → IsWithin (2 ^ 40) (if is_back then neg_ℤ z else z) → IsWithin (2 ^ 40) z
-short_flip true z h = record { size = omega (arith, ints, h.size) }
-short_flip false z h = h
-
-pub short_turned : (volume : ℤ) (k : Point) → AreShort (turned volume k.x) (turned volume k.y) (turned volume k.z) → AreShort k.x k.y k.z
-short_turned volume k h = record {
-  x_within = short_flip (int_lt volume (pos 0)) k.x h.x_within;
-  y_within = short_flip (int_lt volume (pos 0)) k.y h.y_within;
-  z_within = short_flip (int_lt volume (pos 0)) k.z h.z_within;
-}
-
-flip_within : {m : ℕ} (is_back : Bool) (z : ℤ) → IsWithin m z → IsWithin m (if is_back then neg_ℤ z else z)
-flip_within true z h = within_neg h
-flip_within false z h = h
-
-pub small_turned : (lens : Lens) (volume : ℤ) (k : Point) → IsSmallPlane lens k → IsSmallPlane lens (turned_point volume k)
-small_turned lens volume k h = record {
-  short = record {
-    x_within = flip_within (int_lt volume (pos 0)) k.x h.short.x_within;
-    y_within = flip_within (int_lt volume (pos 0)) k.y h.short.y_within;
-    z_within = flip_within (int_lt volume (pos 0)) k.z h.short.z_within;
-  };
-  first = subst (λ (z : ℤ). IsWithin (2 ^ 52) z) (sym (product_turned volume (ray lens 0 0) k))
-      (flip_within (int_lt volume (pos 0)) (product (ray lens 0 0) k) h.first);
-}
-
--- the product with the ray of the first pixel
-pub first_value : (lens : Lens) (k : Point) → (pos 1 -ℤ pos lens.w) *ℤ k.x +ℤ pos (2 * lens.f) *ℤ k.y +ℤ (pos lens.h -ℤ pos 1) *ℤ k.z ≡ product (ray lens 0 0) k
-unfolding ray product
-first_value lens k = refl
-
--- the determinant of a point and a plane of a short normal
-pub product_short : (p : Vec3) (k : Point) → AreShort k.x k.y k.z → IsWithin (3 * 2 ^ 70) (product (point_of p) k)
-unfolding product
-product_short p k h =
-    within_more (3 * 2 ^ 70) (within_add (within_add (within_mul p.in_range.x_within h.x_within) (within_mul p.in_range.y_within h.y_within)) (within_mul p.in_range.z_within h.z_within)) (lit≤ tt)
-
 -- ---- the same normals
 pub edges_same : (lens : Lens) (v v' : ℤ) (k k' l l' m m' : Point) (g : EdgeFunctions) → v ≡ v' → k ≡ k' → l ≡ l' → m ≡ m' → AreEdgesOf lens v k l m g → AreEdgesOf lens v' k' l' m' g
 edges_same lens v v' k k' l l' m m' g a b c d h =
@@ -124,9 +81,3 @@ edges_same lens v v' k k' l l' m m' g a b c d h =
     (subst (λ (p : Point). AreEdgesOf lens v' k' p m g) c
     (subst (λ (p : Point). AreEdgesOf lens v' p l m g) b
     (subst (λ (z : ℤ). AreEdgesOf lens z k l m g) a h)))
-
-pub small_same : (lens : Lens) (k k' l l' m m' : Point) → k ≡ k' → l ≡ l' → m ≡ m' → AreSmallPlanes lens k' l' m' → AreSmallPlanes lens k l m
-small_same lens k k' l l' m m' b c d h =
-    subst (λ (p : Point). AreSmallPlanes lens k l p) (sym d)
-    (subst (λ (p : Point). AreSmallPlanes lens k p m') (sym c)
-    (subst (λ (p : Point). AreSmallPlanes lens p l' m') (sym b) h))

@@ -1,6 +1,5 @@
 -- The hits of a face: of a triangle of which all is reckoned that no pixel changes.
-use Rattle.std.specs.Prelude.{◌≡◌, ℕ, ◌+◌, ◌*◌, ◌/◌, ◌<◌, List, [], ◌∷◌, if◌then◌else◌, Option, Some, None, Bool, ◌&&◌, nat_le, ℤ, pos, int_le, int_lt}
-use Rattle.std.specs.Int.{int_min}
+use Rattle.std.specs.Prelude.{◌≡◌, ℕ, ◌+◌, ◌*◌, ◌/◌, ◌<◌, List, [], ◌∷◌, if◌then◌else◌, Option, Some, None, Bool, ◌&&◌, nat_le, pos, int_le, int_lt}
 use Rattle.fx_math.specs.Plain.{Point}
 use Rattle.fx_math.specs.declared.lenses.Lens.{Lens}
 use Rattle.pf_model.specs.declared.geometry.Tri.{Tri}
@@ -50,16 +49,11 @@ face_hit f px py =
     then Some (record { depth = depth_at f px py; colour = colour_at f px py })
     else None
 
--- the least depth of a triangle's vertices
-abbrev pub least_depth : (u v w : Point) → ℤ
-least_depth u v w = int_min (int_min u.y v.y) w.y
-
 -- at the pixels of the lens the face has the hits of the triangle of these vertices and colours
 pub record HasHitsOf (lens : Lens) (u v w : Point) (colours : List (List ℕ)) (f : Face) : Type 0 where
   pub hits : (px py : ℕ) → px < lens.w → py < lens.h → hit_of lens px py u v w colours ≡ face_hit f px py
   pub in_row : f.extent.columns.last < lens.w
   pub in_picture : f.extent.rows.last < lens.h
-  pub nearest_is : f.nearest ≡ least_depth u v w
 
 -- at the pixels of the lens the face has the hits of the triangle in eye coordinates: `hit lens px py [] tri`
 abbrev pub IsFaceOf : Lens → Tri → Face → Type 0

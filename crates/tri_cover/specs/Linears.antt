@@ -5,7 +5,11 @@ use Rattle.tri_cover.specs.declared.linear.Linear.{Linear}
 
 -- the value at the pixel (px, py)
 abbrev pub value_at : Linear → (px py : ℕ) → ℤ
-value_at g px py = g.a *ℤ pos px +ℤ g.b *ℤ pos py +ℤ g.c
+value_at g px py = (pos 2 *ℤ g.a) *ℤ pos px +ℤ (pos 2 *ℤ g.b) *ℤ pos py +ℤ g.c
+
+-- by how much the value changes from a pixel to the next one of its row
+abbrev pub step_of : Linear → ℤ
+step_of g = pos 2 *ℤ g.a
 
 -- the value at the pixel (px, py), where it is not below 0
 abbrev pub weight_at : Linear → (px py : ℕ) → ℕ

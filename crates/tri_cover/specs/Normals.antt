@@ -7,12 +7,6 @@ pub record AreNormal (x y z : ℤ) : Type 0 where
   pub y_within : IsWithin (2 ^ 61) y
   pub z_within : IsWithin (2 ^ 61) z
 
--- those of planes that become edge values
-pub record AreShort (x y z : ℤ) : Type 0 where
-  pub x_within : IsWithin (2 ^ 40) x
-  pub y_within : IsWithin (2 ^ 40) y
-  pub z_within : IsWithin (2 ^ 40) z
-
 -- the number, with its sign turned where the first number is below 0
 abbrev pub turned : (sign z : ℤ) → ℤ
 turned sign z = if int_lt sign (pos 0) then neg_ℤ z else z

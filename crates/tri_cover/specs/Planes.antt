@@ -1,6 +1,5 @@
 -- Planes through the eye and two points, by their normals.
-use Rattle.std.specs.Prelude.{◌≡◌, ℕ, ◌^◌, ℤ, ◌+ℤ◌, ◌-ℤ◌, ◌*ℤ◌}
-use Rattle.fx_math.specs.Within.{IsWithin}
+use Rattle.std.specs.Prelude.{◌≡◌, ℕ, ℤ, ◌+ℤ◌, ◌-ℤ◌, ◌*ℤ◌}
 use Rattle.fx_math.specs.Plain.{Point, point}
 use Rattle.fx_math.specs.Hit.{ray}
 use Rattle.fx_math.specs.declared.lenses.Lens.{Lens}
@@ -8,7 +7,7 @@ use Rattle.tri_cover.specs.declared.linear.Linear.{Linear}
 use Rattle.tri_cover.specs.declared.edge_functions.EdgeFunctions.{EdgeFunctions}
 use Rattle.tri_cover.specs.declared.plane.Plane.{Plane}
 use Rattle.tri_cover.specs.Linears.{value_at, IsNarrow}
-use Rattle.tri_cover.specs.Normals.{AreShort, turned}
+use Rattle.tri_cover.specs.Normals.{turned}
 
 abbrev pub normal_of : Plane → Point
 normal_of k = point k.x k.y k.z
@@ -27,16 +26,6 @@ product p q = p.x *ℤ q.x +ℤ p.y *ℤ q.y +ℤ p.z *ℤ q.z
 -- the same of a point
 abbrev pub turned_point : (sign : ℤ) → Point → Point
 turned_point sign p = point (turned sign p.x) (turned sign p.y) (turned sign p.z)
-
--- the normal and its product with the ray of the first pixel are small enough for a linear function of 64 bits
-pub record IsSmallPlane (lens : Lens) (normal : Point) : Type 0 where
-  pub short : AreShort normal.x normal.y normal.z
-  pub first : IsWithin (2 ^ 52) (product (ray lens 0 0) normal)
-
-pub record AreSmallPlanes (lens : Lens) (first second third : Point) : Type 0 where
-  pub first_small : IsSmallPlane lens first
-  pub second_small : IsSmallPlane lens second
-  pub third_small : IsSmallPlane lens third
 
 -- at each pixel the function is the scalar product of its ray with the normal
 pub record IsLinearOf (lens : Lens) (normal : Point) (g : Linear) : Type 0 where

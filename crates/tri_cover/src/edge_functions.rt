@@ -1,5 +1,4 @@
 //! The edge values of a triangle as functions of the pixel.
-ghost use Rattle.std.specs.Prelude.{IfSome, IfNone};
 ghost use Rattle.tri_cover.specs.Linears.{IsNarrow, IsTotal};
 
 use crate::linear::Linear;
@@ -20,30 +19,26 @@ pub struct EdgeFunctions {
 }
 
 impl EdgeFunctions {
-    ghost use Rattle.tri_cover.specs.Normals.{AreShort};
-    ghost use Rattle.tri_cover.specs.Planes.{normal_of, AreEdgesOf, AreSmallPlanes};
+    ghost use Rattle.tri_cover.specs.Planes.{normal_of, AreEdgesOf};
 
-    /// The edge values of a triangle whose vertices have this determinant, from the planes through its sides; None where a number
-    /// would be too large.
+    /// The edge values of a triangle whose vertices have this determinant, from the planes through its sides.
     pub(crate) fn new(
         first: Plane,
         second: Plane,
         third: Plane,
         volume: i128,
         lens: &Lens,
-    ) -> Option<EdgeFunctions>
-        ensures value { IfSome result (λ g. AreEdgesOf lens.now volume (normal_of first) (normal_of second) (normal_of third) g) }
-        ensures short { IfSome result (λ g. AreShort first.x first.y first.z) }
-        ensures small { IfNone result (AreSmallPlanes lens.now (normal_of first) (normal_of second) (normal_of third) → ⊥) }
+    ) -> EdgeFunctions
+        ensures { AreEdgesOf lens.now volume (normal_of first) (normal_of second) (normal_of third) result }
     {
-        let e0 = first.facing(volume).linear(lens)?;
-        let e1 = second.facing(volume).linear(lens)?;
-        let e2 = third.facing(volume).linear(lens)?;
-        Some(EdgeFunctions {
+        let e0 = first.facing(volume).linear(lens);
+        let e1 = second.facing(volume).linear(lens);
+        let e2 = third.facing(volume).linear(lens);
+        EdgeFunctions {
             e0,
             e1,
             e2,
             sum: Linear::total(e0, e1, e2),
-        })
+        }
     }
 }

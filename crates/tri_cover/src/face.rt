@@ -1,7 +1,7 @@
 //! Triangles made ready for many pixels.
 //!
 //! The hits of a triangle at its pixels share all but four values: the edge values, which are linear in the pixel, and their
-//! sum. A face holds these as coefficients of 64 bits, with a box of pixels.
+//! sum. A face holds these by their coefficients, with a box of pixels.
 ghost use Rattle.std.specs.Prelude.{◌<◌, ◌^◌};
 
 use crate::edge_functions::EdgeFunctions;
@@ -15,9 +15,7 @@ pub struct Face {
     /// magnitude of the vertices' determinant.
     pub dividend: u128,
     pub extent: Extent,
-    /// The least depth of its vertices.
-    pub nearest: i32,
     /// The red, green and blue of the vertices.
     pub colours: [[u8; 3]; 3],
-    pub ghost small: { dividend < 2 ^ 96 },
+    pub ghost small: { dividend < 2 ^ 110 },
 }

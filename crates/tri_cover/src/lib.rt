@@ -24,5 +24,5 @@ pub use extent::{Extent, Span};
 pub use face::Face;
 pub use hit::Hit;
 pub use linear::Linear;
-pub use ready::{Ready, face_of};
+pub use ready::face_of;
 pub use stepper::Stepper;

@@ -1,29 +1,37 @@
 //! Linear functions of the pixel.
-ghost use Rattle.std.specs.Prelude.{◌≡◌, ◌<◌, ◌^◌, pos, ◌+ℤ◌, ◌*ℤ◌};
+ghost use Rattle.std.specs.Prelude.{◌≡◌, ◌<◌, ◌*◌, ◌^◌, pos, ◌+ℤ◌, ◌*ℤ◌};
 ghost use Rattle.fx_math.specs.Limits.{size_limit};
 ghost use Rattle.fx_math.specs.Within.{IsWithin};
 ghost use Rattle.tri_cover.specs.Coefficients.{AreWide};
 
-/// The function `a * px + b * py + c` of the pixel (px, py), which is counted from the top left.
+/// The function `2 * a * px + 2 * b * py + c` of the pixel (px, py), which is counted from the top left.
 #[derive(Clone, Copy, Debug, PartialEq, Eq)]
 pub struct Linear {
     pub a: i64,
     pub b: i64,
-    pub c: i64,
+    pub c: i128,
     pub ghost wide: { AreWide a b c },
 }
 
 impl Linear {
-    ghost use Rattle.tri_cover.specs.Linears.{value_at, IsNarrow, IsTotal};
+    ghost use Rattle.tri_cover.specs.Linears.{value_at, step_of, IsNarrow, IsTotal};
 
     /// The value at a pixel.
-    pub fn at(&self, px: u16, py: u16) -> i64
+    pub fn at(&self, px: u16, py: u16) -> i128
         requires px { px < size_limit }
         requires py { py < size_limit }
         ensures value { result ≡ value_at self.now px py }
-        ensures bound { IsWithin (2 ^ 55) result }
+        ensures bound { IsWithin (2 ^ 82) result }
     {
         sum_of(times(self.a, px), times(self.b, py), self.c)
+    }
+
+    /// By how much the value changes from a pixel to the next one of its row.
+    pub fn step(&self) -> i128
+        ensures value { result ≡ step_of self.now }
+        ensures bound { IsWithin (2 ^ 64) result }
+    {
+        2 * i128::from(self.a)
     }
 
     /// The sum of three edge values.
@@ -41,41 +49,50 @@ impl Linear {
     }
 }
 
-fn times(slope: i64, place: u16) -> i64
-    requires slope { IsWithin (2 ^ 43) slope }
+fn times(slope: i64, place: u16) -> i128
+    requires slope { IsWithin (3 * 2 ^ 61) slope }
     requires place { place < size_limit }
-    ensures value { result ≡ slope *ℤ pos place }
-    ensures bound { IsWithin (2 ^ 53) result }
+    ensures value { result ≡ (pos 2 *ℤ slope) *ℤ pos place }
+    ensures bound { IsWithin (3 * 2 ^ 72) result }
 {
-    slope * i64::from(place)
+    2 * product(slope, place)
 }
 
-fn sum_of(x: i64, y: i64, c: i64) -> i64
-    requires x { IsWithin (2 ^ 53) x }
-    requires y { IsWithin (2 ^ 53) y }
-    requires c { IsWithin (2 ^ 54) c }
+fn product(slope: i64, place: u16) -> i128
+    requires slope { IsWithin (3 * 2 ^ 61) slope }
+    requires place { place < size_limit }
+    ensures value { result ≡ slope *ℤ pos place }
+    ensures bound { IsWithin (3 * 2 ^ 71) result }
+{
+    i128::from(slope) * i128::from(place)
+}
+
+fn sum_of(x: i128, y: i128, c: i128) -> i128
+    requires x { IsWithin (3 * 2 ^ 72) x }
+    requires y { IsWithin (3 * 2 ^ 72) y }
+    requires c { IsWithin (3 * 2 ^ 80) c }
     ensures value { result ≡ x +ℤ y +ℤ c }
-    ensures bound { IsWithin (2 ^ 55) result }
+    ensures bound { IsWithin (2 ^ 82) result }
 {
     x + y + c
 }
 
 fn slope(x: i64, y: i64, z: i64) -> i64
-    requires x { IsWithin (2 ^ 41) x }
-    requires y { IsWithin (2 ^ 41) y }
-    requires z { IsWithin (2 ^ 41) z }
+    requires x { IsWithin (2 ^ 61) x }
+    requires y { IsWithin (2 ^ 61) y }
+    requires z { IsWithin (2 ^ 61) z }
     ensures value { result ≡ x +ℤ y +ℤ z }
-    ensures bound { IsWithin (2 ^ 43) result }
+    ensures bound { IsWithin (3 * 2 ^ 61) result }
 {
     x + y + z
 }
 
-fn constant(x: i64, y: i64, z: i64) -> i64
-    requires x { IsWithin (2 ^ 52) x }
-    requires y { IsWithin (2 ^ 52) y }
-    requires z { IsWithin (2 ^ 52) z }
+fn constant(x: i128, y: i128, z: i128) -> i128
+    requires x { IsWithin (2 ^ 80) x }
+    requires y { IsWithin (2 ^ 80) y }
+    requires z { IsWithin (2 ^ 80) z }
     ensures value { result ≡ x +ℤ y +ℤ z }
-    ensures bound { IsWithin (2 ^ 54) result }
+    ensures bound { IsWithin (3 * 2 ^ 80) result }
 {
     x + y + z
 }

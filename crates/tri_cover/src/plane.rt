@@ -1,20 +1,13 @@
 //! Planes through the eye and two points of a triangle.
 //!
 //! The scalar product of such a plane's normal with the ray of a pixel is an edge value, and it is linear in the pixel.
-//! Normals of 40 bits keep its coefficients in 64 bits.
-ghost use Rattle.std.specs.Prelude.{◌≡◌, ◌↔◌, ◌*◌, ◌^◌, pos, neg_ℤ, ◌+ℤ◌, ◌-ℤ◌, ◌*ℤ◌, IsTrue, IfSome, IfNone};
+ghost use Rattle.std.specs.Prelude.{◌≡◌, ◌*◌, ◌^◌, pos, neg_ℤ, ◌+ℤ◌, ◌-ℤ◌, ◌*ℤ◌};
 ghost use Rattle.fx_math.specs.Within.{IsWithin, IsCoordinate};
 ghost use Rattle.fx_math.specs.Views.{point_of};
-ghost use Rattle.tri_cover.specs.Normals.{AreNormal, AreShort, turned};
+ghost use Rattle.tri_cover.specs.Normals.{AreNormal, turned};
 
 use crate::linear::Linear;
 use fx_math::{Lens, Vec3};
-
-/// The greatest magnitude of a normal's coordinate, for edge values.
-const MAX_NORMAL: i64 = 1 << 40;
-
-/// The greatest magnitude of an edge value at the first pixel.
-const MAX_CONSTANT: i64 = 1 << 52;
 
 /// The plane through the eye that has this normal.
 #[derive(Clone, Copy)]
@@ -26,7 +19,7 @@ pub(crate) struct Plane {
 }
 
 impl Plane {
-    ghost use Rattle.tri_cover.specs.Planes.{normal_of, cross, product, turned_point, IsSmallPlane, IsLinearOf};
+    ghost use Rattle.tri_cover.specs.Planes.{normal_of, cross, product, turned_point, IsLinearOf};
 
     /// The plane through the eye and two points: its normal is their cross product.
     pub(crate) fn through(p: Vec3, q: Vec3) -> Plane
@@ -58,44 +51,28 @@ impl Plane {
         }
     }
 
-    /// The edge value as a function of the pixel; None where the normal or a coefficient is too large.
-    pub(crate) fn linear(&self, lens: &Lens) -> Option<Linear>
-        ensures value { IfSome result (λ g. IsLinearOf lens.now (normal_of self.now) g) }
-        ensures short { IfSome result (λ g. AreShort self.now.x self.now.y self.now.z) }
-        ensures small { IfNone result (IsSmallPlane lens.now (normal_of self.now) → ⊥) }
+    /// The edge value as a function of the pixel.
+    pub(crate) fn linear(&self, lens: &Lens) -> Linear
+        ensures { IsLinearOf lens.now (normal_of self.now) result }
     {
-        if !self.is_short() {
-            return None;
+        Linear {
+            a: self.x,
+            b: negated(self.z),
+            c: self.at_first(lens),
         }
-        let c = self.at_first(lens);
-        if !is_constant(c) {
-            return None;
-        }
-        Some(Linear {
-            a: double(self.x),
-            b: double(negated(self.z)),
-            c,
-        })
     }
 
     /// The edge value at the first pixel.
-    fn at_first(&self, lens: &Lens) -> i64
-        requires { AreShort self.now.x self.now.y self.now.z }
+    fn at_first(&self, lens: &Lens) -> i128
         ensures value { result ≡ (pos 1 -ℤ pos lens.now.w) *ℤ self.now.x +ℤ pos (2 * lens.now.f) *ℤ self.now.y
             +ℤ (pos lens.now.h -ℤ pos 1) *ℤ self.now.z }
-        ensures bound { IsWithin (2 ^ 59) result }
+        ensures bound { IsWithin (2 ^ 80) result }
     {
         add(
             term(left(lens), self.x),
             term(ahead(lens), self.y),
             term(top(lens), self.z),
         )
-    }
-
-    fn is_short(&self) -> bool
-        ensures { IsTrue result ↔ AreShort self.now.x self.now.y self.now.z }
-    {
-        is_small(self.x) && is_small(self.y) && is_small(self.z)
     }
 }
 
@@ -160,21 +137,21 @@ fn top(lens: &Lens) -> i64
     i64::from(lens.h) - 1
 }
 
-fn term(ray: i64, normal: i64) -> i64
+fn term(ray: i64, normal: i64) -> i128
     requires ray { IsWithin (2 ^ 17) ray }
-    requires normal { IsWithin (2 ^ 40) normal }
+    requires normal { IsWithin (2 ^ 61) normal }
     ensures value { result ≡ ray *ℤ normal }
-    ensures bound { IsWithin (2 ^ 57) result }
+    ensures bound { IsWithin (2 ^ 78) result }
 {
-    ray * normal
+    i128::from(ray) * i128::from(normal)
 }
 
-fn add(x: i64, y: i64, z: i64) -> i64
-    requires x { IsWithin (2 ^ 57) x }
-    requires y { IsWithin (2 ^ 57) y }
-    requires z { IsWithin (2 ^ 57) z }
+fn add(x: i128, y: i128, z: i128) -> i128
+    requires x { IsWithin (2 ^ 78) x }
+    requires y { IsWithin (2 ^ 78) y }
+    requires z { IsWithin (2 ^ 78) z }
     ensures value { result ≡ x +ℤ y +ℤ z }
-    ensures bound { IsWithin (2 ^ 59) result }
+    ensures bound { IsWithin (2 ^ 80) result }
 {
     x + y + z
 }
@@ -188,29 +165,9 @@ fn turn(volume: i128, z: i64) -> i64
 }
 
 fn negated(z: i64) -> i64
-    requires { IsWithin (2 ^ 40) z }
+    requires { IsWithin (2 ^ 61) z }
     ensures value { result ≡ neg_ℤ z }
-    ensures bound { IsWithin (2 ^ 40) result }
+    ensures bound { IsWithin (2 ^ 61) result }
 {
     -z
-}
-
-fn double(z: i64) -> i64
-    requires { IsWithin (2 ^ 40) z }
-    ensures value { result ≡ pos 2 *ℤ z }
-    ensures bound { IsWithin (2 ^ 41) result }
-{
-    2 * z
-}
-
-fn is_small(z: i64) -> bool
-    ensures { IsTrue result ↔ IsWithin (2 ^ 40) z }
-{
-    -MAX_NORMAL <= z && z <= MAX_NORMAL
-}
-
-fn is_constant(z: i64) -> bool
-    ensures { IsTrue result ↔ IsWithin (2 ^ 52) z }
-{
-    -MAX_CONSTANT <= z && z <= MAX_CONSTANT
 }

@@ -1,21 +1,22 @@
 use Rattle.std.proofs.Common.{◌≡◌, ◌+◌, w64, FitsSigned, to_z, of_z, sym, ◌∙◌, subst, arith, rules}
+use mir.Syntax.{w128}
 use Rattle.std.specs.Prelude.{ℤ, pos, ◌*ℤ◌, ◌≤ℤ◌}
 use Rattle.std.proofs.lemmas.Int.{ints, to_z-of_z}
 use Rattle.tri_cover.specs.Linears.{value_at}
 use Rattle.depth_raster.proofs.BlockHits.{value_greatest}
 use Rattle.depth_raster.proofs.hiding.greatest.Goals as goal
 
-pub returns : goal.returns
-returns c = λ q r column row.
+pub returns-clause-greatest : goal.returns-clause-greatest
+returns-clause-greatest c = λ q r column row.
     let a = c.args in
     let g = a.linear.now in
     let b = a.block.now in
     let px = c.corner-px.result in
     let py = c.corner-py.result in
-    let fits : FitsSigned w64 c.at.result = search rules in
+    let fits : FitsSigned w128 c.at.result = search rules in
     let slope_a : to_z w64 (of_z w64 g.a) ≡ g.a = omega (arith, ints, g.wide.a_within.size) in
     let slope_b : to_z w64 (of_z w64 g.b) ≡ g.b = omega (arith, ints, g.wide.b_within.size) in
-    let across = subst (λ (z : ℤ). (z *ℤ pos (b.left + q)) ≤ℤ (z *ℤ pos px)) slope_a (c.corner-px.ensures.greatest q column) in
-    let down = subst (λ (z : ℤ). (z *ℤ pos (b.first + r)) ≤ℤ (z *ℤ pos py)) slope_b (c.corner-py.ensures.greatest r row) in
-    subst (λ (z : ℤ). value_at g (b.left + q) (b.first + r) ≤ℤ z) (sym (to_z-of_z w64 c.at.result fits ∙ c.at.ensures.value))
+    let across = subst (λ (z : ℤ). ((pos 2 *ℤ z) *ℤ pos (b.left + q)) ≤ℤ ((pos 2 *ℤ z) *ℤ pos px)) slope_a (c.corner-px.ensures.greatest q column) in
+    let down = subst (λ (z : ℤ). ((pos 2 *ℤ z) *ℤ pos (b.first + r)) ≤ℤ ((pos 2 *ℤ z) *ℤ pos py)) slope_b (c.corner-py.ensures.greatest r row) in
+    subst (λ (z : ℤ). value_at g (b.left + q) (b.first + r) ≤ℤ z) (sym (to_z-of_z w128 c.at.result fits ∙ c.at.ensures.value))
     (value_greatest g (b.left + q) (b.first + r) px py across down)

@@ -1,16 +1,33 @@
-use Rattle.std.proofs.Common.{ℕ, ◌+◌, List, [], subst, arith}
+use Rattle.std.proofs.Common.{◌≡◌, ℕ, ◌+◌, ◌<◌, List, [], sym, subst, arith}
+use Rattle.std.specs.Option.{IfSome}
+use Rattle.tri_cover.specs.Faces.{face_hit}
 use Rattle.depth_raster.specs.Blocks.{colour_in}
 use Rattle.depth_raster.specs.Following.{SpanRelates}
-use Rattle.depth_raster.specs.Mixing.{AreSumsAt, shaded_within}
+use Rattle.depth_raster.specs.Means.{AreMeansAt, shaded_within}
 use Rattle.depth_raster.proofs.Following.{none_spanned, span_written}
-use Rattle.depth_raster.proofs.Mixed.{sums_next, sums_fit}
+use Rattle.depth_raster.proofs.Mixed.{means_small, means_fit}
 use Rattle.depth_raster.proofs.painting.paint_steps.Goals as goal
 
 pub loop-q-init : goal.loop-q-init
 loop-q-init c =
     let a = c.args in
     let b = a.block.now in
-    record { painted = none_spanned b (colour_in b a.colours.now) (shaded_within a.face.now b) a.r a.start; sums = c.requires.sums }
+    record { painted = none_spanned b (colour_in b a.colours.now) (shaded_within a.face.now b) a.run.now.r a.run.now.start; means = c.requires.means }
+
+pub settle-requires : goal.settle-requires
+settle-requires c =
+    let a = c.args in
+    let b = a.block.now in
+    means_small a.face.now (b.left + c.loop-q.q) (b.first + a.run.now.r) c.loop-q.means
+    (omega (arith, c.loop-q-test.true, c.requires.columns, c.requires.run.within)) (omega (arith, c.requires.rows, c.requires.run.row)) c.loop-q.invariant.means
+
+pub advance-requires : goal.advance-requires
+advance-requires c =
+    let a = c.args in
+    let b = a.block.now in
+    means_fit a.face.now (b.left + c.loop-q.q) (b.first + a.run.now.r) c.settle.new.self
+    (omega (arith, c.loop-q-test.true, c.requires.columns, c.requires.run.within)) (omega (arith, c.requires.rows, c.requires.run.row))
+    (c.settle.ensures.kept a.face.now (b.left + c.loop-q.q) (b.first + a.run.now.r) c.loop-q.invariant.means)
 
 pub loop-q-preserved : goal.loop-q-preserved
 loop-q-preserved c =
@@ -18,22 +35,18 @@ loop-q-preserved c =
     let b = a.block.now in
     let f = a.face.now in
     let q = c.loop-q.q in
+    let column : q < b.width = omega (arith, c.loop-q-test.true, c.requires.run.within) in
+    let here = subst (λ (v : List ℕ). IfSome (face_hit f (b.left + q) (b.first + a.run.now.r)) (λ h. v ≡ h.colour)) (sym c.colour.ensures)
+    (c.settle.ensures.colour f (b.left + q) (b.first + a.run.now.r) c.loop-q.invariant.means) in
     record {
-      painted = span_written (λ (x : List ℕ). x) [] b (colour_in b a.colours.now) c.loop-q.colours (shaded_within f b) a.r a.start q c.place-place.result c.colour-colour.result
-          c.loop-q.invariant.painted (omega (arith, c.requires.colours)) (omega arith) (omega (arith, c.requires.within)) c.requires.row c.place-place.ensures c.colour-colour.ensures;
-      sums = subst (λ (n : ℕ). AreSumsAt f n (b.first + a.r) c.plus-sums.result) (omega arith)
-          (sums_next f (b.left + q) (b.first + a.r) c.loop-q.sums c.steps-steps.result c.plus-sums.result c.loop-q.invariant.sums c.steps-steps.ensures.steps c.plus-sums.ensures);
+      painted = span_written (λ (x : List ℕ). x) [] b (colour_in b a.colours.now) c.loop-q.colours (shaded_within f b) a.run.now.r a.run.now.start q c.place-place.result c.colour.result
+          c.loop-q.invariant.painted (omega (arith, c.requires.colours)) (omega arith) column c.requires.run.row c.place-place.ensures here;
+      means = subst (λ (n : ℕ). AreMeansAt f n (b.first + a.run.now.r) c.advance.new.self) (omega arith)
+          (c.advance.ensures f (b.left + q) (b.first + a.run.now.r) (c.settle.ensures.kept f (b.left + q) (b.first + a.run.now.r) c.loop-q.invariant.means));
     }
-
-pub plus-sums-requires : goal.plus-sums-requires
-plus-sums-requires c =
-    let a = c.args in
-    let b = a.block.now in
-    sums_fit a.face.now (b.left + c.loop-q.q) (b.first + a.r) c.loop-q.sums c.steps-steps.result c.loop-q.invariant.sums c.steps-steps.ensures.steps c.steps-steps.ensures.bytes
-    (omega (arith, c.requires.columns, c.requires.within)) (omega (arith, c.requires.rows, c.requires.row))
 
 pub returns : goal.returns
 returns c =
     let a = c.args in
     let b = a.block.now in
-    subst (λ (n : ℕ). SpanRelates b (colour_in b a.colours.now) (colour_in b c.loop-q.colours) (shaded_within a.face.now b) a.r a.start n) (omega (arith, c.requires.some)) c.loop-q.invariant.painted
+    subst (λ (n : ℕ). SpanRelates b (colour_in b a.colours.now) (colour_in b c.loop-q.colours) (shaded_within a.face.now b) a.run.now.r a.run.now.start n) (omega (arith, c.requires.run.some)) c.loop-q.invariant.painted

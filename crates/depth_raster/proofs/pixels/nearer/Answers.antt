@@ -14,7 +14,7 @@ returns-in-Some c = λ lens px py column row ready inside are.
     let p = a.piece.now in
     let f = a.face.now in
     let boxed = face_boxed lens p f ready c.requires.face px py inside in
-    let looks = subst (λ (o : Option ℕ). Looks f px py c.limit.result o) c.in-Some.is (c.look_by.ensures px py are boxed) in
+    let looks = subst (λ (o : Option ℕ). Looks f px py c.limit-limit.result o) c.in-Some.is (c.look.ensures px py are boxed) in
     let hits = face_hits lens p f ready c.requires.face px py column row ∙ looks.0 in
     c.lesser.ensures
     ∙ ap (lesser a.mark.now) c.mark.ensures
@@ -27,6 +27,6 @@ returns-in-None c = λ lens px py column row ready inside are.
     let p = a.piece.now in
     let f = a.face.now in
     let boxed = face_boxed lens p f ready c.requires.face px py inside in
-    let looks = subst (λ (o : Option ℕ). Looks f px py c.limit.result o) c.in-None.is (c.look_by.ensures px py are boxed) in
+    let looks = subst (λ (o : Option ℕ). Looks f px py c.limit-limit.result o) c.in-None.is (c.look.ensures px py are boxed) in
     let same = face_hits lens p f ready c.requires.face px py column row in
-    sym (with_deep p.face a.mark.now (hit lens px py [] p.face.tri) (λ h hits. omega (arith, looks h (sym same ∙ hits), c.limit.ensures)))
+    sym (with_deep p.face a.mark.now (hit lens px py [] p.face.tri) (λ h hits. omega (arith, looks h (sym same ∙ hits), c.limit-limit.ensures.value)))
