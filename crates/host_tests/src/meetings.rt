@@ -1,0 +1,143 @@
+//! Where stages are on different hosts, they are in their gates at once.
+
+use crate::played::{MODES, play_text};
+use mode_hosts::{Mode, PlayEnd, Setup};
+use pf_io::{Gate, Stage};
+use std::alloc::Global;
+use std::sync::Arc;
+use std::sync::atomic::{AtomicU64, Ordering};
+use std::test::Fail;
+use std::thread;
+
+/// Four frames and three merges of nothing.
+const FRAMES_AND_MERGES: &str = "perfly 1\nsize 2 2\nlens 1 1 1073741823\nback 10 20 30\napp\n\
+    frame\nframe\nframe\nframe\n\
+    dbase\nbuffer\nmerge\nbuffer\nmerge\nbuffer\nmerge\n";
+
+/// A place where a stage passes its gate.
+#[derive(Clone, Copy, Debug, PartialEq, Eq)]
+struct Pass {
+    stage: Stage,
+    number: u32,
+}
+
+/// Two passes that may be made at once.
+#[derive(Clone, Copy, Debug, PartialEq, Eq)]
+struct Pair {
+    one: Pass,
+    other: Pass,
+}
+
+fn pass_of(stage: Stage, number: u32) -> Pass {
+    Pass { stage, number }
+}
+
+fn pair_of(one: Pass, other: Pass) -> Pair {
+    Pair { one, other }
+}
+
+/// With three frames ahead each of these can be met.
+fn pairs() -> [Pair; 6] {
+    [
+        pair_of(pass_of(Stage::App, 2), pass_of(Stage::Cull, 1)),
+        pair_of(pass_of(Stage::App, 3), pass_of(Stage::Draw, 1)),
+        pair_of(pass_of(Stage::Cull, 2), pass_of(Stage::Draw, 1)),
+        pair_of(pass_of(Stage::App, 1), pass_of(Stage::Dbase, 1)),
+        pair_of(pass_of(Stage::Cull, 1), pass_of(Stage::Dbase, 3)),
+        pair_of(pass_of(Stage::Draw, 1), pass_of(Stage::Dbase, 3)),
+    ]
+}
+
+/// Who is in its gate, and whether both were at once.
+#[derive(Drop)]
+struct Meeting {
+    pair: Pair,
+    looks: usize,
+    one: AtomicU64,
+    other: AtomicU64,
+    met: AtomicU64,
+}
+
+impl Meeting {
+    fn new(pair: Pair, looks: usize) -> Meeting {
+        Meeting {
+            pair,
+            looks,
+            one: AtomicU64::new(0),
+            other: AtomicU64::new(0),
+            met: AtomicU64::new(0),
+        }
+    }
+
+    /// Waits in a gate, for so many looks, for who is in the other one.
+    fn wait(&self, here: &AtomicU64, there: &AtomicU64) {
+        here.store(1, Ordering::SeqCst);
+        for _look in 0..self.looks {
+            if there.load(Ordering::SeqCst) == 1 {
+                self.met.store(1, Ordering::SeqCst);
+                return;
+            }
+            thread::yield_now();
+        }
+        here.store(0, Ordering::SeqCst);
+    }
+}
+
+/// The gate of a meeting.
+#[derive(Drop)]
+struct MeetingGate(Arc<Meeting, Global>);
+
+impl Gate for MeetingGate {
+    fn pass(&self, stage: Stage, number: u32) {
+        let meeting = &*self.0;
+        let here = Pass { stage, number };
+        if here == meeting.pair.one {
+            meeting.wait(&meeting.one, &meeting.other);
+        } else if here == meeting.pair.other {
+            meeting.wait(&meeting.other, &meeting.one);
+        }
+    }
+}
+
+/// The host of a stage: a number for each.
+fn host_of(stage: Stage, mode: Mode, dbase: bool) -> u32 {
+    match stage {
+        Stage::App => 0,
+        Stage::Cull => u32::from(matches!(mode, Mode::AppCulldraw | Mode::AppCullDraw)),
+        Stage::Draw => match mode {
+            Mode::Appculldraw => 0,
+            Mode::AppCulldraw => 1,
+            Mode::AppcullDraw | Mode::AppCullDraw => 2,
+        },
+        Stage::Dbase => 3 * u32::from(dbase),
+    }
+}
+
+/// Whether the two stages of a pair are on different hosts.
+fn are_apart(pair: Pair, mode: Mode, dbase: bool) -> bool {
+    host_of(pair.one.stage, mode, dbase) != host_of(pair.other.stage, mode, dbase)
+}
+
+#[test]
+fn stages_of_different_hosts_meet(rt: HostRuntime) -> Result<(), Fail> {
+    for mode in MODES {
+        for dbase in [false, true] {
+            for pair in pairs() {
+                let apart = are_apart(pair, mode, dbase);
+                let looks = if apart { 20_000_000 } else { 1000 };
+                let meeting = Arc::new(rt.alloc(), Meeting::new(pair, looks))?;
+                let gate = MeetingGate(Arc::try_clone(&meeting)?);
+                let setup = Setup {
+                    mode,
+                    dbase,
+                    ahead: 3,
+                };
+                let left = play_text(&rt, rt.alloc(), FRAMES_AND_MERGES, setup, gate)?;
+                assert_eq!(rt; left.end, PlayEnd::Done, "{mode:?} {dbase} {pair:?}");
+                let met = meeting.met.load(Ordering::SeqCst) == 1;
+                assert_eq!(rt; met, apart, "{mode:?} {dbase} {pair:?}");
+            }
+        }
+    }
+    Ok(())
+}

@@ -1,0 +1,55 @@
+-- Crews put together.
+use Rattle.std.proofs.Common.{◌≡◌, Bool, true, false, Option, None, Some, IsSome, refl, sym, subst}
+use Rattle.std.specs.Option.{option_map}
+use Rattle.frame_stages.specs.CullWorks.{CullWork}
+use Rattle.frame_stages.specs.Works.{DrawWork}
+use Rattle.mode_hosts.specs.declared.modes.Mode.{Mode}
+use Rattle.mode_hosts.specs.declared.modes.Mode.TheVariants as mode
+use Rattle.mode_hosts.specs.Sites.{Site, DbaseSite, CrewState, CullGoes, DrawGoes, DbaseGoes, IfThere, CrewGoes}
+use Rattle.mode_hosts.specs.Crews.{first_of, united, all_of, full_crew, HasAll, divided}
+
+-- the first that is there, and what it is seen as
+pub map_first : {X Y : Type 0} (f : X → Y) (a b : Option X) → option_map f (first_of a b) ≡ first_of (option_map f a) (option_map f b)
+map_first f None b = refl
+map_first f (Some x) b = refl
+
+first_there : {X : Type 0} (G : X → X → Type 0) (a b a' b' : Option X) → IfThere G a a' → IfThere G b b' → IfThere G (first_of a b) (first_of a' b')
+first_there G None b None b' first second = second
+first_there G None b (Some x') b' first second = absurd first
+first_there G (Some x) b None b' first second = absurd first
+first_there G (Some x) b (Some x') b' first second = first
+
+-- two crews that were polled apart, as one
+pub united_goes : (a b a' b' : CrewState) → CrewGoes a a' → CrewGoes b b' → CrewGoes (united a b) (united a' b')
+united_goes a b a' b' first second =
+    record {
+      cull = first_there CullGoes a.cull b.cull a'.cull b'.cull first.cull second.cull;
+      draw = first_there DrawGoes a.draw b.draw a'.draw b'.draw first.draw second.draw;
+      dbase = first_there DbaseGoes a.dbase b.dbase a'.dbase b'.dbase first.dbase second.dbase;
+    }
+
+-- the crews of a mode have all three stages
+pub divided_all : (m : Mode) (own : Bool) (cull : Site CullWork) (draw : Site DrawWork) (dbase : DbaseSite) →
+    all_of (divided m own cull draw dbase) ≡ full_crew cull draw dbase
+divided_all mode.Appculldraw true cull draw dbase = refl
+divided_all mode.Appculldraw false cull draw dbase = refl
+divided_all mode.AppCulldraw true cull draw dbase = refl
+divided_all mode.AppCulldraw false cull draw dbase = refl
+divided_all mode.AppcullDraw true cull draw dbase = refl
+divided_all mode.AppcullDraw false cull draw dbase = refl
+divided_all mode.AppCullDraw true cull draw dbase = refl
+divided_all mode.AppCullDraw false cull draw dbase = refl
+
+some_there : {X : Type 0} (G : X → X → Type 0) (x : X) (y : Option X) → IfThere G (Some x) y → IsSome y
+some_there G x None there = absurd there
+some_there G x (Some z) there = refl
+
+-- polls leave all three stages there
+pub still_full : (cull : Site CullWork) (draw : Site DrawWork) (dbase : DbaseSite) (crew : CrewState) → CrewGoes (full_crew cull draw dbase) crew →
+    HasAll crew
+still_full cull draw dbase crew goes =
+    (some_there CullGoes cull crew.cull goes.cull, some_there DrawGoes draw crew.draw goes.draw, some_there DbaseGoes dbase crew.dbase goes.dbase)
+
+-- and what is seen of them as one
+pub both_go : (a b a' b' both : CrewState) → both ≡ united a' b' → CrewGoes a a' → CrewGoes b b' → CrewGoes (united a b) both
+both_go a b a' b' both is first second = subst (CrewGoes (united a b)) (sym is) (united_goes a b a' b' first second)

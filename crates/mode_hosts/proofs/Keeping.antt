@@ -1,0 +1,103 @@
+-- What the seats keep, they keep while their stages are polled.
+use Rattle.std.proofs.Common.{◌≡◌, ℕ, List, [], ◌++◌, Option, sym, ap, ◌∙◌, subst}
+use Rattle.std.specs.Io.KnownBytes.{append_known}
+use Rattle.atomic_table.specs.Seated.{TableId}
+use mathlib.Core.List.{IsPrefix}
+use Rattle.seat_lock.specs.Log.{of}
+use Rattle.seat_lock.specs.Desk.{Stand}
+use Rattle.seat_lock.proofs.Logs.{of_found}
+use Rattle.pf_io.proofs.Known.{append_known-append}
+use Rattle.pf_model.specs.declared.lines.BaseLine.{BaseLine}
+use Rattle.pf_history.specs.declared.commands.Entry.{Entry}
+use Rattle.pf_history.specs.Logs.{Log}
+use Rattle.stage_parts.specs.Frames.{AreOwnFrames}
+use Rattle.stage_parts.specs.States.{Setup}
+use Rattle.stage_parts.proofs.Numbers.{own_front}
+use Rattle.frame_stages.specs.AppWorks.{AppWork}
+use Rattle.frame_stages.specs.CullWorks.{CullWork}
+use Rattle.frame_stages.specs.Works.{DrawWork}
+use Rattle.mode_hosts.specs.Sites.{Place, Site, DbaseSite, IsSameDesk, Rests, AppWrote, AppGoes, CullGoes, DrawGoes, DbaseGoes}
+use Rattle.mode_hosts.specs.Gathering.{Sites, IsDesk, AreTogether, AppSeatKeeps, CullSeatKeeps, DrawSeatKeeps, DbaseSeatKeeps, SeatsKeep, SeatsGo}
+
+-- Desks and links
+
+same_desk : (lock : TableId) (k : ℕ) (old new : Place) → IsSameDesk old new → IsDesk lock k old → IsDesk lock k new
+same_desk lock k old new same is =
+    record { number = same.number ∙ is.number; lock = ap (λ (x : Stand Entry). x.lock) same.stand ∙ is.lock }
+
+pub stay_together : (lock : TableId) (old new : Sites) (bytes bytes' : Option (List ℕ)) → SeatsGo old new bytes bytes' → AreTogether lock old → AreTogether lock new
+stay_together lock old new bytes bytes' go is =
+    record {
+      app = same_desk lock 0 old.app.place new.app.place go.app.desk is.app;
+      cull = same_desk lock 1 old.cull.place new.cull.place go.cull.rests.desk is.cull;
+      draw = same_desk lock 2 old.draw.place new.draw.place go.draw.rests.desk is.draw;
+      dbase = same_desk lock 3 old.dbase.place new.dbase.place go.dbase.desk is.dbase;
+      seats = ap (λ (x : Stand Entry). x.seats) go.app.desk.stand ∙ is.seats;
+      a = go.cull.links.take_at ∙ (is.a ∙ sym go.app.links.send_at);
+      b = go.draw.links.take_at ∙ (is.b ∙ sym go.cull.links.send_at);
+      c = go.app.links.take_at ∙ (is.c ∙ sym go.draw.links.send_at);
+    }
+
+-- Seats
+
+-- a front of a log whose Frames are all the desk's
+front_own : (k : ℕ) (xs ys : Log) → IsPrefix xs ys → AreOwnFrames k ys → AreOwnFrames k xs
+front_own k xs ys (rest, is) own = own_front k xs rest (subst (AreOwnFrames k) (sym is) own)
+
+wrote_on : (g : Setup) (old new : Site AppWork) (a b c : Option (List ℕ)) (before : AppWrote g old a b []) → AppWrote g new b c before.more →
+    AppWrote g new a c []
+wrote_on g old new a b c before after =
+    record {
+      more = before.more ++ after.more;
+      wrote = after.wrote
+          ∙ (ap (λ (known : Option (List ℕ)). append_known known after.more) before.wrote ∙ append_known-append a before.more after.more);
+      keeps = after.keeps;
+    }
+
+app_keeps : (g : Setup) (old new : Site AppWork) (a b c : Option (List ℕ)) → AppGoes old new b c → AppSeatKeeps g old a b → AppSeatKeeps g new a c
+app_keeps g old new a b c goes keeps =
+    record {
+      given = goes.given g keeps.given;
+      part = λ frames.
+          let frames_at = subst (λ (k : ℕ). AreOwnFrames k new.place.seen) goes.desk.number frames in
+          let before = keeps.part (front_own old.place.number old.place.seen new.place.seen goes.front frames_at) in
+          wrote_on g old new a b c before (goes.keeps g before.more keeps.given frames before.keeps);
+      own = goes.own keeps.own;
+    }
+
+-- a desk that adds no entry still has none of its number
+still_none : (old new : Place) → Rests old new → of old.number old.seen ≡ [] → of new.number new.seen ≡ []
+still_none old new rests none =
+    ap (λ (k : ℕ). of k new.seen) rests.desk.number ∙ (of_found old.number old.seen new.seen rests.found ∙ none)
+
+cull_keeps : (g : Setup) (old new : Site CullWork) → CullGoes old new → CullSeatKeeps g old → CullSeatKeeps g new
+cull_keeps g old new goes keeps =
+    record {
+      lens = goes.lens ∙ keeps.lens;
+      keeps = goes.keeps keeps.keeps;
+      own = still_none old.place new.place goes.rests keeps.own;
+    }
+
+draw_keeps : (g : Setup) (old new : Site DrawWork) → DrawGoes old new → DrawSeatKeeps g old → DrawSeatKeeps g new
+draw_keeps g old new goes keeps =
+    record {
+      lens = goes.given.lens ∙ keeps.lens;
+      back = goes.given.back ∙ keeps.back;
+      part = goes.part keeps.part;
+      own = still_none old.place new.place goes.rests keeps.own;
+    }
+
+dbase_keeps : (dbase : List BaseLine) (channels : ℕ) (old new : DbaseSite) → DbaseGoes old new → DbaseSeatKeeps dbase channels old →
+    DbaseSeatKeeps dbase channels new
+dbase_keeps dbase channels old new goes keeps =
+    record { holds = goes.holds dbase channels keeps.holds; own = goes.own keeps.own }
+
+pub seats_keep : (g : Setup) (dbase : List BaseLine) (old new : Sites) (a b c : Option (List ℕ)) → SeatsGo old new b c → SeatsKeep g dbase old a b →
+    SeatsKeep g dbase new a c
+seats_keep g dbase old new a b c go keeps =
+    record {
+      app = app_keeps g old.app new.app a b c go.app keeps.app;
+      cull = cull_keeps g old.cull new.cull go.cull keeps.cull;
+      draw = draw_keeps g old.draw new.draw go.draw keeps.draw;
+      dbase = dbase_keeps dbase g.channels old.dbase new.dbase go.dbase keeps.dbase;
+    }

@@ -1,0 +1,158 @@
+-- What the seats keep before the first step.
+use Rattle.std.proofs.Common.{◌≡◌, ℕ, List, [], length, Option, Result, Ok, IfOk, refl, sym, subst, arith}
+use Rattle.atomic_table.specs.Seated.{TableId}
+use Rattle.pf_io.proofs.Known.{append_known-nil}
+use Rattle.pf_model.specs.declared.lines.BaseLine.{BaseLine}
+use Rattle.pf_history.specs.Asks.{asked_dbase}
+use Rattle.stage_parts.specs.Loads.{LoadState}
+use Rattle.stage_parts.specs.States.{Setup}
+use Rattle.stage_parts.specs.DbaseSteps.{opening_draw}
+use Rattle.stage_parts.proofs.DbaseSteps.{opening_law}
+use Rattle.frame_stages.specs.AppWorks as app
+use Rattle.frame_stages.specs.AppWorks.{AppWork, IsGiven}
+use Rattle.frame_stages.specs.CullWorks.{CullWork, CullKeeps}
+use Rattle.frame_stages.specs.Works.{DrawWork}
+use Rattle.frame_stages.specs.DbaseWorks as base
+use Rattle.frame_stages.specs.DbaseWorks.{DbaseHolds}
+use Rattle.mode_hosts.specs.Sites.{Site, DbaseSite}
+use Rattle.mode_hosts.specs.Deals.{app_view, cull_view, draw_view, dbase_view, stands_at}
+use Rattle.mode_hosts.specs.Gathering.{own_seats, Sites, AppSeatKeeps, CullSeatKeeps, DrawSeatKeeps, DbaseSeatKeeps, SeatsKeep}
+
+-- What the four seats are before the first step.
+pub record AreNew (g : Setup) (lines : List BaseLine) (lock : TableId) (s : Sites) : Type 0 where
+  pub app_work : s.app.work ≡ app.opening_work g s.app.work.state.spare
+  pub loads : length s.app.work.state.spare ≡ g.ahead
+  pub lens : s.cull.work.lens ≡ g.lens
+  pub cull : CullKeeps s.cull.work [] []
+  pub draw : s.draw.work ≡ record { lens = g.lens; back = g.back; state = opening_draw }
+  pub dbase_work : s.dbase.work ≡ base.opening_work lines
+  pub holds : DbaseHolds lines g.channels 3 (base.opening_work lines) []
+  pub app_place : s.app.place ≡ stands_at lock app_view
+  pub cull_place : s.cull.place ≡ stands_at lock cull_view
+  pub draw_place : s.draw.place ≡ stands_at lock draw_view
+  pub dbase_place : s.dbase.place ≡ stands_at lock dbase_view
+  pub app_sent : s.app.sent ≡ []
+  pub app_taken : s.app.taken ≡ []
+  pub cull_sent : s.cull.sent ≡ []
+  pub cull_taken : s.cull.taken ≡ []
+  pub draw_sent : s.draw.sent ≡ []
+  pub draw_taken : s.draw.taken ≡ []
+
+-- One seat
+
+-- the application's seat before the first step, with these loads in hand
+abbrev new_app : Setup → TableId → List LoadState → Site AppWork → Site AppWork
+new_app g lock loads s =
+    record {
+      work = app.opening_work g loads;
+      place = stands_at lock app_view;
+      take_at = s.take_at;
+      send_at = s.send_at;
+      taken = [];
+      sent = [];
+    }
+
+app_opens : (g : Setup) (dbase : List BaseLine) (lock : TableId) (loads : List LoadState) (s : Site AppWork) (bytes : Option (List ℕ)) →
+    g.merges ≡ length (asked_dbase dbase) → length loads ≡ g.ahead → AppSeatKeeps g (new_app g lock loads s) bytes bytes
+app_opens g dbase lock loads s bytes merges all =
+    let old = opening_law g dbase own_seats loads merges all in
+    record {
+      given = record { rest = refl; within = omega arith; merges = refl; lens = refl; back = refl; ahead = refl; channels = refl };
+      part = λ frames. record { more = []; wrote = sym (append_known-nil bytes); keeps = old.app };
+      own = tt;
+    }
+
+app_new : (g : Setup) (dbase : List BaseLine) (lock : TableId) (s : Sites) (bytes : Option (List ℕ)) → g.merges ≡ length (asked_dbase dbase) →
+    AreNew g dbase lock s → AppSeatKeeps g s.app bytes bytes
+app_new g dbase lock s bytes merges is =
+    let path : new_app g lock s.app.work.state.spare s.app ≡ s.app =
+    λ i.
+    record {
+      work = (sym is.app_work) i;
+      place = (sym is.app_place) i;
+      take_at = s.app.take_at;
+      send_at = s.app.send_at;
+      taken = (sym is.app_taken) i;
+      sent = (sym is.app_sent) i;
+    } in
+    subst (λ (x : Site AppWork). AppSeatKeeps g x bytes bytes) path (app_opens g dbase lock s.app.work.state.spare s.app bytes merges is.loads)
+
+abbrev new_cull : TableId → Site CullWork → Site CullWork
+new_cull lock s =
+    record {
+      work = s.work;
+      place = stands_at lock cull_view;
+      take_at = s.take_at;
+      send_at = s.send_at;
+      taken = [];
+      sent = [];
+    }
+
+cull_new : (g : Setup) (dbase : List BaseLine) (lock : TableId) (s : Sites) → AreNew g dbase lock s → CullSeatKeeps g s.cull
+cull_new g dbase lock s is =
+    let path : new_cull lock s.cull ≡ s.cull =
+    λ i.
+    record {
+      work = s.cull.work;
+      place = (sym is.cull_place) i;
+      take_at = s.cull.take_at;
+      send_at = s.cull.send_at;
+      taken = (sym is.cull_taken) i;
+      sent = (sym is.cull_sent) i;
+    } in
+    subst (CullSeatKeeps g) path (record { lens = is.lens; keeps = is.cull; own = refl })
+
+abbrev new_draw : Setup → TableId → Site DrawWork → Site DrawWork
+new_draw g lock s =
+    record {
+      work = record { lens = g.lens; back = g.back; state = opening_draw };
+      place = stands_at lock draw_view;
+      take_at = s.take_at;
+      send_at = s.send_at;
+      taken = [];
+      sent = [];
+    }
+
+draw_new : (g : Setup) (dbase : List BaseLine) (lock : TableId) (s : Sites) → g.merges ≡ length (asked_dbase dbase) → AreNew g dbase lock s →
+    DrawSeatKeeps g s.draw
+draw_new g dbase lock s merges is =
+    let old = opening_law g dbase own_seats s.app.work.state.spare merges is.loads in
+    let path : new_draw g lock s.draw ≡ s.draw =
+    λ i.
+    record {
+      work = (sym is.draw) i;
+      place = (sym is.draw_place) i;
+      take_at = s.draw.take_at;
+      send_at = s.draw.send_at;
+      taken = (sym is.draw_taken) i;
+      sent = (sym is.draw_sent) i;
+    } in
+    subst (DrawSeatKeeps g) path (record { lens = refl; back = refl; part = old.draw; own = refl })
+
+abbrev new_dbase : List BaseLine → TableId → DbaseSite
+new_dbase dbase lock = record { work = base.opening_work dbase; place = stands_at lock dbase_view }
+
+dbase_new : (g : Setup) (dbase : List BaseLine) (lock : TableId) (s : Sites) → AreNew g dbase lock s → DbaseSeatKeeps dbase g.channels s.dbase
+dbase_new g dbase lock s is =
+    let path : new_dbase dbase lock ≡ s.dbase = λ i. record { work = (sym is.dbase_work) i; place = (sym is.dbase_place) i } in
+    subst (DbaseSeatKeeps dbase g.channels) path (record { holds = is.holds; own = tt })
+
+pub new_keeps : (g : Setup) (dbase : List BaseLine) (lock : TableId) (s : Sites) (bytes : Option (List ℕ)) → g.merges ≡ length (asked_dbase dbase) →
+    AreNew g dbase lock s → SeatsKeep g dbase s bytes bytes
+new_keeps g dbase lock s bytes merges is =
+    record {
+      app = app_new g dbase lock s bytes merges is;
+      cull = cull_new g dbase lock s is;
+      draw = draw_new g dbase lock s merges is;
+      dbase = dbase_new g dbase lock s is;
+    }
+
+-- What was made
+
+-- a fact of what was made
+pub of_ok : {A E : Type 0} (P : A → Type 0) {r : Result A E} {x : A} → r ≡ Ok x → IfOk r P → P x
+of_ok P is holds = subst (λ s. IfOk s P) is holds
+
+-- what was made is one thing
+pub one_ok : {A E : Type 0} {r : Result A E} {x y : A} → r ≡ Ok x → r ≡ Ok y → x ≡ y
+one_ok is was = cc (is, was)

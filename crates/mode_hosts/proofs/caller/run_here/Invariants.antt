@@ -1,0 +1,15 @@
+use Rattle.pf_io.specs.Causes.{Calm}
+use Rattle.mode_hosts.specs.declared.modes.Crews.{Crews}
+use Rattle.mode_hosts.specs.Sites.{AppGoes}
+use Rattle.mode_hosts.specs.Seats.{app_site}
+use Rattle.mode_hosts.specs.Posts.{ArePosts}
+use Rattle.mode_hosts.proofs.caller.run_here.Given as goal
+
+-- the turns so far answered no error, and the sink met no fault
+abbrev pub invariant-loop : goal.invariant-loop
+invariant-loop g l =
+    record {
+      calm : Calm (g.O.Sink.faults l.fn.frames) (g.O.Sink.faults l.frames);
+      goes : AppGoes (app_site l.fn.app) (app_site l.app) (g.O.Sink.written l.fn.frames) (g.O.Sink.written l.frames);
+      posts : (crews : Crews g.row.R.Denot) → ArePosts crews l.fn.posts → ArePosts crews l.posts;
+    }

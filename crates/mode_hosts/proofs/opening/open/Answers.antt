@@ -1,0 +1,81 @@
+use Rattle.std.proofs.Common.{◌≡◌, false, [], length, None, Some, refl, ap, ◌∙◌, subst}
+use Rattle.seat_lock.specs.declared.view.View.{View}
+use Rattle.seat_lock.specs.Tokens.{lock_id}
+use Rattle.std.specs.Arc.{arc_value}
+use Rattle.pf_history.specs.declared.commands.Entry.{Entry}
+use Rattle.pf_history.specs.Asks.{asked_dbase}
+use Rattle.stage_parts.specs.States.{Setup}
+use Rattle.frame_stages.specs.AppWorks as app
+use Rattle.frame_stages.specs.DbaseWorks as base
+use Rattle.frame_stages.specs.DbaseWorks.{DbaseHolds}
+use Rattle.pipe_plays.specs.Plays.{setup_of}
+use Rattle.mode_hosts.specs.Deals.{stands_at}
+use Rattle.mode_hosts.proofs.Opens.{new_keeps, of_ok, one_ok}
+use Rattle.mode_hosts.proofs.opening.open.Goals as goal
+
+pub returns-clause-together : goal.returns-clause-together
+returns-clause-together g c =
+    let made = c.in_ok-parts.ensures in
+    let desks = c.new_desks.ensures in
+    let app = of_ok _ made.desks desks.app in
+    let cull = of_ok _ made.desks desks.cull in
+    let draw = of_ok _ made.desks desks.draw in
+    let dbase = of_ok _ made.desks desks.dbase in
+    record {
+      app = record { number = ap (λ (v : View Entry). v.number) app.1; lock = ap Some app.0 };
+      cull = record { number = ap (λ (v : View Entry). v.number) cull.1; lock = ap Some cull.0 };
+      draw = record { number = ap (λ (v : View Entry). v.number) draw.1; lock = ap Some draw.0 };
+      dbase = record { number = ap (λ (v : View Entry). v.number) dbase.1; lock = ap Some dbase.0 };
+      seats = ap (λ (v : View Entry). v.seats) app.1;
+      a = (of_ok _ made.to_cull c.new_link.ensures).link;
+      b = (of_ok _ made.to_draw c.new_link-2.ensures).link;
+      c = (of_ok _ made.back c.new_link-3.ensures).link;
+    }
+
+pub returns-clause-keeps : goal.returns-clause-keeps
+returns-clause-keeps g c = λ bytes.
+    let play = c.args.play in
+    let parts = c.in_ok-parts.parts in
+    let made = c.in_ok-parts.ensures in
+    let lists = c.into_lists-app_lines.ensures in
+    let lens = c.lens-lens.ensures.value in
+    let colour = c.back-back.ensures.value in
+    let channels = c.channels-channels.ensures.value in
+    let merges = c.count_merges-merges.ensures ∙ ap (λ lines. length (asked_dbase lines)) c.dbase.ensures.value in
+    let given : record {
+      lines = c.into_lists-app_lines.result.0.items;
+      merges = c.count_merges-merges.result;
+      lens = c.lens-lens.result;
+      back = c.back-back.result;
+      ahead = c.args.ahead;
+      channels = c.channels-channels.result;
+    } ≡ setup_of play c.args.ahead =
+    λ i. record { lines = lists.app i; merges = merges i; lens = lens i; back = colour i; ahead = c.args.ahead; channels = channels i } in
+    let desks = c.new_desks.ensures in
+    let app_desk = of_ok _ made.desks desks.app in
+    let cull_desk = of_ok _ made.desks desks.cull in
+    let draw_desk = of_ok _ made.desks desks.draw in
+    let dbase_desk = of_ok _ made.desks desks.dbase in
+    let a = of_ok _ made.to_cull c.new_link.ensures in
+    let b = of_ok _ made.to_draw c.new_link-2.ensures in
+    let d = of_ok _ made.back c.new_link-3.ensures in
+    new_keeps (setup_of play c.args.ahead) play.dbase (lock_id (arc_value parts.desks.lock)) _ bytes refl (record {
+      app_work = of_ok _ made.app c.new.ensures.opens ∙ ap (λ (g : Setup). app.opening_work g parts.app.state.spare) given;
+      loads = of_ok _ made.app c.new.ensures.loads;
+      lens = of_ok _ made.cull c.new-2.ensures.lens ∙ lens;
+      cull = of_ok _ made.cull c.new-2.ensures.keeps;
+      draw = of_ok _ made.draw c.new-3.ensures
+          ∙ (λ i. record { lens = lens i; back = colour i; state = record { ended = false; held = None } });
+      dbase_work = one_ok made.dbase c.new-4.ensures.made ∙ ap base.opening_work lists.dbase;
+      holds = subst (λ lines. DbaseHolds lines play.channels 3 (base.opening_work lines) []) lists.dbase (c.new-4.ensures.holds play.channels 3);
+      app_place = λ i. stands_at (app_desk.0 i) (app_desk.1 i);
+      cull_place = λ i. stands_at (cull_desk.0 i) (cull_desk.1 i);
+      draw_place = λ i. stands_at (draw_desk.0 i) (draw_desk.1 i);
+      dbase_place = λ i. stands_at (dbase_desk.0 i) (dbase_desk.1 i);
+      app_sent = a.sent;
+      app_taken = d.taken;
+      cull_sent = b.sent;
+      cull_taken = a.taken;
+      draw_sent = d.sent;
+      draw_taken = b.taken;
+    })

@@ -1,0 +1,13 @@
+pub mod Sites
+pub mod Seats
+pub mod Crews
+pub mod Hosts
+pub mod Posts
+pub mod Gathering
+pub mod Homes
+pub mod Deals
+pub mod Plays
+pub mod Waits
+pub mod Polls
+pub mod Bells
+pub mod Laws

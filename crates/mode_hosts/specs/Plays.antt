@@ -1,0 +1,22 @@
+-- What a play on hosts leaves at its end.
+use Rattle.std.specs.Prelude.{◌≡◌, ℕ, List, Option}
+use Rattle.pf_io.specs.Causes.{Calm, Rose}
+use Rattle.draw_list.specs.declared.stats.Stats.{Stats}
+use Rattle.pf_history.specs.Logs.{Log}
+use Rattle.play_format.specs.Plays.{Script}
+use Rattle.pipe_plays.specs.declared.played.PlayEnd.{PlayEnd}
+use Rattle.pipe_plays.specs.declared.played.PlayEnd.TheVariants as ends
+use Rattle.pipe_plays.specs.Laws.{Leaves, LeavesAll}
+
+-- What a play leaves that came to this end, with the bytes of the frame sink before and after it.
+pub record IsPlayed (play : Script) (ahead : ℕ) (end : PlayEnd) (log : Log) (stats : List Stats)
+    (bytes bytes' : Option (List ℕ)) : Type 0 where
+  pub now : Leaves play ahead log stats bytes bytes'
+  pub all : end ≡ ends.Done → LeavesAll play ahead log stats bytes bytes'
+
+-- What the end says of the frame sink: it is a fault only where the count of faults rose, and then nothing was written after
+-- it; at every other end the count is as before.
+pub record EndBlames (end : PlayEnd) (before now : ℕ) (at_fault bytes : Option (List ℕ)) : Type 0 where
+  pub fault : end ≡ ends.FrameFault → Rose before now
+  pub last : end ≡ ends.FrameFault → at_fault ≡ bytes
+  pub calm : (end ≡ ends.FrameFault → ⊥) → Calm before now

@@ -1,0 +1,71 @@
+-- What contracts see of a stage at its desk between its links, and of a crew.
+use Rattle.std.specs.Option.{option_map}
+use Rattle.seat_lock.specs.declared.seat_desk.SeatDesk.{SeatDesk}
+use Rattle.seat_lock.specs.SeatDesk.{desk_lock, desk_view}
+use Rattle.seat_lock.specs.View.{stand_of}
+use Rattle.frame_link.specs.Ends.{ring_sent, ring_send_at, ring_taken, ring_take_at}
+use Rattle.pf_history.specs.declared.commands.Entry.{Entry}
+use Rattle.frame_stages.specs.AppWorks.{AppWork}
+use Rattle.frame_stages.specs.CullWorks.{CullWork}
+use Rattle.frame_stages.specs.Works.{DrawWork}
+use Rattle.mode_hosts.specs.declared.seats.AppSeat.{AppSeat}
+use Rattle.mode_hosts.specs.declared.seats.CullSeat.{CullSeat}
+use Rattle.mode_hosts.specs.declared.seats.DrawSeat.{DrawSeat}
+use Rattle.mode_hosts.specs.declared.seats.DbaseSeat.{DbaseSeat}
+use Rattle.mode_hosts.specs.declared.crew.Crew.{Crew}
+use Rattle.mode_hosts.specs.Sites.{Place, Site, DbaseSite, CrewState}
+
+module _ {T R : Type 0} {L : _} where
+  -- where a desk stands
+  abbrev pub place_of : SeatDesk T R Entry L → Place
+  place_of desk =
+      record {
+        number = (desk_view desk).number;
+        seen = (desk_view desk).seen;
+        stand = stand_of (desk_lock desk) (desk_view desk);
+      }
+
+module _ {R : Type 0} where
+  abbrev pub app_site : AppSeat R → Site AppWork
+  app_site seat =
+      record {
+        work = seat.stage;
+        place = place_of seat.desk;
+        take_at = ring_take_at seat.from;
+        send_at = ring_send_at seat.to;
+        taken = ring_taken seat.from;
+        sent = ring_sent seat.to;
+      }
+
+  abbrev pub cull_site : CullSeat R → Site CullWork
+  cull_site seat =
+      record {
+        work = seat.stage;
+        place = place_of seat.desk;
+        take_at = ring_take_at seat.from;
+        send_at = ring_send_at seat.to;
+        taken = ring_taken seat.from;
+        sent = ring_sent seat.to;
+      }
+
+  abbrev pub draw_site : DrawSeat R → Site DrawWork
+  draw_site seat =
+      record {
+        work = seat.stage;
+        place = place_of seat.desk;
+        take_at = ring_take_at seat.from;
+        send_at = ring_send_at seat.to;
+        taken = ring_taken seat.from;
+        sent = ring_sent seat.to;
+      }
+
+  abbrev pub dbase_site : DbaseSeat R → DbaseSite
+  dbase_site seat = record { work = seat.stage; place = place_of seat.desk }
+
+  abbrev pub crew_state : Crew R → CrewState
+  crew_state crew =
+      record {
+        cull = option_map cull_site crew.cull;
+        draw = option_map draw_site crew.draw;
+        dbase = option_map dbase_site crew.dbase;
+      }

@@ -1,0 +1,123 @@
+-- A stage at its desk between its links, and what its polls keep.
+use Rattle.std.specs.Prelude.{◌≡◌, ⊤, ℕ, List, ◌++◌, Option, None, Some}
+use Rattle.std.specs.List.{AllByRecursion}
+use Rattle.std.specs.Io.KnownBytes.{append_known}
+use mathlib.Core.List.{IsPrefix}
+use Rattle.seat_lock.specs.Desk.{Stand}
+use Rattle.seat_lock.specs.Log.{of, Found}
+use Rattle.frame_link.specs.Link.{Link}
+use Rattle.pf_model.specs.declared.lines.BaseLine.{BaseLine}
+use Rattle.pf_history.specs.declared.commands.Caller.TheVariants.{App, Dbase}
+use Rattle.pf_history.specs.declared.commands.Entry.{Entry}
+use Rattle.pf_history.specs.Logs.{Log}
+use Rattle.stage_parts.specs.declared.packets.Packet.{Packet}
+use Rattle.stage_parts.specs.Frames.{AreOwnFrames}
+use Rattle.stage_parts.specs.States.{Setup}
+use Rattle.stage_parts.specs.Parts.{AppKeeps, DrawPart}
+use Rattle.frame_stages.specs.AppWorks.{AppWork, IsGiven}
+use Rattle.frame_stages.specs.CullWorks.{CullWork, CullKeeps}
+use Rattle.frame_stages.specs.Works.{DrawWork, IsGivenAsBefore}
+use Rattle.frame_stages.specs.DbaseWorks.{DbaseWork, DbaseHolds}
+
+-- Where a desk stands: its number, the log that it has seen, and what no turn changes.
+pub record Place : Type 0 where
+  pub number : ℕ
+  pub seen : Log
+  pub stand : Stand Entry
+
+-- A stage at its desk: the links that it takes from and sends over, and what it took and sent.
+pub record Site (X : Type 0) : Type 0 where
+  pub work : X
+  pub place : Place
+  pub take_at : Link
+  pub send_at : Link
+  pub taken : List Packet
+  pub sent : List Packet
+
+-- The database process at its desk.
+pub record DbaseSite : Type 0 where
+  pub work : DbaseWork
+  pub place : Place
+
+-- What one host polls, of the stages that need no frame sink.
+pub record CrewState : Type 0 where
+  pub cull : Option (Site CullWork)
+  pub draw : Option (Site DrawWork)
+  pub dbase : Option DbaseSite
+
+-- Polls leave the desk where it stands.
+pub record IsSameDesk (old new : Place) : Type 0 where
+  pub number : new.number ≡ old.number
+  pub stand : new.stand ≡ old.stand
+
+-- Polls leave the links.
+pub record AreSameLinks {X : Type 0} (old new : Site X) : Type 0 where
+  pub take_at : new.take_at ≡ old.take_at
+  pub send_at : new.send_at ≡ old.send_at
+
+-- It adds no entry: its log goes on by entries of other numbers alone.
+pub record Rests (old new : Place) : Type 0 where
+  pub desk : IsSameDesk old new
+  pub found : Found old.number old.seen new.seen
+
+-- CULL after polls: it adds no entry, and keeps its part.
+pub record CullGoes (old new : Site CullWork) : Type 0 where
+  pub rests : Rests old.place new.place
+  pub links : AreSameLinks old new
+  pub lens : new.work.lens ≡ old.work.lens
+  pub keeps : CullKeeps old.work old.taken old.sent → CullKeeps new.work new.taken new.sent
+
+-- DRAW after polls: it adds no entry, and keeps its part.
+pub record DrawGoes (old new : Site DrawWork) : Type 0 where
+  pub rests : Rests old.place new.place
+  pub links : AreSameLinks old new
+  pub given : IsGivenAsBefore old.work new.work
+  pub part : DrawPart old.work.lens old.work.back old.work.state old.taken old.sent →
+      DrawPart new.work.lens new.work.back new.work.state new.taken new.sent
+
+-- the entries are DBASE's
+abbrev pub AreBase : List Entry → Type 0
+AreBase entries = AllByRecursion (λ e. e.caller ≡ Dbase) entries
+
+-- the entries are APP's
+abbrev pub AreApp : List Entry → Type 0
+AreApp entries = AllByRecursion (λ e. e.caller ≡ App) entries
+
+-- DBASE after polls: its log goes on, by entries of its own under its number and of others, and it holds to its section.
+pub record DbaseGoes (old new : DbaseSite) : Type 0 where
+  pub desk : IsSameDesk old.place new.place
+  pub front : IsPrefix old.place.seen new.place.seen
+  pub own : AreBase (of old.place.number old.place.seen) → AreBase (of new.place.number new.place.seen)
+  pub holds : (lines : List BaseLine) (channels : ℕ) →
+      DbaseHolds lines channels old.place.number old.work old.place.seen →
+      DbaseHolds lines channels new.place.number new.work new.place.seen
+
+-- All that APP keeps, with what was written at the end of the stream.
+pub record AppWrote (g : Setup) (site : Site AppWork) (bytes bytes' : Option (List ℕ)) (stream : List ℕ) : Type 0 where
+  pub more : List ℕ
+  pub wrote : bytes' ≡ append_known bytes more
+  pub keeps : AppKeeps g site.place.number site.work.state site.place.seen site.taken site.sent (stream ++ more)
+
+-- APP after polls, with the bytes of the frame sink before and after: its log goes on, by entries of its own under its
+-- number and of others, and, where all Frames of the log seen at the end are its own, it keeps its part.
+pub record AppGoes (old new : Site AppWork) (bytes bytes' : Option (List ℕ)) : Type 0 where
+  pub desk : IsSameDesk old.place new.place
+  pub front : IsPrefix old.place.seen new.place.seen
+  pub links : AreSameLinks old new
+  pub own : AreApp (of old.place.number old.place.seen) → AreApp (of new.place.number new.place.seen)
+  pub given : (g : Setup) → IsGiven g old.work → IsGiven g new.work
+  pub keeps : (g : Setup) (stream : List ℕ) → IsGiven g old.work → AreOwnFrames new.place.number new.place.seen →
+      AppKeeps g old.place.number old.work.state old.place.seen old.taken old.sent stream →
+      AppWrote g new bytes bytes' stream
+
+-- both are there and belong together so, or neither is there
+abbrev pub IfThere : {X : Type 0} → (X → X → Type 0) → Option X → Option X → Type 0
+IfThere goes None None = ⊤
+IfThere goes (Some old) (Some new) = goes old new
+IfThere goes _ _ = ⊥
+
+-- A crew after polls: the same stages, each after polls of its own.
+pub record CrewGoes (old new : CrewState) : Type 0 where
+  pub cull : IfThere CullGoes old.cull new.cull
+  pub draw : IfThere DrawGoes old.draw new.draw
+  pub dbase : IfThere DbaseGoes old.dbase new.dbase

@@ -1,0 +1,149 @@
+//! What the caller's thread does while a play runs: it polls the application, and the crews that no host has.
+ghost use Rattle.std.specs.Prelude.{◌≡◌};
+ghost use Rattle.pipe_plays.specs.Played.{Blames};
+ghost use Rattle.mode_hosts.specs.declared.modes.Crews.{Crews};
+ghost use Rattle.mode_hosts.specs.Sites.{AppGoes};
+ghost use Rattle.mode_hosts.specs.Seats.{app_site, cull_site, draw_site, dbase_site, crew_state};
+ghost use Rattle.mode_hosts.specs.Crews.{full_crew, HasAll};
+ghost use Rattle.mode_hosts.specs.Homes.{sites_of};
+ghost use Rattle.mode_hosts.specs.Gathering.{SeatsGo};
+ghost use Rattle.mode_hosts.specs.Posts.{ArePosts};
+
+use crate::crew::{Crew, together};
+use crate::hosts::Common;
+use crate::modes::{Setup, crews_of};
+use crate::posts::{Posts, posts_of};
+use crate::seats::{AppSeat, CullSeat, DbaseSeat, DrawSeat};
+use frame_stages::{Did, StageError};
+use pf_io::{Gate, Sink};
+use std::alloc::Global;
+use std::sync::{Arc, Wait};
+use std::thread::Threads;
+
+/// A poll of the application and of each stage that is with the caller, and what they came to. After the application's
+/// error, which has set the stop mark, it rings.
+fn round<R: Threads + Wait + Sync + Drop, O: Sink, G: Gate>(
+    rt: &R,
+    common: &Common<G>,
+    app: &mut AppSeat<R>,
+    posts: &mut Posts<R>,
+    frames: &mut O,
+) -> Result<Did, StageError>
+    ensures goes { AppGoes (app_site app.old) (app_site app.new) (O.written frames.old) (O.written frames.new) }
+    ensures posts { (crews : Crews R) → ArePosts crews posts.old → ArePosts crews posts.new }
+    ensures blames { Blames result (O.faults frames.old) (O.faults frames.new) (O.at_fault frames.new) (O.written frames.new) }
+{
+    match app.poll(frames, &common.gate) {
+        Ok(did) => {
+            let others = posts.poll(rt, &common.gate);
+            Ok(together(did, others))
+        }
+        Err(error) => {
+            common.bell.ring();
+            Err(error)
+        }
+    }
+}
+
+/// A round after which it rings where something was done or all is over, and else waits. It answers whether all is over.
+fn turn<R: Threads + Wait + Sync + Drop, O: Sink, G: Gate>(
+    rt: &R,
+    common: &Common<G>,
+    app: &mut AppSeat<R>,
+    posts: &mut Posts<R>,
+    frames: &mut O,
+) -> Result<bool, StageError>
+    ensures goes { AppGoes (app_site app.old) (app_site app.new) (O.written frames.old) (O.written frames.new) }
+    ensures posts { (crews : Crews R) → ArePosts crews posts.old → ArePosts crews posts.new }
+    ensures blames { Blames result (O.faults frames.old) (O.faults frames.new) (O.at_fault frames.new) (O.written frames.new) }
+{
+    let noted = common.bell.rung();
+    let did = round(rt, common, app, posts, frames)?;
+    common.bell.tell(rt, noted, did);
+    Ok(did == Did::Over)
+}
+
+/// Polls the application and the stages that are with the caller until all of them are over, or up to the application's
+/// error.
+fn run_here<R: Threads + Wait + Sync + Drop, O: Sink, G: Gate>(
+    rt: &R,
+    common: &Common<G>,
+    app: &mut AppSeat<R>,
+    posts: &mut Posts<R>,
+    frames: &mut O,
+) -> Result<(), StageError>
+    ensures goes { AppGoes (app_site app.old) (app_site app.new) (O.written frames.old) (O.written frames.new) }
+    ensures posts { (crews : Crews R) → ArePosts crews posts.old → ArePosts crews posts.new }
+    ensures blames { Blames result (O.faults frames.old) (O.faults frames.new) (O.at_fault frames.new) (O.written frames.new) }
+{
+    for _ in rt.forever() {
+        let over = turn(rt, common, app, posts, frames)?;
+        if over {
+            return Ok(());
+        }
+    }
+    unreachable!()
+}
+
+/// The seats of a play, and what the application's polls came to.
+#[derive(Drop)]
+pub(crate) struct Ended<R> {
+    pub(crate) app: AppSeat<R>,
+    pub(crate) cull: CullSeat<R>,
+    pub(crate) draw: DrawSeat<R>,
+    pub(crate) dbase: DbaseSeat<R>,
+    pub(crate) came: Result<(), StageError>,
+}
+
+/// The stages of a crew that has all three.
+#[derive(Drop)]
+struct Stages<R> {
+    cull: CullSeat<R>,
+    draw: DrawSeat<R>,
+    dbase: DbaseSeat<R>,
+}
+
+fn stages_of<R: Drop>(crew: Crew<R>) -> Stages<R>
+    requires { HasAll (crew_state crew) }
+    ensures { full_crew (cull_site result.cull) (draw_site result.draw) (dbase_site result.dbase) ≡ crew_state crew }
+{
+    let Crew { cull, draw, dbase } = crew;
+    let Some(cull) = cull else { unreachable!() };
+    let Some(draw) = draw else { unreachable!() };
+    let Some(dbase) = dbase else { unreachable!() };
+    Stages { cull, draw, dbase }
+}
+
+/// Plays with the seats of a play: starts the hosts, polls on the caller's thread what stays there, and waits for the hosts.
+pub(crate) fn run_all<
+    R: Threads + Wait + Copy + Drop + Send + Sync + 'static,
+    O: Sink,
+    G: Gate + Send + Drop + 'static,
+>(
+    rt: &R,
+    alloc: Global,
+    common: &Arc<Common<G>, Global>,
+    setup: &Setup,
+    mut app: AppSeat<R>,
+    cull: CullSeat<R>,
+    draw: DrawSeat<R>,
+    dbase: DbaseSeat<R>,
+    frames: &mut O,
+) -> Ended<R>
+    ensures go { SeatsGo (sites_of app cull draw dbase) (sites_of result.app result.cull result.draw result.dbase)
+        (O.written frames.old) (O.written frames.new) }
+    ensures blames { Blames result.came (O.faults frames.old) (O.faults frames.new) (O.at_fault frames.new) (O.written frames.new) }
+{
+    let crews = crews_of(setup, cull, draw, dbase);
+    let mut posts = posts_of(rt, alloc, common, crews);
+    let came = run_here(rt, common, &mut app, &mut posts, frames);
+    let crew = posts.back(rt);
+    let Stages { cull, draw, dbase } = stages_of(crew);
+    Ended {
+        app,
+        cull,
+        draw,
+        dbase,
+        came,
+    }
+}

@@ -1,0 +1,120 @@
+//! What one host polls.
+ghost use Rattle.std.specs.Prelude.{◌≡◌, ◌&&◌, not, is_some};
+ghost use Rattle.std.specs.Option.{option_map};
+ghost use Rattle.mode_hosts.specs.Sites.{CullGoes, DrawGoes, DbaseGoes, CrewGoes, IfThere};
+ghost use Rattle.mode_hosts.specs.Seats.{cull_site, draw_site, dbase_site, crew_state};
+ghost use Rattle.mode_hosts.specs.Crews.{together, first_of, united};
+
+use crate::seats::{CullSeat, DbaseSeat, DrawSeat};
+use frame_stages::{Did, StageError};
+use pf_io::Gate;
+use std::sync::Wait;
+use std::thread::Threads;
+
+/// What one host polls, of the stages that need no frame sink.
+#[derive(Drop)]
+pub(crate) struct Crew<R> {
+    pub(crate) cull: Option<CullSeat<R>>,
+    pub(crate) draw: Option<DrawSeat<R>>,
+    pub(crate) dbase: Option<DbaseSeat<R>>,
+}
+
+/// What the polls of two stages came to: one of them did something, or one has to wait, or both are over.
+pub(crate) fn together(one: Did, other: Did) -> Did
+    ensures { result ≡ together one other }
+{
+    match one {
+        Did::Did => Did::Did,
+        Did::NotYet => match other {
+            Did::Did => Did::Did,
+            Did::NotYet | Did::Over => Did::NotYet,
+        },
+        Did::Over => other,
+    }
+}
+
+/// What a poll came to. An error has set the stop mark, which other hosts then find.
+fn came_to(answer: Result<Did, StageError>) -> Did {
+    match answer {
+        Ok(did) => did,
+        Err(_) => Did::Did,
+    }
+}
+
+/// A poll of the cull, where it is there.
+fn poll_cull<R: Wait, G: Gate>(cull: &mut Option<CullSeat<R>>, gate: &G) -> Did
+    ensures { IfThere CullGoes (option_map cull_site cull.old) (option_map cull_site cull.new) }
+{
+    match cull {
+        Some(seat) => came_to(seat.poll(gate)),
+        None => Did::Over,
+    }
+}
+
+/// A poll of the draw, where it is there.
+fn poll_draw<R: Threads + Wait + Sync, G: Gate>(
+    rt: &R,
+    draw: &mut Option<DrawSeat<R>>,
+    gate: &G,
+) -> Did
+    ensures { IfThere DrawGoes (option_map draw_site draw.old) (option_map draw_site draw.new) }
+{
+    match draw {
+        Some(seat) => came_to(seat.poll(rt, gate)),
+        None => Did::Over,
+    }
+}
+
+/// A poll of the database process, where it is there.
+fn poll_dbase<R: Wait, G: Gate>(dbase: &mut Option<DbaseSeat<R>>, gate: &G) -> Did
+    ensures { IfThere DbaseGoes (option_map dbase_site dbase.old) (option_map dbase_site dbase.new) }
+{
+    match dbase {
+        Some(seat) => came_to(seat.poll(gate)),
+        None => Did::Over,
+    }
+}
+
+impl<R: Threads + Wait + Sync> Crew<R> {
+    /// One poll of each stage that is there, and what they came to.
+    pub(crate) fn poll<G: Gate>(&mut self, rt: &R, gate: &G) -> Did
+        ensures { CrewGoes (crew_state self.old) (crew_state self.new) }
+    {
+        let cull = poll_cull(&mut self.cull, gate);
+        let draw = poll_draw(rt, &mut self.draw, gate);
+        let dbase = poll_dbase(&mut self.dbase, gate);
+        together(cull, together(draw, dbase))
+    }
+}
+
+/// The first that is there.
+fn first_of<T: Drop>(one: Option<T>, other: Option<T>) -> Option<T>
+    ensures { result ≡ first_of one other }
+{
+    match one {
+        Some(one) => Some(one),
+        None => other,
+    }
+}
+
+impl<R: Drop> Crew<R> {
+    /// Whether no stage is there.
+    pub(crate) fn is_empty(&self) -> bool
+        ensures { result ≡ (not (is_some self.now.cull) && (not (is_some self.now.draw) && not (is_some self.now.dbase))) }
+    {
+        self.cull.is_none() && (self.draw.is_none() && self.dbase.is_none())
+    }
+
+    /// Two crews as one: each stage of the first, else of the second.
+    #[tactic(auto, using(crate::proofs::Crews::map_first))]
+    pub(crate) fn united(self, other: Crew<R>) -> Crew<R>
+        ensures { crew_state result ≡ united (crew_state self) (crew_state other) }
+    {
+        let Crew { cull, draw, dbase } = self;
+        Crew {
+            cull: first_of(cull, other.cull),
+            draw: first_of(draw, other.draw),
+            dbase: first_of(dbase, other.dbase),
+        }
+    }
+}

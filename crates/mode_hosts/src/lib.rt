@@ -1,0 +1,22 @@
+//! Plays on threads: the stages of the pipe divided among hosts.
+#![tactic(auto)]
+
+mod bell;
+mod caller;
+mod closing;
+mod crew;
+mod dealing;
+mod gathering;
+mod hosts;
+pub mod laws;
+mod leaving;
+mod modes;
+mod opening;
+mod parts;
+mod playing;
+mod posts;
+mod seats;
+
+pub use modes::{Mode, Setup};
+pub use pipe_plays::{PlayEnd, Played};
+pub use playing::play_all;

@@ -1,0 +1,117 @@
+//! How the stages are divided among hosts.
+ghost use Rattle.std.specs.Prelude.{◌≡◌};
+ghost use Rattle.std.specs.Option.{option_map};
+ghost use Rattle.mode_hosts.specs.Seats.{cull_site, draw_site, dbase_site};
+ghost use Rattle.mode_hosts.specs.Crews.{divided, unless, only_if, all_of, full_crew};
+ghost use Rattle.mode_hosts.specs.Posts.{crews_state};
+
+use crate::crew::Crew;
+use crate::seats::{CullSeat, DbaseSeat, DrawSeat};
+
+/// Which stages share a thread. A name has a capital letter where a thread begins.
+#[derive(Clone, Copy, Debug, PartialEq, Eq)]
+pub enum Mode {
+    /// One thread for all three.
+    Appculldraw,
+    /// A thread for the application, and one for the cull and the draw.
+    AppCulldraw,
+    /// A thread for the application and the cull, and one for the draw.
+    AppcullDraw,
+    /// A thread for each.
+    AppCullDraw,
+}
+
+/// How a play is played.
+#[derive(Clone, Copy, Debug, PartialEq, Eq)]
+pub struct Setup {
+    pub mode: Mode,
+    /// Whether the database process has a thread of its own; else it is on the application's.
+    pub dbase: bool,
+    /// How many frames may be in flight, 1 to 4.
+    pub ahead: u8,
+}
+
+/// The crews of a play: of the caller's thread, and of the hosts of the cull, of the draw, and of the database process. A
+/// crew may be empty.
+#[derive(Drop)]
+pub(crate) struct Crews<R> {
+    pub(crate) caller: Crew<R>,
+    pub(crate) cull: Crew<R>,
+    pub(crate) draw: Crew<R>,
+    pub(crate) dbase: Crew<R>,
+}
+
+/// The database process, with the caller or with a host of its own.
+struct Placed<R> {
+    caller: Option<DbaseSeat<R>>,
+    own: Option<DbaseSeat<R>>,
+}
+
+fn place_dbase<R>(own: bool, dbase: DbaseSeat<R>) -> Placed<R>
+    ensures caller { option_map dbase_site result.caller ≡ unless own (dbase_site dbase) }
+    ensures own { option_map dbase_site result.own ≡ only_if own (dbase_site dbase) }
+{
+    if own {
+        Placed {
+            caller: None,
+            own: Some(dbase),
+        }
+    } else {
+        Placed {
+            caller: Some(dbase),
+            own: None,
+        }
+    }
+}
+
+/// A crew of these stages.
+fn crew_of<R>(
+    cull: Option<CullSeat<R>>,
+    draw: Option<DrawSeat<R>>,
+    dbase: Option<DbaseSeat<R>>,
+) -> Crew<R>
+    ensures { result ≡ record { cull = cull; draw = draw; dbase = dbase } }
+{
+    Crew { cull, draw, dbase }
+}
+
+/// The crews of a mode. Together they have all three stages.
+pub(crate) fn crews_of<R>(
+    setup: &Setup,
+    cull: CullSeat<R>,
+    draw: DrawSeat<R>,
+    dbase: DbaseSeat<R>,
+) -> Crews<R>
+    ensures divided { crews_state result
+        ≡ divided setup.now.mode setup.now.dbase (cull_site cull) (draw_site draw) (dbase_site dbase) }
+    ensures all { all_of (crews_state result) ≡ full_crew (cull_site cull) (draw_site draw) (dbase_site dbase) }
+{
+    let Placed { caller, own } = place_dbase(setup.dbase, dbase);
+    let own = crew_of(None, None, own);
+    match setup.mode {
+        Mode::Appculldraw => Crews {
+            caller: crew_of(Some(cull), Some(draw), caller),
+            cull: crew_of(None, None, None),
+            draw: crew_of(None, None, None),
+            dbase: own,
+        },
+        Mode::AppCulldraw => Crews {
+            caller: crew_of(None, None, caller),
+            cull: crew_of(Some(cull), Some(draw), None),
+            draw: crew_of(None, None, None),
+            dbase: own,
+        },
+        Mode::AppcullDraw => Crews {
+            caller: crew_of(Some(cull), None, caller),
+            cull: crew_of(None, None, None),
+            draw: crew_of(None, Some(draw), None),
+            dbase: own,
+        },
+        Mode::AppCullDraw => Crews {
+            caller: crew_of(None, None, caller),
+            cull: crew_of(Some(cull), None, None),
+            draw: crew_of(None, Some(draw), None),
+            dbase: own,
+        },
+    }
+}

@@ -1,0 +1,127 @@
+//! Whole plays on hosts.
+ghost use Rattle.std.specs.Prelude.{◌≡◌, ◌≢◌, ◌≤◌, ℕ, true, List, Option, IfOk};
+ghost use Rattle.std.specs.Arc.{arc_value};
+ghost use Rattle.std.specs.List.{concat};
+ghost use Rattle.std.specs.Io.KnownBytes.{append_known};
+ghost use Rattle.pf_io.specs.Causes.{Calm, Rose};
+ghost use Rattle.seat_lock.specs.Tokens.{lock_id};
+ghost use Rattle.pf_history.specs.Logs.{IsLegal};
+ghost use Rattle.pf_history.specs.Fits.{FitsPlay, FitsWholly};
+ghost use Rattle.play_format.specs.Plays.{IsPlay};
+ghost use Rattle.play_check.specs.Stuck.{IsStuck};
+ghost use Rattle.stage_parts.specs.Pictures.{pictures, frame_numbers};
+ghost use Rattle.pf_scene.specs.Scenes.{IsSmall};
+ghost use Rattle.pipe_plays.specs.Plays.{setup_of};
+ghost use Rattle.pipe_plays.specs.Played.{AddsFront, KeepsNumbers};
+ghost use Rattle.mode_hosts.specs.Gathering.{AreTogether, SeatsKeep};
+ghost use Rattle.mode_hosts.specs.Homes.{sites_of};
+
+use crate::bell::Bell;
+use crate::caller::run_all;
+use crate::hosts::Common;
+use crate::leaving::leave;
+use crate::modes::Setup;
+use crate::opening::{Opened, open};
+use pf_history::History;
+use pf_io::{Gate, NoMemory, Sink};
+use pipe_plays::laws::a_play_not_begun_leaves_nothing;
+use pipe_plays::{PlayEnd, Played};
+use play_format::Play;
+use std::alloc::Global;
+use std::sync::{Arc, Wait};
+use std::thread::Threads;
+
+/// The seats of a play before its first step, and what its hosts share.
+#[derive(Drop)]
+struct Ready<R, G> {
+    opened: Opened<R>,
+    common: Arc<Common<G>, Global>,
+}
+
+/// Opens a play, where there is memory for it.
+fn get_ready<R: Wait + Copy + Drop, G: Drop>(
+    alloc: Global,
+    rt: &R,
+    play: Play,
+    ahead: u8,
+    gate: G,
+) -> Result<Ready<R, G>, NoMemory>
+    requires ahead { IsSmall ahead }
+    ensures play { IsPlay play }
+    ensures together { IfOk result (λ r. AreTogether (lock_id (arc_value r.opened.lock))
+        (sites_of r.opened.app r.opened.cull r.opened.draw r.opened.dbase)) }
+    ensures keeps { IfOk result (λ r. (bytes : Option (List ℕ)) → SeatsKeep (setup_of play ahead) play.dbase
+        (sites_of r.opened.app r.opened.cull r.opened.draw r.opened.dbase) bytes bytes) }
+{
+    let opened = open(*rt, alloc, play, ahead)?;
+    let bell = Bell::new();
+    let common = Arc::new(alloc, Common { bell, gate })?;
+    Ok(Ready { opened, common })
+}
+
+/// Plays a play that is not stuck, its stages divided among hosts by the setup, and writes the pictures of its frames to
+/// `frames`, which the caller's thread alone uses; at the end it flushes the sink. A host for which there is no thread is
+/// polled by the caller. The stages pass the gate before each frame and each merge.
+pub fn play_all<
+    R: Threads + Wait + Copy + Drop + Send + Sync + 'static,
+    O: Sink,
+    G: Gate + Send + Drop + 'static,
+>(alloc: Global, rt: &R, play: Play, setup: &Setup, frames: &mut O, gate: G) -> Played
+    requires can_end { IsStuck play.app play.dbase → ⊥ }
+    requires some { 1 ≤ setup.now.ahead }
+    requires few { setup.now.ahead ≤ 4 }
+
+    // Its history is one of the play.
+    ensures legal { IsLegal play.channels result.history.entries }
+    ensures fits { FitsPlay play.channels setup.now.ahead play.app play.dbase result.history.entries }
+    ensures wholly { result.end ≡ PlayEnd.Done
+        → FitsWholly play.channels setup.now.ahead play.app play.dbase result.history.entries }
+
+    // The stream is the pictures of the history, or a front of them.
+    ensures front { AddsFront play result.history.entries (O.written frames.old) (O.written frames.new) }
+    ensures whole { result.end ≡ PlayEnd.Done → O.written frames.new ≡ append_known (O.written frames.old)
+        (concat (pictures play.channels play.lens play.back result.history.entries)) }
+    ensures stats { result.end ≡ PlayEnd.Done
+        → result.stats.items ≡ frame_numbers play.channels play.lens result.history.entries }
+
+    // Whatever the end, the numbers are those of the frames that came back: the first of the history's.
+    ensures numbers { KeepsNumbers play result.history.entries result.stats.items (O.written frames.old) (O.written frames.new) }
+
+    // Where it is done, the last call on the sink was a flush that succeeded.
+    ensures flushed { result.end ≡ PlayEnd.Done → O.flushed frames.new ≡ true }
+
+    // Causes.
+    ensures fault { result.end ≡ PlayEnd.FrameFault → Rose (O.faults frames.old) (O.faults frames.new) }
+    ensures last { result.end ≡ PlayEnd.FrameFault → O.at_fault frames.new ≡ O.written frames.new }
+    ensures calm { result.end ≢ PlayEnd.FrameFault → Calm (O.faults frames.old) (O.faults frames.new) }
+{
+    a_play_not_begun_leaves_nothing();
+    match get_ready(alloc, rt, play, setup.ahead, gate) {
+        Ok(ready) => {
+            let Ready { opened, common } = ready;
+            let Opened {
+                lock,
+                app,
+                cull,
+                draw,
+                dbase,
+            } = opened;
+            let ended = run_all(rt, alloc, &common, setup, app, cull, draw, dbase, frames);
+            leave(
+                rt,
+                &lock,
+                ended.app,
+                ended.cull,
+                ended.draw,
+                ended.dbase,
+                ended.came,
+                frames,
+            )
+        }
+        Err(NoMemory) => Played {
+            end: PlayEnd::NoMemory,
+            history: History::new(alloc),
+            stats: Vec::new(alloc),
+        },
+    }
+}

@@ -1,0 +1,95 @@
+//! Each stage at its desk, between its links.
+ghost use Rattle.std.specs.Prelude.{◌≡◌};
+ghost use Rattle.pipe_plays.specs.Played.{Blames};
+ghost use Rattle.mode_hosts.specs.Sites.{AppGoes, CullGoes, DrawGoes, DbaseGoes};
+ghost use Rattle.mode_hosts.specs.Seats.{app_site, cull_site, draw_site, dbase_site};
+
+use frame_link::{RingSend, RingTake};
+use frame_stages::{AppStage, CullStage, DbaseStage, Did, DrawStage, Packet, StageError};
+use pf_io::{Gate, Sink};
+use pf_scene::Scene;
+use seat_lock::SeatDesk;
+use std::sync::Wait;
+use std::thread::Threads;
+
+/// The application at its desk. It stays on the caller's thread, which has the frame sink.
+#[derive(Drop)]
+pub(crate) struct AppSeat<R> {
+    pub(crate) stage: AppStage,
+    pub(crate) desk: SeatDesk<Scene, R>,
+    pub(crate) from: RingTake<Packet>,
+    pub(crate) to: RingSend<Packet>,
+}
+
+/// The cull at its desk.
+#[derive(Drop)]
+pub(crate) struct CullSeat<R> {
+    pub(crate) stage: CullStage,
+    pub(crate) desk: SeatDesk<Scene, R>,
+    pub(crate) from: RingTake<Packet>,
+    pub(crate) to: RingSend<Packet>,
+}
+
+/// The draw at its desk.
+#[derive(Drop)]
+pub(crate) struct DrawSeat<R> {
+    pub(crate) stage: DrawStage,
+    pub(crate) desk: SeatDesk<Scene, R>,
+    pub(crate) from: RingTake<Packet>,
+    pub(crate) to: RingSend<Packet>,
+}
+
+/// The database process at its desk.
+#[derive(Drop)]
+pub(crate) struct DbaseSeat<R> {
+    pub(crate) stage: DbaseStage,
+    pub(crate) desk: SeatDesk<Scene, R>,
+}
+
+impl<R: Wait> AppSeat<R> {
+    /// One poll of the application.
+    pub(crate) fn poll<O: Sink, G: Gate>(
+        &mut self,
+        frames: &mut O,
+        gate: &G,
+    ) -> Result<Did, StageError>
+        ensures goes { AppGoes (app_site self.old) (app_site self.new) (O.written frames.old) (O.written frames.new) }
+        ensures blames { Blames result (O.faults frames.old) (O.faults frames.new) (O.at_fault frames.new) (O.written frames.new) }
+    {
+        self.stage
+            .poll(&mut self.desk, &mut self.to, &mut self.from, frames, gate)
+    }
+}
+
+impl<R: Wait> CullSeat<R> {
+    /// One poll of the cull.
+    pub(crate) fn poll<G: Gate>(&mut self, gate: &G) -> Result<Did, StageError>
+        ensures { CullGoes (cull_site self.old) (cull_site self.new) }
+    {
+        self.stage
+            .poll(&mut self.desk, &mut self.from, &mut self.to, gate)
+    }
+}
+
+impl<R: Wait> DrawSeat<R> {
+    /// One poll of the draw.
+    pub(crate) fn poll<H: Threads + Sync, G: Gate>(
+        &mut self,
+        rt: &H,
+        gate: &G,
+    ) -> Result<Did, StageError>
+        ensures { DrawGoes (draw_site self.old) (draw_site self.new) }
+    {
+        self.stage
+            .poll(rt, &mut self.desk, &mut self.from, &mut self.to, gate)
+    }
+}
+
+impl<R: Wait> DbaseSeat<R> {
+    /// One poll of the database process.
+    pub(crate) fn poll<G: Gate>(&mut self, gate: &G) -> Result<Did, StageError>
+        ensures { DbaseGoes (dbase_site self.old) (dbase_site self.new) }
+    {
+        self.stage.poll(&mut self.desk, gate)
+    }
+}
