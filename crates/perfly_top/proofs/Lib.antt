@@ -6,3 +6,4 @@ mod Whys
 mod Arguments
 mod Dues
 mod Runs
+mod Pairs

@@ -7,3 +7,4 @@ pub mod Readings
 pub mod Program
 pub mod Runs
 pub mod Endings
+pub mod Pairs

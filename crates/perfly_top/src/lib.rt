@@ -3,6 +3,7 @@
 
 mod ending;
 mod exit;
+pub mod laws;
 mod loading;
 mod messages;
 mod playing;

@@ -1,0 +1,14 @@
+pub mod Walking
+pub mod Settling
+pub mod Bare
+pub mod Making
+pub mod Weaving
+pub mod Placing
+pub mod Freed
+pub mod Closing
+pub mod Burying
+pub mod Points
+pub mod Swapping
+pub mod Finding
+pub mod Moving
+pub mod Showing
