@@ -15,6 +15,6 @@ fn main(rt: HostRuntime) -> ExitCode {
         &mut StdSource::new(rt.stdin()),
         &mut StdSink::new(rt.stdout()),
         &mut StdSink::new(rt.stderr()),
-        &FreeGate,
+        FreeGate,
     )
 }

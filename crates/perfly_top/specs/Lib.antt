@@ -6,5 +6,6 @@ pub mod Calls
 pub mod Readings
 pub mod Program
 pub mod Runs
+pub mod Setups
 pub mod Endings
 pub mod Pairs

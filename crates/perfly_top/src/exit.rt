@@ -29,6 +29,7 @@ use std::alloc::Global;
 use std::env::Args;
 use std::io;
 use std::process::ExitCode;
+use std::sync::Wait;
 use std::thread::Threads;
 
 /// The words behind the program's name.
@@ -50,14 +51,20 @@ fn words_of(alloc: Global, arguments: io::Result<Args>) -> Result<Vec<String>, S
 
 /// Runs the program: calls [`perfly`] with the words behind its name, which is the first of the arguments, and answers the
 /// status to exit with. Arguments that cannot be read, as where one is no text, are wrong words.
-pub fn run<R: Threads + Sync, I: Source, O: Sink, P: Sink, G: Gate>(
+pub fn run<
+    R: Threads + Wait + Copy + Drop + Send + Sync + 'static,
+    I: Source,
+    O: Sink,
+    P: Sink,
+    G: Gate + Send + Drop + 'static,
+>(
     alloc: Global,
     rt: &R,
     arguments: io::Result<Args>,
     input: &mut I,
     frames: &mut O,
     report: &mut P,
-    gate: &G,
+    gate: G,
 ) -> ExitCode
     ensures one_of { exit_status result ≤ NO_MEMORY }
     ensures unread_arguments { IfErr arguments (λ error. exit_status result ≡ status_of (stop_of_arguments (error_kind error))) }

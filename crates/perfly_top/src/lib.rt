@@ -8,6 +8,7 @@ mod loading;
 mod messages;
 mod playing;
 mod preparing;
+mod setup;
 mod stop;
 mod summing;
 mod top;

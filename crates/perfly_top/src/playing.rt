@@ -7,14 +7,16 @@ ghost use Rattle.perfly_top.specs.Runs.{IsRun, EndsByFault, HasNumbers};
 ghost use Rattle.play_format.specs.Plays.{Script};
 ghost use Rattle.program_words.specs.declared.words.Words.{Words};
 
+use crate::setup::{is_on_one_thread, setup_of};
 use crate::summing::{Held, Lent, Start, Summing};
 use pf_io::{Gate, NoMemory, Sink};
-use pipe_core::{PlayEnd, Played, play_all};
+use pipe_core::{PlayEnd, Played};
 use play_format::Play;
 use play_report::{append_report, append_summary};
 use program_words::Words;
 use std::alloc::Global;
 use std::marker::{Brand, PhantomData};
+use std::sync::Wait;
 use std::thread::Threads;
 
 /// A play that was played, and the sum of the bytes of its pictures where that is asked for.
@@ -24,22 +26,42 @@ pub(crate) struct Run {
     pub(crate) sum: u64,
 }
 
+/// Plays a play as the words say: with all stages on one thread, or with the stages divided among threads.
+fn play_by<
+    R: Threads + Wait + Copy + Drop + Send + Sync + 'static,
+    O: Sink,
+    G: Gate + Send + Drop + 'static,
+>(alloc: Global, rt: &R, play: Play, words: Words, frames: &mut O, gate: G) -> Played
+    requires can_end { IsStuck play.app play.dbase → ⊥ }
+    requires some { 1 ≤ words.ahead }
+    requires few { words.ahead ≤ 4 }
+    ensures run { IsRun play words.ahead result.end result.history.entries result.stats.items
+        (O.written frames.old) (O.written frames.new) }
+    ensures cause { EndsByFault result.end (O.faults frames.old) (O.faults frames.new)
+        (O.at_fault frames.new) (O.written frames.new) }
+    ensures flushed { result.end ≡ PlayEnd.Done → O.flushed frames.new ≡ true }
+{
+    if is_on_one_thread(words) {
+        pipe_core::play_all(alloc, rt, play, words.ahead, frames, &gate)
+    } else {
+        mode_hosts::play_all(alloc, rt, play, &setup_of(words), frames, gate)
+    }
+}
+
 /// Plays a play into a sink that is held, adds up the bytes of its pictures, and hands the sink back.
-fn held_run<R: Threads + Sync, H: Held, G: Gate, S: Start>(
-    alloc: Global,
-    rt: &R,
-    play: Play,
-    ahead: u8,
-    held: H,
-    gate: &G,
-) -> (Run, H)
+fn held_run<
+    R: Threads + Wait + Copy + Drop + Send + Sync + 'static,
+    H: Held,
+    G: Gate + Send + Drop + 'static,
+    S: Start,
+>(alloc: Global, rt: &R, play: Play, words: Words, held: H, gate: G) -> (Run, H)
     requires start { S.start ≡ H.bytes held }
     requires loan { S.loan ≡ Some (H.loan held) }
     requires can_end { IsStuck play.app play.dbase → ⊥ }
-    requires some { 1 ≤ ahead }
-    requires few { ahead ≤ 4 }
+    requires some { 1 ≤ words.ahead }
+    requires few { words.ahead ≤ 4 }
     ensures same { H.loan result.1 ≡ H.loan held }
-    ensures run { IsRun play ahead result.0.played.end result.0.played.history.entries result.0.played.stats.items
+    ensures run { IsRun play words.ahead result.0.played.end result.0.played.history.entries result.0.played.stats.items
         (H.bytes held) (H.bytes result.1) }
     ensures cause { EndsByFault result.0.played.end (H.failed held) (H.failed result.1)
         (H.at_failure result.1) (H.bytes result.1) }
@@ -52,7 +74,7 @@ fn held_run<R: Threads + Sync, H: Held, G: Gate, S: Start>(
         sum: 0,
         start: PhantomData,
     };
-    let played = play_all(alloc, rt, play, ahead, &mut summing, gate);
+    let played = play_by(alloc, rt, play, words, &mut summing, gate);
     let Summing {
         held,
         sum,
@@ -62,18 +84,15 @@ fn held_run<R: Threads + Sync, H: Held, G: Gate, S: Start>(
 }
 
 /// Plays a play, and adds up the bytes of its pictures.
-fn summed_run<R: Threads + Sync, O: Sink, G: Gate>(
-    alloc: Global,
-    rt: &R,
-    play: Play,
-    ahead: u8,
-    frames: &mut O,
-    gate: &G,
-) -> Run
+fn summed_run<
+    R: Threads + Wait + Copy + Drop + Send + Sync + 'static,
+    O: Sink,
+    G: Gate + Send + Drop + 'static,
+>(alloc: Global, rt: &R, play: Play, words: Words, frames: &mut O, gate: G) -> Run
     requires can_end { IsStuck play.app play.dbase → ⊥ }
-    requires some { 1 ≤ ahead }
-    requires few { ahead ≤ 4 }
-    ensures run { IsRun play ahead result.played.end result.played.history.entries result.played.stats.items
+    requires some { 1 ≤ words.ahead }
+    requires few { words.ahead ≤ 4 }
+    ensures run { IsRun play words.ahead result.played.end result.played.history.entries result.played.stats.items
         (O.written frames.old) (O.written frames.new) }
     ensures cause { EndsByFault result.played.end (O.faults frames.old) (O.faults frames.new)
         (O.at_fault frames.new) (O.written frames.new) }
@@ -82,20 +101,17 @@ fn summed_run<R: Threads + Sync, O: Sink, G: Gate>(
         → result.sum ≡ sum_of_bytes (stream_of play result.played.history.entries) }
 {
     let lent = Lent { sink: frames };
-    let (run, lent) = held_run::<R, Lent<O>, G, Brand>(alloc, rt, play, ahead, lent, gate);
+    let (run, lent) = held_run::<R, Lent<O>, G, Brand>(alloc, rt, play, words, lent, gate);
     let Lent { sink: _frames } = lent;
     run
 }
 
 /// Plays a play, and adds up the bytes of its pictures where a summary is to be told.
-pub(crate) fn run_of<R: Threads + Sync, O: Sink, G: Gate>(
-    alloc: Global,
-    rt: &R,
-    play: Play,
-    words: Words,
-    frames: &mut O,
-    gate: &G,
-) -> Run
+pub(crate) fn run_of<
+    R: Threads + Wait + Copy + Drop + Send + Sync + 'static,
+    O: Sink,
+    G: Gate + Send + Drop + 'static,
+>(alloc: Global, rt: &R, play: Play, words: Words, frames: &mut O, gate: G) -> Run
     requires can_end { IsStuck play.app play.dbase → ⊥ }
     requires some { 1 ≤ words.ahead }
     requires few { words.ahead ≤ 4 }
@@ -108,9 +124,9 @@ pub(crate) fn run_of<R: Threads + Sync, O: Sink, G: Gate>(
         → IsSummed words play result.played.history.entries (O.written frames.old) result.sum }
 {
     match words.make {
-        Some(_) => summed_run(alloc, rt, play, words.ahead, frames, gate),
+        Some(_) => summed_run(alloc, rt, play, words, frames, gate),
         None => Run {
-            played: play_all(alloc, rt, play, words.ahead, frames, gate),
+            played: play_by(alloc, rt, play, words, frames, gate),
             sum: 0,
         },
     }

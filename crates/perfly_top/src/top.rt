@@ -22,17 +22,16 @@ use pf_history::History;
 use pf_io::{Gate, Sink, Source};
 use pipe_core::PlayEnd;
 use std::alloc::Global;
+use std::sync::Wait;
 use std::thread::Threads;
 
 /// Plays what there is to play, and tells of it.
-fn played<R: Threads + Sync, O: Sink, P: Sink, G: Gate>(
-    alloc: Global,
-    rt: &R,
-    task: Task,
-    frames: &mut O,
-    report: &mut P,
-    gate: &G,
-) -> Ended
+fn played<
+    R: Threads + Wait + Copy + Drop + Send + Sync + 'static,
+    O: Sink,
+    P: Sink,
+    G: Gate + Send + Drop + 'static,
+>(alloc: Global, rt: &R, task: Task, frames: &mut O, report: &mut P, gate: G) -> Ended
     requires can_end { ¬ IsStuck task.play.app task.play.dbase }
     requires some { 1 ≤ task.words.ahead }
     requires few { task.words.ahead ≤ 4 }
@@ -72,14 +71,22 @@ fn played<R: Threads + Sync, O: Sink, P: Sink, G: Gate>(
 /// Plays the play of a source, as the words say: reads it, writes the pictures of its frames to `frames` as P6 images, and
 /// the report of its calls to `report`. With a number to make, the source is not read: a generated play is played, and
 /// `report` gets one line. Where the call ends otherwise, `report` gets a message. `gate` is passed at each step of a stage.
-pub fn perfly<R: Threads + Sync, I: Source, O: Sink, P: Sink, G: Gate>(
+/// By the words the stages of a play share one thread or are divided among several; the caller's thread alone uses the
+/// source and the two sinks. In a mode with several threads the call waits for them.
+pub fn perfly<
+    R: Threads + Wait + Copy + Drop + Send + Sync + 'static,
+    I: Source,
+    O: Sink,
+    P: Sink,
+    G: Gate + Send + Drop + 'static,
+>(
     alloc: Global,
     rt: &R,
     words: &[String],
     input: &mut I,
     frames: &mut O,
     report: &mut P,
-    gate: &G,
+    gate: G,
 ) -> Ended
     ensures one_of { result.status ≤ NO_MEMORY }
 

@@ -1,12 +1,16 @@
--- The usage `[--mode m] [--ahead n] [--make n]`, as a simple command of clap.
+-- The usage `[--mode m] [--dbase] [--ahead n] [--make n]`, as a simple command of clap.
 use Rattle.std.specs.Prelude.{true, Some, codes}
 use Rattle.clap.specs.Words.{App, Rule, Text, new_app, new_rule, with_rule}
 use Rattle.clap.specs.Simple.{on_top}
-use Rattle.clap.specs.declared.builder.ArgAction.TheVariants.{Set}
+use Rattle.clap.specs.declared.builder.ArgAction.TheVariants.{Set, SetTrue}
 
 -- a long option with one value
 abbrev pub option_rule : Text → Rule
 option_rule name = record (new_rule name) { long = Some name; action = Some Set }
+
+-- a flag
+abbrev pub flag_rule : Text → Rule
+flag_rule name = record (new_rule name) { long = Some name; action = Some SetTrue }
 
 -- the command without options: its words begin behind the program's name, and there is neither help nor version
 abbrev pub bare : App
@@ -16,4 +20,5 @@ bare =
 
 abbrev pub usage : App
 usage =
-    with_rule (with_rule (with_rule bare (option_rule (codes "mode"))) (option_rule (codes "ahead"))) (option_rule (codes "make"))
+    with_rule (with_rule (with_rule (with_rule bare (option_rule (codes "mode"))) (flag_rule (codes "dbase")))
+    (option_rule (codes "ahead"))) (option_rule (codes "make"))

@@ -1,7 +1,7 @@
 //! The usage, as a command of clap.
 ghost use Rattle.std.specs.Prelude.{◌≡◌, false, IfOk, codes};
 ghost use Rattle.clap.specs.Words.{app_of, rule_of};
-ghost use Rattle.program_words.specs.Usage.{bare, option_rule, usage};
+ghost use Rattle.program_words.specs.Usage.{bare, option_rule, flag_rule, usage};
 
 use clap::{Arg, ArgAction, Command};
 use std::alloc::{AllocError, Global};
@@ -14,6 +14,14 @@ fn option<'a>(alloc: Global, name: &'a str) -> Arg<'a>
     Arg::new(alloc, name).long(name).action(ArgAction::Set)
 }
 
+/// A flag.
+fn flag<'a>(alloc: Global, name: &'a str) -> Arg<'a>
+    ensures rule { rule_of result ≡ flag_rule name.entry.now }
+    ensures local { result.global ≡ false }
+{
+    Arg::new(alloc, name).long(name).action(ArgAction::SetTrue)
+}
+
 /// The command without options.
 fn bare<'a>(alloc: Global) -> Command<'a>
     ensures { app_of result ≡ bare }
@@ -24,12 +32,13 @@ fn bare<'a>(alloc: Global) -> Command<'a>
         .disable_version_flag(true)
 }
 
-/// `perfly [--mode m] [--ahead n] [--make n]`
+/// `perfly [--mode m] [--dbase] [--ahead n] [--make n]`
 pub(crate) fn usage<'a>(alloc: Global) -> Result<Command<'a>, AllocError>
     ensures { IfOk result (λ c. app_of c ≡ usage) }
 {
     bare(alloc)
         .arg(option(alloc, "mode"))?
+        .arg(flag(alloc, "dbase"))?
         .arg(option(alloc, "ahead"))?
         .arg(option(alloc, "make"))
 }

@@ -7,7 +7,7 @@ mod values;
 mod words;
 
 pub use reading::read_words;
-pub use words::{Words, WordsError};
+pub use words::{Mode, Words, WordsError};
 
 #[cfg(test)]
 mod tests;

@@ -10,7 +10,7 @@ ghost use Rattle.program_words.specs.Meaning.{meaning_of_values, meaning_of_word
 ghost use Rattle.program_words.specs.declared.words.WordsError.TheVariants as error;
 
 use crate::command::usage;
-use crate::values::{ahead_of, make_of, mode_is_right};
+use crate::values::{ahead_of, dbase_of, make_of, mode_of};
 use crate::words::{Words, WordsError};
 use clap::error::ErrorKind;
 use clap::{ArgMatches, Error};
@@ -61,16 +61,21 @@ fn value<'a>(matches: &ArgMatches<'a>, name: &str) -> Option<&'a str>
 fn meaning(matches: &ArgMatches) -> Option<Words>
     ensures { result ≡ meaning_of_values (rows_of (found_of matches.now)) }
 {
-    if !mode_is_right(value(matches, "mode")) {
-        return None;
-    }
+    let mode = mode_of(value(matches, "mode"))?;
+    let dbase = dbase_of(value(matches, "dbase"));
     let ahead = ahead_of(value(matches, "ahead"))?;
     let make = make_of(value(matches, "make"))?;
-    Some(Words { ahead, make })
+    Some(Words {
+        mode,
+        dbase,
+        ahead,
+        make,
+    })
 }
 
-/// Reads the words behind the program's name: `[--mode appculldraw] [--ahead 1..4] [--make 1..256]`, each at most once, in
-/// any order, its value as the next word or after `=`. It is `Err(Wrong)` only where they have no meaning.
+/// Reads the words behind the program's name: `[--mode m] [--dbase] [--ahead 1..4] [--make 1..256]`, where `m` is
+/// `appculldraw`, `app_culldraw`, `appcull_draw` or `app_cull_draw`; each at most once, in any order, its value as the next
+/// word or after `=`. It is `Err(Wrong)` only where they have no meaning.
 pub fn read_words(alloc: Global, words: &[String]) -> Result<Words, WordsError>
     ensures right { IfOk result (λ w. meaning_of_words (map string_bytes words.now) ≡ Some w) }
     ensures wrong { result ≡ Err error.Wrong → meaning_of_words (map string_bytes words.now) ≡ None }

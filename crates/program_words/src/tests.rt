@@ -1,4 +1,4 @@
-use crate::{Words, WordsError, read_words};
+use crate::{Mode, Words, WordsError, read_words};
 use std::alloc::Global;
 use std::test::Fail;
 
@@ -13,20 +13,41 @@ fn meaning(alloc: Global, line: &str) -> Result<Result<Words, WordsError>, Fail>
     Ok(read_words(alloc, &words))
 }
 
+fn right(mode: Mode, dbase: bool, ahead: u8, make: Option<u16>) -> Words {
+    Words {
+        mode,
+        dbase,
+        ahead,
+        make,
+    }
+}
+
 #[test]
 fn right_words(rt: HostRuntime) -> Result<(), Fail> {
     let alloc = rt.alloc();
     let rows = [
-        ("", 1, None),
-        ("--mode appculldraw", 1, None),
-        ("--mode=appculldraw --ahead=2", 2, None),
-        ("--ahead 4 --mode appculldraw", 4, None),
-        ("--make 1", 1, Some(1)),
-        ("--make=256 --ahead 3", 3, Some(256)),
+        ("", right(Mode::Appculldraw, false, 1, None)),
+        (
+            "--mode appculldraw",
+            right(Mode::Appculldraw, false, 1, None),
+        ),
+        (
+            "--mode=app_culldraw --ahead=2",
+            right(Mode::AppCulldraw, false, 2, None),
+        ),
+        (
+            "--ahead 4 --dbase --mode appcull_draw",
+            right(Mode::AppcullDraw, true, 4, None),
+        ),
+        ("--make 1", right(Mode::Appculldraw, false, 1, Some(1))),
+        ("--dbase", right(Mode::Appculldraw, true, 1, None)),
+        (
+            "--mode app_cull_draw --dbase --ahead 3 --make=256",
+            right(Mode::AppCullDraw, true, 3, Some(256)),
+        ),
     ];
-    for (line, ahead, make) in rows.iter() {
-        let (ahead, make) = (*ahead, *make);
-        assert_eq!(rt; meaning(alloc, line)?, Ok(Words { ahead, make }));
+    for (line, words) in rows.iter() {
+        assert_eq!(rt; meaning(alloc, line)?, Ok(*words));
     }
     Ok(())
 }
@@ -43,10 +64,14 @@ fn wrong_words(rt: HostRuntime) -> Result<(), Fail> {
         "--make 0",
         "--make 257",
         "--make 1.5",
-        "--mode app_cull_draw",
+        "--mode appCulldraw",
+        "--mode app_cull_draw_",
         "--mode",
         "--mode APPCULLDRAW",
-        "--dbase",
+        "--dbase=true",
+        "--dbase true",
+        "--dbase --dbase",
+        "--no-dbase",
         "--help",
         "-h",
         "--version",

@@ -1,12 +1,10 @@
 //! The values of the options.
 ghost use Rattle.std.specs.Prelude.{◌≡◌, codes, decimal, option_map};
 ghost use Rattle.std.specs.Str.{bytes_eq};
-ghost use Rattle.program_words.specs.Meaning.{number_in, mode_is_right, ahead_of, make_of};
+ghost use Rattle.program_words.specs.Meaning.{number_in, mode_named, mode_of, dbase_of, ahead_of, make_of};
 
+use crate::words::Mode;
 use itoa::Buffer;
-
-/// The only mode: all stages on one thread.
-const MODE: &str = "appculldraw";
 
 /// Whether a number is written like this.
 fn is_written(number: u16, text: &str) -> bool
@@ -26,11 +24,34 @@ fn number_in(low: u16, high: u16, text: &str) -> Option<u16>
     Some(number)
 }
 
-/// Whether the value given for the mode, if there is one, names a mode.
-pub(crate) fn mode_is_right(given: Option<&str>) -> bool
-    ensures { result ≡ mode_is_right (option_map (λ text. text.now) given.entry) }
+/// The mode that has this name.
+fn mode_named(text: &str) -> Option<Mode>
+    ensures { result ≡ mode_named text.now }
 {
-    given.is_none_or(|text| text == MODE)
+    match text {
+        "appculldraw" => Some(Mode::Appculldraw),
+        "app_culldraw" => Some(Mode::AppCulldraw),
+        "appcull_draw" => Some(Mode::AppcullDraw),
+        "app_cull_draw" => Some(Mode::AppCullDraw),
+        _ => None,
+    }
+}
+
+/// Which stages share a thread.
+pub(crate) fn mode_of(given: Option<&str>) -> Option<Mode>
+    ensures { result ≡ mode_of (option_map (λ text. text.now) given.entry) }
+{
+    match given {
+        None => Some(Mode::Appculldraw),
+        Some(text) => mode_named(text),
+    }
+}
+
+/// Whether the database process has a thread of its own: clap's value of the flag.
+pub(crate) fn dbase_of(given: Option<&str>) -> bool
+    ensures { result ≡ dbase_of (option_map (λ text. text.now) given.entry) }
+{
+    given.is_some_and(|text| text == "true")
 }
 
 /// How many frames may be in flight.

@@ -1,8 +1,24 @@
 //! What words say, and why they may say nothing.
 
+/// Which stages share a thread. A name has a capital letter where a thread begins.
+#[derive(Clone, Copy, Debug, PartialEq, Eq)]
+pub enum Mode {
+    /// One thread for all three.
+    Appculldraw,
+    /// A thread for the application, and one for the cull and the draw.
+    AppCulldraw,
+    /// A thread for the application and the cull, and one for the draw.
+    AppcullDraw,
+    /// A thread for each.
+    AppCullDraw,
+}
+
 /// What right words say.
 #[derive(Clone, Copy, Debug, PartialEq, Eq)]
 pub struct Words {
+    pub mode: Mode,
+    /// Whether the database process has a thread of its own; else it is on the application's.
+    pub dbase: bool,
     /// How many frames may be in flight, 1 to 4.
     pub ahead: u8,
     /// The number of the generated play, 1 to 256, where one is to be made in place of reading the source.

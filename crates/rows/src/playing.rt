@@ -7,6 +7,7 @@ use pf_io::{FreeGate, MemSink, MemSource};
 use std::alloc::{AllocError, Global};
 use std::fs;
 use std::rt::Files;
+use std::sync::Wait;
 use std::thread::Threads;
 
 /// How the runs of a row went.
@@ -33,7 +34,10 @@ struct Left {
 }
 
 /// Plays a row.
-pub fn play_row<R: Files + AllocGlobal + Threads + Sync>(rt: &R, row: &Row) -> Result<Tally> {
+pub fn play_row<R: Files + AllocGlobal + Threads + Wait + Copy + Drop + Send + Sync + 'static>(
+    rt: &R,
+    row: &Row,
+) -> Result<Tally> {
     let text = text_of(rt, row)?;
     match row.faults {
         None => play_once(rt, row, text.as_slice()),
@@ -41,7 +45,11 @@ pub fn play_row<R: Files + AllocGlobal + Threads + Sync>(rt: &R, row: &Row) -> R
     }
 }
 
-fn play_once<R: AllocGlobal + Threads + Sync>(rt: &R, row: &Row, text: &[u8]) -> Result<Tally> {
+fn play_once<R: AllocGlobal + Threads + Wait + Copy + Drop + Send + Sync + 'static>(
+    rt: &R,
+    row: &Row,
+    text: &[u8],
+) -> Result<Tally> {
     let left = run(rt, row, text, None)?;
     Ok(Tally {
         runs: 1,
@@ -49,7 +57,7 @@ fn play_once<R: AllocGlobal + Threads + Sync>(rt: &R, row: &Row, text: &[u8]) ->
     })
 }
 
-fn play_with_faults<R: AllocGlobal + Threads + Sync>(
+fn play_with_faults<R: AllocGlobal + Threads + Wait + Copy + Drop + Send + Sync + 'static>(
     rt: &R,
     row: &Row,
     text: &[u8],
@@ -74,7 +82,7 @@ fn play_with_faults<R: AllocGlobal + Threads + Sync>(
 }
 
 /// Plays a text once.
-fn run<R: AllocGlobal + Threads + Sync>(
+fn run<R: AllocGlobal + Threads + Wait + Copy + Drop + Send + Sync + 'static>(
     rt: &R,
     row: &Row,
     text: &[u8],
@@ -100,7 +108,7 @@ fn run<R: AllocGlobal + Threads + Sync>(
         &mut input,
         &mut frames,
         &mut report,
-        &FreeGate,
+        FreeGate,
     );
     Ok(Left {
         status: ended.status,

@@ -14,6 +14,6 @@ fn main(rt: HostRuntime) -> ExitCode {
         &mut StdSource::new(rt.stdin()),
         &mut StdSink::new(rt.stderr()),
         &mut StdSink::new(rt.stdout()),
-        &FreeGate,
+        FreeGate,
     )
 }

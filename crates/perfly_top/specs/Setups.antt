@@ -1,0 +1,27 @@
+-- How the words divide the stages of a play among threads.
+use Rattle.std.specs.Prelude.{Bool, true, false, not, ◌&&◌}
+use Rattle.mode_hosts.specs.declared.modes.Mode.{Mode as HostMode}
+use Rattle.mode_hosts.specs.declared.modes.Mode.TheVariants as host
+use Rattle.mode_hosts.specs.declared.modes.Setup.{Setup}
+use Rattle.program_words.specs.declared.words.Mode.{Mode}
+use Rattle.program_words.specs.declared.words.Mode.TheVariants as mode
+use Rattle.program_words.specs.declared.words.Words.{Words}
+
+-- the mode of hosts of the same name
+abbrev pub host_mode : Mode → HostMode
+host_mode mode.Appculldraw = host.Appculldraw
+host_mode mode.AppCulldraw = host.AppCulldraw
+host_mode mode.AppcullDraw = host.AppcullDraw
+host_mode mode.AppCullDraw = host.AppCullDraw
+
+abbrev pub setup_of : Words → Setup
+setup_of words = record { mode = host_mode words.mode; dbase = words.dbase; ahead = words.ahead }
+
+-- one thread has all stages
+abbrev pub has_one : Mode → Bool
+has_one mode.Appculldraw = true
+has_one _ = false
+
+-- no stage has a thread of its own
+abbrev pub is_on_one_thread : Words → Bool
+is_on_one_thread words = has_one words.mode && not words.dbase

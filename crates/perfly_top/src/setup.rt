@@ -1,0 +1,36 @@
+//! How the words divide the stages of a play among threads.
+ghost use Rattle.std.specs.Prelude.{◌≡◌};
+ghost use Rattle.perfly_top.specs.Setups.{host_mode, setup_of, is_on_one_thread};
+
+use mode_hosts::Setup;
+use program_words::{Mode, Words};
+
+/// The mode of hosts that a mode of the words means.
+fn host_mode(mode: Mode) -> mode_hosts::Mode
+    ensures { result ≡ host_mode mode }
+{
+    match mode {
+        Mode::Appculldraw => mode_hosts::Mode::Appculldraw,
+        Mode::AppCulldraw => mode_hosts::Mode::AppCulldraw,
+        Mode::AppcullDraw => mode_hosts::Mode::AppcullDraw,
+        Mode::AppCullDraw => mode_hosts::Mode::AppCullDraw,
+    }
+}
+
+/// The setup of hosts that the words mean.
+pub(crate) fn setup_of(words: Words) -> Setup
+    ensures { result ≡ setup_of words }
+{
+    Setup {
+        mode: host_mode(words.mode),
+        dbase: words.dbase,
+        ahead: words.ahead,
+    }
+}
+
+/// Whether the words put all stages on one thread, so that nothing is shared.
+pub(crate) fn is_on_one_thread(words: Words) -> bool
+    ensures { result ≡ is_on_one_thread words }
+{
+    words.mode == Mode::Appculldraw && !words.dbase
+}
