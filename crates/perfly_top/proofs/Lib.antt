@@ -7,3 +7,4 @@ mod Arguments
 mod Dues
 mod Runs
 mod Pairs
+mod WordRanges
