@@ -1,5 +1,5 @@
 -- The ranges of the numbers that right words give.
-use Rattle.std.proofs.Common.{◌≡◌, ℕ, ◌≤◌, Bool, true, false, ◌&&◌, cond, not, List, length, ◌==◌, Option, Some, None, refl, rules, arith}
+use Rattle.std.proofs.Common.{◌≡◌, ℕ, ◌≤◌, Bool, true, false, ◌&&◌, cond, not, List, length, ◌==◌, Option, Some, None, refl, ap, rules, arith}
 use Rattle.std.specs.Prelude.{codes, decimal, nat_lt, IfSome, option_map}
 use Rattle.std.specs.List.{list_any}
 use Rattle.std.specs.Str.{bytes_eq}
@@ -36,7 +36,11 @@ parts : (mode : Option Mode) (dbase : Bool) (ahead : Option ℕ) (make : Option 
 parts None dbase ahead make w e = absurd cc
 parts (Some m) dbase None make w e = absurd cc
 parts (Some m) dbase (Some a) None w e = absurd cc
-parts (Some m) dbase (Some a) (Some k) w refl = (refl, refl)
+parts (Some m) dbase (Some a) (Some k) w e =
+    let read : Words = record { mode = m; dbase = dbase; ahead = a; make = k } in
+    let is : Some read ≡ Some w = e in
+    let same : read ≡ w = cc in
+    (ap (λ (v : Words). Some v.ahead) same, ap (λ (v : Words). Some v.make) same)
 
 of_ahead : (given : Option Text) (n : ℕ) → ahead_of given ≡ Some n → (1 ≤ n) × (n ≤ 4)
 of_ahead None n e = let same : 1 ≡ n = cc in (omega (arith, same), omega (arith, same))

@@ -25,7 +25,6 @@ pub(crate) struct Task {
 }
 
 /// What the words are, and why they may be none.
-#[tactic(auto, using(crate::proofs::WordRanges::some_ahead, crate::proofs::WordRanges::few_ahead, crate::proofs::WordRanges::low_make, crate::proofs::WordRanges::high_make))]
 fn right_words(alloc: Global, words: &[String]) -> Result<Words, Stop>
     ensures meaning { IfOk result (λ w. meaning_of_words (map string_bytes words.now) ≡ Some w) }
     ensures some { IfOk result (λ w. 1 ≤ w.ahead) }
