@@ -130,6 +130,56 @@ def city(frames=60):
     return lines
 
 
+def town(frames=60):
+    """A flight over a town of 8 x 8 blocks. At each frame the application makes 2,000 edits, which move 1,000 cars; and DBASE
+    merges a block of 32 houses at the far end of the town and takes one out at the near end, which the application deletes.
+    The application waits for each merge behind the frame that it awaits, so the pictures are the same every time.
+    Nodes: 2 groups, 8 streets, 8 kinds of cars, 1,000 DCS, 64 blocks (DCS) and 2,048 geodes, and up to two blocks more."""
+    random = Random(1991)
+    lines = ["perfly 1", "size 320 240", f"lens 320 {UNIT} {1500 * UNIT}", "back 120 170 230", "app", "group 1", "add 0 1",
+             "group 2", "add 0 2"]
+    blocks = [block(random, b) for b in range(64 + frames)]
+    for b in range(64):
+        lines += blocks[b] + [f"add 1 {first_of(b)}"]
+    for street in range(8):
+        lines += [f"group {10 + street}", f"add 2 {10 + street}"]
+        geode(lines, 20 + street, 20 + street, house(random, -UNIT, -2 * UNIT, 2 * UNIT, 4 * UNIT, 2 * UNIT)[:10])
+        for car in range(street, 1000, 8):
+            lines += [f"dcs {100 + car}", f"add {10 + street} {100 + car}", f"add {100 + car} {20 + street}"]
+    starts = [random(8000) for _ in range(1000)]
+    for k in range(frames):
+        if k:
+            lines += [f"wait {k}"] + [f"delete {first_of(k - 1) + n}" for n in range(33)]
+        for car, start in enumerate(starts):
+            # lengths in tenths of a unit: half of the cars come towards the eye, all stay within the town
+            street, way = car % 8, 1 - car // 8 % 2 * 2
+            along = (start + way * k * (8 + car % 5) - 125 * k) % 8000 + 125 * k
+            lines += [f"trans {100 + car} {(street - 4) * 100 * UNIT + way * 3 * UNIT} {along * UNIT // 10} 0",
+                      f"rot {100 + car} {(1800 if way < 0 else 0) + (car + k) % 7 * 5} 0 0"]
+        lines += [f"view {(k % 24 - 12) * UNIT} {(k * 125 // 10 - 60) * UNIT} {45 * UNIT} {k % 12 * 10 - 60} -80 0", "frame"]
+    lines.append("dbase")
+    for k in range(1, frames):
+        lines += [f"await {k}", "buffer"] + blocks[63 + k] + [f"badd 1 {first_of(63 + k)}", f"bremove 1 {first_of(k - 1)}", "merge"]
+    return lines
+
+
+def first_of(b):
+    """The id of a block of the town; those of its houses follow."""
+    return 2000 + 33 * b
+
+
+def block(random, b):
+    """The lines that make block b of the town: 32 houses below a DCS. The blocks stand in rows of eight."""
+    node = first_of(b)
+    lines = [f"dcs {node}", f"trans {node} {(b % 8 - 4) * 100 * UNIT} {b // 8 * 100 * UNIT} 0"]
+    for k in range(32):
+        w, d = (5 + random(4)) * UNIT, (9 + random(8)) * UNIT
+        geode(lines, node + 1 + k, random(16),
+              house(random, (10 + k % 8 * 10) * UNIT, (9 + k // 8 * 21) * UNIT, w, d, (4 + random(26)) * UNIT))
+        lines.append(f"add {node} {node + 1 + k}")
+    return lines
+
+
 def fill(frames=30):
     """Twenty geodes of ten triangles each, every one about as large as the picture, at mixed depths."""
     random = Random(7)
@@ -215,6 +265,11 @@ def children(edits=0):
     return lines + ["frame"]
 
 
+def waiting(edits=250000):
+    """Many edits before the only frame, which DBASE awaits."""
+    return children(edits) + ["dbase", "await 1", "buffer", "merge"]
+
+
 def large(exponent, glass, frames):
     """Twenty tilted, shaded triangles that fill a picture of 512 x 512, at depths of about 2 to the exponent."""
     random = Random(11)
@@ -250,7 +305,7 @@ def instances(size=1024):
     return lines + ["frame"]
 
 
-PLAYS = {play.__name__: play for play in (flight, city, fill, edits, empty, merges, children, large, instances)}
+PLAYS = {play.__name__: play for play in (flight, city, town, fill, edits, empty, merges, children, waiting, large, instances)}
 
 
 def main():

@@ -8,6 +8,7 @@
     graph       the scene graph of a play, with the faults of its edits
     sight       what of a graph a view shows
     playing     plays a play without drawing it
+    fences      which merges of a play have more than one place
     pictures    PPM in; side by side, scaled down; PNG out
     limits      the limits of a play
 

@@ -4,6 +4,7 @@ use Rattle.std.proofs.lemmas.Bool.{eqb-true}
 use Rattle.std.proofs.lemmas.Bool.Decides.{nat_tests}
 use Rattle.std.proofs.Math.Nat.{le-max_left, le-max_right, max-le}
 use Rattle.std.specs.Option.{option_map}
+use Rattle.std.specs.List.{AllByRecursion}
 use Rattle.fx_math.specs.Plain.{Bounds}
 use Rattle.fx_math.specs.Views.{bounds_of}
 use Rattle.fx_math.specs.declared.boxes.Box3.{Box3}
@@ -14,10 +15,11 @@ use Rattle.pf_model.specs.Laws.{AreLow}
 use Rattle.pf_model.proofs.Places.{funext}
 use Rattle.bound_cache.specs.declared.marks.Mark.{Mark}
 use Rattle.bound_cache.specs.declared.marks.Mark.TheVariants.{Clean, Touched}
-use Rattle.bound_cache.specs.Caches.{CacheState, box_at, touched_at, AreBoxesOf, ChangesAreTouched, StandBelow, is_geode_at}
-use Rattle.bound_cache.specs.Tables.{TableState, is_touched, is_seen, with_mark, IsHalfway, StaysHalfway, IsReached, Proceeds, IsAtRest}
+use Rattle.bound_cache.specs.Caches.{CacheState, box_at, touched_at, AreBoxesOf, ChangesAreTouched, StandBelow, is_geode_at, IsCalm}
+use Rattle.bound_cache.specs.Tables.{TableState, is_touched, is_seen, is_still, with_mark, IsHalfway, parts, StaysHalfway, IsReached, IsStillAll, Proceeds, IsAtRest}
 use Rattle.bound_cache.proofs.Fills.{table, read_each}
-use Rattle.bound_cache.proofs.Marking.{rest_still, still_reached, moves_reached, start_at, end_at}
+use Rattle.bound_cache.proofs.Marking.{rest_still, still_reached, moves_reached, start_at, end_at, same_id}
+use Rattle.bound_cache.proofs.Parts.{parts_all, geode_parts}
 
 -- what a table at rest shows to callers
 pub record Shows (t : TableState) (boxes : ℕ → Option Bounds) (touched : ℕ → Bool) : Type 0 where
@@ -124,7 +126,30 @@ cleaned_right was look any high t u boxes after touched rest shown goes proceeds
     by id true e = reached id (is_low id high e)
     by id false e = reached_above was look any high t u touched rest shown.touched_are proceeds told stand id (is_high id high e)
 
+-- an untouched geode alone
+still_geode : (look : Look) (t : TableState) (id : ℕ) → is_geode_at look id ≡ true → is_still (t.marks id) ≡ true → IsStillAll look t (λ k. k == id)
+still_geode look t id geode still = record {
+  each = λ k e. subst (λ (j : ℕ). is_still (t.marks j) ≡ true) (sym (eqb-true k id e)) still;
+  parts_too = λ k e. subst (λ (j : ℕ). AllByRecursion (λ c. (c == id) ≡ true) (parts (look j))) (sym (eqb-true k id e)) none;
+}
+  where
+    none : AllByRecursion (λ c. (c == id) ≡ true) (parts (look id))
+    none = subst (λ (ps : List ℕ). AllByRecursion (λ c. (c == id) ≡ true) ps) (sym (geode_parts (look id) geode)) tt
+
+-- nodes with all below them, none of which was touched
+pub cleaned_calm : (look : Look) (any : Bool) (high : ℕ) (t u : TableState) (boxes after : ℕ → Option Bounds) (touched : ℕ → Bool) → IsAtRest t any high → Shows t boxes touched → Proceeds look t u → ((id : ℕ) → after id ≡ u.boxes id)
+    → (calm : ℕ → Bool) → IsCalm look touched calm → (id : ℕ) → calm id ≡ true → after id ≡ boxes id
+cleaned_calm look any high t u boxes after touched rest shown proceeds same calm is id h = same id ∙ proceeds.kept calm still id h ∙ sym (shown.boxes_are id)
+  where
+    still : IsStillAll look t calm
+    still = record {
+      each = λ k e. rest_still (t.marks k) (rest.unseen k) (sym (shown.touched_are k) ∙ is.untouched k e);
+      parts_too = λ k e. parts_all (λ c. calm c ≡ true) (look k) (is.below k e);
+    }
+
 pub cleaned_kept : (look : Look) (any : Bool) (high : ℕ) (t u : TableState) (boxes after : ℕ → Option Bounds) (touched : ℕ → Bool) → IsAtRest t any high → Shows t boxes touched → Proceeds look t u → ((id : ℕ) → after id ≡ u.boxes id)
     → (id : ℕ) → is_geode_at look id ≡ true → touched id ≡ false → after id ≡ boxes id
 cleaned_kept look any high t u boxes after touched rest shown proceeds same id geode untouched =
-    same id ∙ proceeds.kept id geode (rest_still (t.marks id) (rest.unseen id) (sym (shown.touched_are id) ∙ untouched)) ∙ sym (shown.boxes_are id)
+    same id
+    ∙ proceeds.kept (λ k. k == id) (still_geode look t id geode (rest_still (t.marks id) (rest.unseen id) (sym (shown.touched_are id) ∙ untouched))) id (same_id id)
+    ∙ sym (shown.boxes_are id)

@@ -9,9 +9,8 @@ use Rattle.pf_model.specs.Laws.{AreLow}
 use Rattle.pf_model.proofs.Levels.{all_map}
 use Rattle.bound_cache.specs.declared.marks.Mark.{Mark}
 use Rattle.bound_cache.specs.declared.marks.Mark.TheVariants.{Clean, Touched, Same, Changed}
-use Rattle.bound_cache.specs.Caches.{is_geode_at}
-use Rattle.bound_cache.specs.Tables.{TableState, is_seen, is_changed, is_still, with_box, with_mark, parts, is_stale, settled, IsHalfwayAt, IsHalfway, MovesOn, Proceeds}
-use Rattle.bound_cache.proofs.Parts.{geode_parts, same_step, new_step}
+use Rattle.bound_cache.specs.Tables.{TableState, is_seen, is_changed, is_still, with_box, with_mark, parts, is_stale, settled, IsHalfwayAt, IsHalfway, MovesOn, IsStillAll, Proceeds}
+use Rattle.bound_cache.proofs.Parts.{same_step, new_step}
 use Rattle.bound_cache.proofs.Marking.{moves_same, seen_right, seen_same, same_id, or_false, not_false}
 
 -- the boxes of seen parts are right
@@ -67,11 +66,25 @@ settled_seen look t id = by (is_stale look id t)
     by true = at Changed refl
     by false = at Same refl
 
--- an untouched geode is not stale
-still_geode : (look : Look) (t : TableState) (id : ℕ) → is_geode_at look id ≡ true → is_still (t.marks id) ≡ true → is_stale look id t ≡ false
-still_geode look t id geode still =
-    ap (λ b. not b || list_any (λ c. is_changed (t.marks c)) (parts (look id))) still
-    ∙ ap (λ ps. list_any (λ c. is_changed (t.marks c)) ps) (geode_parts (look id) geode)
+still_unchanged : (m : Mark) → is_still m ≡ true → is_changed m ≡ false
+still_unchanged Clean h = refl
+still_unchanged Touched h = absurd (cc)
+still_unchanged Same h = refl
+still_unchanged Changed h = absurd (cc)
+
+-- of still ids none has changed
+none_changed : (marks : ℕ → Mark) (calm : ℕ → Bool) (ps : List ℕ) → ((k : ℕ) → calm k ≡ true → is_still (marks k) ≡ true) → AllByRecursion (λ c. calm c ≡ true) ps
+    → list_any (λ c. is_changed (marks c)) ps ≡ false
+none_changed marks calm [] still all = refl
+none_changed marks calm (c ∷ cs) still all =
+    ap (λ b. b || list_any (λ d. is_changed (marks d)) cs) (still_unchanged (marks c) (still c all.0))
+    ∙ none_changed marks calm cs still all.1
+
+-- what is still is not stale
+still_fresh : (look : Look) (t : TableState) (calm : ℕ → Bool) (id : ℕ) → IsStillAll look t calm → calm id ≡ true → is_stale look id t ≡ false
+still_fresh look t calm id is h =
+    ap (λ b. not b || list_any (λ c. is_changed (t.marks c)) (parts (look id))) (is.each id h)
+    ∙ none_changed t.marks calm (parts (look id)) is.each (is.parts_too id h)
 
 pub settled_proceeds : (look : Look) (t : TableState) (id : ℕ) → Proceeds look t (settled look id t)
 settled_proceeds look t id = by (is_stale look id t) refl
@@ -80,13 +93,13 @@ settled_proceeds look t id = by (is_stale look id t) refl
     moves k m h true = h
     moves k m h false = moves_same (t.marks k)
 
-    -- a stale id is no untouched geode
-    other : is_stale look id t ≡ true → (k : ℕ) → is_geode_at look k ≡ true → is_still (t.marks k) ≡ true → (k == id) ≡ false
-    other e k geode still = at (k == id) refl
+    -- a stale id is none of them
+    other : is_stale look id t ≡ true → (calm : ℕ → Bool) → IsStillAll look t calm → (k : ℕ) → calm k ≡ true → (k == id) ≡ false
+    other e calm is k h = at (k == id) refl
       where
         at : (b : Bool) → (k == id) ≡ b → b ≡ false
         at false f = refl
-        at true f = absurd (let n : is_stale look k t ≡ false = still_geode look t k geode still in let s : is_stale look k t ≡ true = subst (λ (j : ℕ). is_stale look j t ≡ true) (sym (eqb-true k id f)) e in cc)
+        at true f = absurd (let n : is_stale look k t ≡ false = still_fresh look t calm k is h in let s : is_stale look k t ≡ true = subst (λ (j : ℕ). is_stale look j t ≡ true) (sym (eqb-true k id f)) e in cc)
 
     stays : (k : ℕ) → is_still (t.marks k) ≡ true → (b : Bool) → is_still (cond b Same (t.marks k)) ≡ true
     stays k still true = refl
@@ -95,11 +108,14 @@ settled_proceeds look t id = by (is_stale look id t) refl
     by : (b : Bool) → is_stale look id t ≡ b → Proceeds look t (cond b (with_mark id Changed (with_box id (box_step look t.boxes id) t)) (with_mark id Same t))
     by true e = record {
       on = λ k. moves k Changed tt (k == id);
-      kept = λ k geode still. ap (λ b. cond b (box_step look t.boxes id) (t.boxes k)) (other e k geode still);
-      still = λ k geode still. ap (λ b. is_still (cond b Changed (t.marks k))) (other e k geode still) ∙ still;
+      kept = λ calm is k h. ap (λ b. cond b (box_step look t.boxes id) (t.boxes k)) (other e calm is k h);
+      still = λ calm is. record {
+        each = λ k h. ap (λ b. is_still (cond b Changed (t.marks k))) (other e calm is k h) ∙ is.each k h;
+        parts_too = is.parts_too;
+      };
     }
     by false e = record {
       on = λ k. moves k Same tt (k == id);
-      kept = λ k geode still. refl;
-      still = λ k geode still. stays k still (k == id);
+      kept = λ calm is k h. refl;
+      still = λ calm is. record { each = λ k h. stays k (is.each k h) (k == id); parts_too = is.parts_too };
     }

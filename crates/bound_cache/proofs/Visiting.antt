@@ -10,13 +10,13 @@ use Rattle.bound_cache.proofs.Settling.{settled_right, settled_seen, settled_pro
 use borrow.Author.Count.{below_more}
 
 pub proceeds_same : (look : Look) (t : TableState) → Proceeds look t t
-proceeds_same look t = record { on = λ k. moves_same (t.marks k); kept = λ k geode still. refl; still = λ k geode still. still }
+proceeds_same look t = record { on = λ k. moves_same (t.marks k); kept = λ calm is k h. refl; still = λ calm is. is }
 
 pub proceeds_trans : (look : Look) (t u v : TableState) → Proceeds look t u → Proceeds look u v → Proceeds look t v
 proceeds_trans look t u v p q = record {
   on = λ k. moves_trans (t.marks k) (u.marks k) (v.marks k) (p.on k) (q.on k);
-  kept = λ k geode still. q.kept k geode (p.still k geode still) ∙ p.kept k geode still;
-  still = λ k geode still. q.still k geode (p.still k geode still);
+  kept = λ calm is k h. q.kept calm (p.still calm is) k h ∙ p.kept calm is k h;
+  still = λ calm is. q.still calm (p.still calm is);
 }
 
 -- the first of the parts of a node visited, each with so many levels

@@ -1,9 +1,10 @@
 -- What clauses see of a cache of boxes, and when its boxes are those of a scene.
-use Rattle.std.specs.Prelude.{◌≡◌, ℕ, ◌≤◌, Bool, false, List, slice_index_or, Option, None}
+use Rattle.std.specs.Prelude.{◌≡◌, ℕ, ◌≤◌, Bool, true, false, List, slice_index_or, Option, None}
+use Rattle.std.specs.List.{AllByRecursion}
 use Rattle.std.specs.Option.{option_map_or}
 use Rattle.fx_math.specs.Plain.{Bounds}
 use Rattle.pf_model.specs.Kinds.{is_geode}
-use Rattle.pf_model.specs.Graphs.{Look}
+use Rattle.pf_model.specs.Graphs.{Look, children_of}
 use Rattle.pf_model.specs.Boxes.{box_of}
 
 -- The boxes that are kept, and whether each id was touched since the last clean, both by the id; and one more than the
@@ -31,6 +32,11 @@ pub record ChangesAreTouched (was look : Look) (touched : ℕ → Bool) : Type 0
 -- nodes stand only under ids below this
 abbrev pub StandBelow : Look → ℕ → Type 0
 StandBelow look high = (id : ℕ) → high ≤ id → look id ≡ None
+
+-- A set of nodes with all below them, none of which was touched.
+pub record IsCalm (look : Look) (touched calm : ℕ → Bool) : Type 0 where
+  pub untouched : (id : ℕ) → calm id ≡ true → touched id ≡ false
+  pub below : (id : ℕ) → calm id ≡ true → AllByRecursion (λ c. calm c ≡ true) (children_of look id)
 
 -- a geode stands under the id
 abbrev pub is_geode_at : Look → ℕ → Bool

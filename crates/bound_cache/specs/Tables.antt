@@ -1,12 +1,11 @@
 -- How far a clean has come from the boxes of the scene as it was to those of the scene as it is.
 use Rattle.std.specs.Prelude.{◌≡◌, ⊤, ℕ, suc, ◌<◌, ◌≤◌, Bool, true, false, not, ◌||◌, ◌==◌, if◌then◌else◌, List, [], Option, Some, None}
-use Rattle.std.specs.List.{list_any}
+use Rattle.std.specs.List.{AllByRecursion, list_any}
 use Rattle.fx_math.specs.Plain.{Bounds}
 use Rattle.pf_model.specs.declared.nodes.Node.{Node}
 use Rattle.pf_model.specs.Kinds.{is_geode}
 use Rattle.pf_model.specs.Graphs.{Look, height_in}
 use Rattle.pf_model.specs.Boxes.{box_in, box_of, box_step}
-use Rattle.bound_cache.specs.Caches.{is_geode_at}
 use Rattle.bound_cache.specs.declared.marks.Mark.{Mark}
 use Rattle.bound_cache.specs.declared.marks.Mark.TheVariants.{Clean, Touched, Same, Changed}
 
@@ -83,11 +82,16 @@ MovesOn m Touched = m ≡ Touched
 MovesOn m Same = ⊤
 MovesOn m Changed = ⊤
 
--- What each step of a clean keeps, whatever the scene is: where it came to, and the boxes of untouched geodes.
+-- A set of ids that are neither touched nor changed, together with all of whose boxes theirs are made.
+pub record IsStillAll (look : Look) (t : TableState) (calm : ℕ → Bool) : Type 0 where
+  pub each : (id : ℕ) → calm id ≡ true → is_still (t.marks id) ≡ true
+  pub parts_too : (id : ℕ) → calm id ≡ true → AllByRecursion (λ c. calm c ≡ true) (parts (look id))
+
+-- What each step of a clean keeps, whatever the scene is: where it came to, and the boxes of such a set.
 pub record Proceeds (look : Look) (before after : TableState) : Type 0 where
   pub on : (id : ℕ) → MovesOn (before.marks id) (after.marks id)
-  pub kept : (id : ℕ) → is_geode_at look id ≡ true → is_still (before.marks id) ≡ true → after.boxes id ≡ before.boxes id
-  pub still : (id : ℕ) → is_geode_at look id ≡ true → is_still (before.marks id) ≡ true → is_still (after.marks id) ≡ true
+  pub kept : (calm : ℕ → Bool) → IsStillAll look before calm → (id : ℕ) → calm id ≡ true → after.boxes id ≡ before.boxes id
+  pub still : (calm : ℕ → Bool) → IsStillAll look before calm → IsStillAll look after calm
 
 -- the clean came to the id, or had no need to: it is not touched and has no node
 abbrev pub IsReached : Look → ℕ → Mark → Type 0

@@ -1,10 +1,10 @@
 //! The cache of boxes as its callers see it.
-ghost use Rattle.std.specs.Prelude.{◌≡◌, ℕ, ◌+◌, ◌||◌, ◌==◌, true, false, max, None, IfOk};
+ghost use Rattle.std.specs.Prelude.{◌≡◌, ℕ, ◌+◌, ◌||◌, ◌==◌, Bool, true, false, max, None, IfOk};
 ghost use Rattle.std.specs.Option.{option_map};
 ghost use Rattle.fx_math.specs.Views.{bounds_of};
 ghost use Rattle.pf_model.specs.Graphs.{Look};
 ghost use Rattle.pf_model.specs.Limits.{KeepsLimits};
-ghost use Rattle.bound_cache.specs.Caches.{box_at, touched_at, AreBoxesOf, ChangesAreTouched, StandBelow, is_geode_at};
+ghost use Rattle.bound_cache.specs.Caches.{box_at, touched_at, AreBoxesOf, ChangesAreTouched, StandBelow, is_geode_at, IsCalm};
 
 use crate::marks::Mark;
 use crate::table::BoxTable;
@@ -72,8 +72,9 @@ impl BoxCache {
     /// Brings the boxes to those of a scene. Where the boxes were those of the scene as it was, each id whose node has
     /// changed since was touched, the nodes of the scene as it was stood under ids up to the greatest that was ever
     /// touched, and the scene is within the limits, all boxes are then those from scratch. On every scene it goes at
-    /// most 32 nodes deep, and an untouched geode keeps its box. From the empty scene of `new` on the nodes stand where that is
-    /// asked, as long as each change is touched.
+    /// most 32 nodes deep, an untouched geode keeps its box, and so does each node that is untouched with all below it, whether
+    /// the box was right or not. From the empty scene of `new` on the nodes stand where that is asked, as long as each change is
+    /// touched.
     pub fn clean<V: NodeView>(&mut self, scene: &V)
         ensures right { (was : Look) → AreBoxesOf was (box_at self.old)
             → ChangesAreTouched was (V.look scene.now) (touched_at self.old) → StandBelow was self.old.high
@@ -82,6 +83,8 @@ impl BoxCache {
             → StandBelow was self.old.high → StandBelow (V.look scene.now) self.new.high }
         ensures kept { (id : ℕ) → is_geode_at (V.look scene.now) id ≡ true → touched_at self.old id ≡ false
             → box_at self.new id ≡ box_at self.old id }
+        ensures calm { (calm : ℕ → Bool) → IsCalm (V.look scene.now) (touched_at self.old) calm
+            → (id : ℕ) → calm id ≡ true → box_at self.new id ≡ box_at self.old id }
         ensures untouched { (id : ℕ) → touched_at self.new id ≡ false }
         ensures high { self.new.high ≡ self.old.high }
     {

@@ -12,9 +12,9 @@ ghost use Rattle.draw_list.specs.Shown.{shown, visited, stats_of};
 ghost use Rattle.cull_walk.specs.Premises.{CanBeExact, unnamed};
 ghost use Rattle.cull_walk.specs.Working.{Work, At, Scene, counted, in_frustum, with_drawn, own_pose, joint_below, with_below, tint_at, culled, walked};
 
+use crate::frustum::Frustum;
 use draw_list::{DrawList, Item, Stats, Tint};
 use fx_math::{Box3, Lens};
-use pf_bounds::outside;
 use pf_model::{Kind, NodeView, Pose, SceneView, Steps, View, chosen_children, squared_distance};
 use std::sync::ledger::Ledger;
 
@@ -48,9 +48,43 @@ pub fn cull<V: SceneView, L: Ledger>(
     ensures tests { CanBeExact (V.look scene.now) (V.boxes scene.now) time out.old
         → steps.new ≡ steps.old + visited (V.look scene.now) time view.now lens.now }
 {
+    cull_through(scene, time, view, lens, out, steps)
+}
+
+/// Fills a list with what a scene shows at a time, for a view and through a frustum, in the order of the walk. A node that is
+/// outside is left with all below it, and so costs one test. Of the frustum it knows its answers alone, each of which is a
+/// step of `steps`; a node without a box is a step too.
+///
+/// On every scene it goes no deeper than 32 nodes, and leaves out what finds no room: an item or triangles alone, and with a
+/// joint all below it. What it leaves of the room is what was not filled, and the joint 0 is the view. It takes no memory.
+pub fn cull_through<V: SceneView, F: Frustum<L>, L: Ledger>(
+    scene: &V,
+    time: u32,
+    view: &View,
+    frustum: &F,
+    out: &mut DrawList,
+    steps: &mut Steps<L>,
+) -> Stats
+    ensures walk { let sight : Scene = record { look = V.look scene.now; boxes = V.boxes scene.now; lens = F.lens frustum.now; time = time } in
+        let there : Work = record { list = out.new; tests = steps.new; visited = result.visited } in
+        there ≡ walked sight view.now out.old steps.old }
+    ensures items { result.shown ≡ length out.new.items.items }
+    ensures states { result.states ≡ state_count (instances_in out.new) }
+    ensures joint_zero { steps_at out.new.joints.lists 0 ≡ steps_of_view view.now }
+    ensures item_room { out.new.items.spare + length out.new.items.items ≡ out.old.items.spare + length out.old.items.items }
+    ensures joint_room { out.new.joints.spare + length out.new.joints.lists
+        ≡ out.old.joints.spare + length out.old.joints.lists }
+    ensures tri_room { out.new.kept.spare + length out.new.kept.tris ≡ out.old.kept.spare + length out.old.kept.tris }
+    ensures list { CanBeExact (V.look scene.now) (V.boxes scene.now) time out.old
+        → instances_in out.new ≡ map unnamed (shown (V.look scene.now) time view.now (F.lens frustum.now)) }
+    ensures numbers { CanBeExact (V.look scene.now) (V.boxes scene.now) time out.old
+        → result ≡ stats_of (V.look scene.now) time view.now (F.lens frustum.now) }
+    ensures tests { CanBeExact (V.look scene.now) (V.boxes scene.now) time out.old
+        → steps.new ≡ steps.old + visited (V.look scene.now) time view.now (F.lens frustum.now) }
+{
     out.clear(view);
     let mut visited = 0;
-    cull_from(scene, time, lens, 32, 0, 0, 0, out, steps, &mut visited);
+    cull_from(scene, time, frustum, 32, 0, 0, 0, out, steps, &mut visited);
     Stats {
         shown: out.len() as u32,
         states: out.states(),
@@ -60,10 +94,10 @@ pub fn cull<V: SceneView, L: Ledger>(
 
 /// Walks through a node and the chosen children below it, with at most so many levels, and appends what is in sight to a
 /// list. A node that is outside is left with all below it. `joint` is that of the coordinates above the node.
-pub(crate) fn cull_from<V: SceneView, L: Ledger>(
+pub(crate) fn cull_from<V: SceneView, F: Frustum<L>, L: Ledger>(
     scene: &V,
     time: u32,
-    lens: &Lens,
+    frustum: &F,
     levels: u32,
     id: u16,
     joint: u32,
@@ -76,7 +110,7 @@ pub(crate) fn cull_from<V: SceneView, L: Ledger>(
     requires small { shift + 4096 * levels < 2 ^ 32 }
     ensures work { let there : Work = record { list = out.new; tests = steps.new; visited = visited.new } in
         let before : Work = record { list = out.old; tests = steps.old; visited = visited.old } in
-        let sight : Scene = record { look = V.look scene.now; boxes = V.boxes scene.now; lens = lens.now; time = time } in
+        let sight : Scene = record { look = V.look scene.now; boxes = V.boxes scene.now; lens = F.lens frustum.now; time = time } in
         let at : At = record { id = id; joint = joint; shift = shift } in
         there ≡ culled levels sight before at }
     ensures grows { length out.old.joints.lists ≤ length out.new.joints.lists }
@@ -84,9 +118,8 @@ pub(crate) fn cull_from<V: SceneView, L: Ledger>(
     if levels == 0 {
         return;
     }
-    steps.tick();
     *visited = visited.saturating_add(1);
-    let Some(around) = box_in_sight(scene, lens, id, joint, out) else {
+    let Some(around) = box_in_sight(scene, frustum, id, joint, out, steps) else {
         return;
     };
     let Some(node) = scene.node(id) else {
@@ -106,7 +139,7 @@ pub(crate) fn cull_from<V: SceneView, L: Ledger>(
         cull_from(
             scene,
             time,
-            lens,
+            frustum,
             levels - 1,
             children[place],
             below,
@@ -118,21 +151,26 @@ pub(crate) fn cull_from<V: SceneView, L: Ledger>(
     }
 }
 
-/// The box of a node in eye coordinates, where it has one that is not outside.
-fn box_in_sight<V: SceneView>(
+/// The box of a node in eye coordinates, where it has one that is not outside. It is one step in any case.
+fn box_in_sight<V: SceneView, F: Frustum<L>, L: Ledger>(
     scene: &V,
-    lens: &Lens,
+    frustum: &F,
     id: u16,
     joint: u32,
     out: &DrawList,
+    steps: &mut Steps<L>,
 ) -> Option<Box3>
     requires { joint < length out.now.joints.lists }
-    ensures { option_map bounds_of result
-        ≡ in_frustum lens.now (eye_box (V.boxes scene.now) id (steps_at out.now.joints.lists joint)) }
+    ensures sight { option_map bounds_of result
+        ≡ in_frustum (F.lens frustum.now) (eye_box (V.boxes scene.now) id (steps_at out.now.joints.lists joint)) }
+    ensures step { steps.new ≡ steps.old + 1 }
 {
-    let b = scene.box_of(id)?;
+    let Some(b) = scene.box_of(id) else {
+        steps.tick();
+        return None;
+    };
     let around = out.eye_box(joint, &b);
-    if outside(&around, lens) {
+    if frustum.is_outside(&around, steps) {
         None
     } else {
         Some(around)

@@ -14,7 +14,7 @@ use Rattle.pf_model.specs.Limits.{IsRising, KeepsLimits}
 use Rattle.pf_model.specs.Copies.{UpdateList, updated, updated_by, updates_of, copy_of}
 use Rattle.pf_model.proofs.Places.{node_at_step}
 use Rattle.pf_model.proofs.Histories.{limits_empty}
-use Rattle.bound_cache.specs.Caches.{CacheState, box_at, touched_at, AreBoxesOf, ChangesAreTouched, StandBelow}
+use Rattle.bound_cache.specs.Caches.{CacheState, box_at, touched_at, AreBoxesOf, ChangesAreTouched, StandBelow, IsCalm}
 use Rattle.bound_cache.proofs.Parts.{none_box}
 use Rattle.multibuffer.specs.StageCopies.{HasRightBoxes, IsTended, entry_at, is_named}
 use Rattle.multibuffer.proofs.Handing.{handed, handed_entry, handed_more, handed_all}
@@ -160,6 +160,10 @@ copy_more lists us was nodes after before =
 -- the changes of a copy are those of what the list names
 pub changes_named : (us : UpdateList) (was nodes : Nodes) (touched : ℕ → Bool) → ((k : ℕ) → is_named k us ≡ false → node_at nodes k ≡ node_at was k) → ((k : ℕ) → touched k ≡ is_named k us) → ChangesAreTouched (node_at was) (node_at nodes) touched
 changes_named us was nodes touched looks touches = record { same = λ k none. looks k (sym (touches k) ∙ none) }
+
+-- what the list leaves alone is what a clean after it leaves alone
+pub calm_named : (look : Look) (us : UpdateList) (touched calm : ℕ → Bool) → ((k : ℕ) → touched k ≡ is_named k us) → IsCalm look (λ k. is_named k us) calm → IsCalm look touched calm
+calm_named look us touched calm touches is = record { untouched = λ k h. touches k ∙ is.untouched k h; below = is.below }
 
 pub boxes_still : (was : Nodes) (kept boxes : ℕ → Option Bounds) → AreBoxesOf (node_at was) kept → ((k : ℕ) → boxes k ≡ kept k) → AreBoxesOf (node_at was) boxes
 boxes_still was kept boxes right same = record { each = λ k. same k ∙ right.each k }

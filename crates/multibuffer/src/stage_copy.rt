@@ -1,9 +1,9 @@
 //! The copy of the scene that a stage keeps.
-ghost use Rattle.std.specs.Prelude.{◌≡◌, ℕ, ◌≤◌, true, false, [], ◌∷◌, ◌++◌, List, map, IfOk};
+ghost use Rattle.std.specs.Prelude.{◌≡◌, ℕ, ◌≤◌, Bool, true, false, [], ◌∷◌, ◌++◌, List, map, IfOk};
 ghost use Rattle.pf_model.specs.Graphs.{Look, node_at};
 ghost use Rattle.pf_model.specs.Limits.{KeepsLimits};
 ghost use Rattle.pf_model.specs.Copies.{UpdateList, updated_by, updates_of, copy_of};
-ghost use Rattle.bound_cache.specs.Caches.{box_at, touched_at, is_geode_at, AreBoxesOf, ChangesAreTouched, StandBelow};
+ghost use Rattle.bound_cache.specs.Caches.{box_at, touched_at, is_geode_at, AreBoxesOf, ChangesAreTouched, StandBelow, IsCalm};
 ghost use Rattle.multibuffer.specs.StageCopies.{is_named, boxes_of, HasRightBoxes};
 
 use crate::node_table::NodeTable;
@@ -56,6 +56,8 @@ fn refresh(cache: &mut BoxCache, nodes: &NodeTable)
         → KeepsLimits (node_at nodes.now) → AreBoxesOf (node_at nodes.now) (box_at cache.new) }
     ensures kept { (id : ℕ) → is_geode_at (node_at nodes.now) id ≡ true → touched_at cache.old id ≡ false
         → box_at cache.new id ≡ box_at cache.old id }
+    ensures calm { (calm : ℕ → Bool) → IsCalm (node_at nodes.now) (touched_at cache.old) calm
+        → (id : ℕ) → calm id ≡ true → box_at cache.new id ≡ box_at cache.old id }
     ensures untouched { (id : ℕ) → touched_at cache.new id ≡ false }
     ensures high { cache.new.high ≡ cache.old.high }
 {
@@ -83,7 +85,8 @@ impl StageCopy {
     }
 
     /// Sets each listed id to its node, or clears it, hands back what stood there in the same list, and brings the boxes
-    /// to the nodes. Where they were right before and the copy is within the limits, they are right.
+    /// to the nodes. Where they were right before and the copy is within the limits, they are right. A node that is not listed,
+    /// nor any below it, has the box that the cache had of it before, whether it was right or not.
     pub fn take(&mut self, updates: Updates) -> Updates
         ensures nodes { self.new.nodes ≡ updated_by self.old.nodes updates }
         ensures copy { (lists : List UpdateList) → self.old.nodes ≡ copy_of lists
@@ -92,11 +95,21 @@ impl StageCopy {
         ensures right { HasRightBoxes self.old → KeepsLimits (node_at self.new.nodes) → HasRightBoxes self.new }
         ensures kept { (id : ℕ) → is_geode_at (node_at self.new.nodes) id ≡ true → is_named id updates ≡ false
             → boxes_of self.new id ≡ boxes_of self.old id }
+        ensures calm { (calm : ℕ → Bool) → IsCalm (node_at self.new.nodes) (λ id. is_named id updates) calm
+            → (id : ℕ) → calm id ≡ true → boxes_of self.new id ≡ boxes_of self.old id }
     {
         let mut updates = updates;
         take_all(&mut self.nodes, &mut self.cache, &mut updates);
         refresh(&mut self.cache, &self.nodes);
         updates
+    }
+
+    /// The cache of boxes, as its last clean left it: the boxes of the copy are its boxes.
+    pub fn cache(&self) -> &BoxCache
+        ensures boxes { result.now.boxes ≡ self.now.boxes }
+        ensures clean { (id : ℕ) → touched_at result.now id ≡ false }
+    {
+        &self.cache
     }
 }
 
@@ -112,6 +125,6 @@ impl SceneView for StageCopy {
     ghost boxes = { boxes_of };
 
     fn box_of(&self, id: u16) -> Option<Box3> {
-        self.cache.box_of(id)
+        self.cache().box_of(id)
     }
 }

@@ -1,21 +1,47 @@
 -- Cells of keys.
-use Rattle.std.proofs.Common.{◌≡◌, ℕ, ◌+◌, ◌-◌, ◌<◌, ◌≤◌, ◌==◌, ◌⊎◌, inl, inr, Bool, false, cond, List, Option, Some, None, map, length, get_or, set, replicate, sym, ◌∙◌, ap, subst, arith}
-use Rattle.std.proofs.lemmas.List.{map-set, length-replicate, get_or-replicate, get_or_read}
-use Rattle.std.proofs.Math.ListN.{get_or-map, get_or-eq_default}
+use Rattle.std.proofs.Common.{◌≡◌, ℕ, suc, ◌+◌, ◌-◌, ◌<◌, ◌≤◌, ◌==◌, ◌⊎◌, inl, inr, Bool, false, cond, List, [], ◌∷◌, ◌++◌, Option, Some, None, map, length, get_or, set, replicate, refl, sym, ◌∙◌, ap, subst, arith}
+use Rattle.std.proofs.lemmas.List.{map-set, length-replicate, length-set, length-append, get_or-replicate, set-append_left, set-get_or, append_assoc}
+use Rattle.std.proofs.Math.ListN.{get_or-map, get_or-eq_default, get_or-append}
+use Rattle.std.proofs.Math.Seq.{get_or-append_right}
 use Rattle.std.proofs.lemmas.Bool.{cases_lt}
 use Rattle.std.proofs.lemmas.Bool.Decides.{nat_tests}
-use Rattle.pf_edits.specs.Tables.{key_in}
+use Rattle.pf_edits.specs.Tables.{key_in, cells_of_all}
+
+-- what stands in a row of like cells, past its end too
+zero_at : (n i none : ℕ) → get_or (replicate n none) i none ≡ none
+zero_at n i none = by (cases_lt i n)
+  where
+    by : (i < n) ⊎ (n ≤ i) → get_or (replicate n none) i none ≡ none
+    by (inl h) = get_or-replicate n i none none h
+    by (inr h) = get_or-eq_default (replicate n none) none (subst (λ (m : ℕ). m ≤ i) (sym (length-replicate n none)) h)
+
+-- the cell of an id among all is what is written there, or 0
+among_all : (cells : List ℕ) (id : ℕ) → get_or (cells_of_all cells) id 0 ≡ get_or cells id 0
+among_all cells id = (by (cases_lt id (length cells)))
+  where
+    by : (id < length cells) ⊎ (length cells ≤ id) → get_or (cells ++ replicate (65536 - length cells) 0) id 0 ≡ get_or cells id 0
+    by (inl h) = get_or-append cells (replicate (65536 - length cells) 0) 0 id h
+    by (inr h) = get_or-append_right cells (replicate (65536 - length cells) 0) id 0 h ∙ zero_at (65536 - length cells) (id - length cells) 0 ∙ sym (get_or-eq_default cells 0 h)
 
 -- what is read of a cell is the key of its id
-pub cell_at : (cells : List ℕ) (id : ℕ) → get_or (map key_in cells) id None ≡ key_in (get_or cells id 0)
-cell_at cells id = get_or-map key_in cells id 0
-
-pub read_at : (cells : List ℕ) (i id x : ℕ) → length cells ≡ 65536 → i ≡ id → id < 65536 → x ≡ get_or cells i x → key_in x ≡ get_or (map key_in cells) id None
-read_at cells i id x wide same within read = ap key_in (get_or_read cells i x (omega arith) read 0) ∙ ap (λ j. key_in (get_or cells j 0)) same ∙ sym (cell_at cells id)
+pub read_at : (cells : List ℕ) (id : ℕ) → key_in (get_or cells id 0) ≡ get_or (map key_in (cells_of_all cells)) id None
+read_at cells id = ap key_in (sym (among_all cells id)) ∙ sym (get_or-map key_in (cells_of_all cells) id 0)
 
 -- a cell written is the key of its id set
-pub cell_set : (cells : List ℕ) (id cell : ℕ) (key : Option ℕ) → key_in cell ≡ key → map key_in (set cells id cell) ≡ set (map key_in cells) id key
-cell_set cells id cell key is = map-set key_in cells id cell ∙ ap (set (map key_in cells) id) is
+pub cell_set : (cells : List ℕ) (id cell : ℕ) (key : Option ℕ) → id < length cells → key_in cell ≡ key
+    → map key_in (cells_of_all (set cells id cell)) ≡ set (map key_in (cells_of_all cells)) id key
+cell_set cells id cell key within is =
+    ap (map key_in) (sym grown) ∙ map-set key_in (cells_of_all cells) id cell ∙ ap (set (map key_in (cells_of_all cells)) id) is
+  where
+    grown : set (cells_of_all cells) id cell ≡ cells_of_all (set cells id cell)
+    grown = (set-append_left cells (replicate (65536 - length cells) 0) id cell within
+        ∙ ap (λ n. set cells id cell ++ replicate (65536 - n) 0) (sym (length-set cells id cell)))
+
+-- where no cell is written, no key is to be taken away
+pub cell_unwritten : (cells : List ℕ) (id : ℕ) → length cells ≤ id → map key_in (cells_of_all cells) ≡ set (map key_in (cells_of_all cells)) id None
+cell_unwritten cells id past =
+    sym (ap (set (map key_in (cells_of_all cells)) id) (sym (sym (read_at cells id) ∙ ap key_in (get_or-eq_default cells 0 past)))
+    ∙ set-get_or (map key_in (cells_of_all cells)) id None)
 
 -- a key and one more in a cell
 pub cell_of : (key : ℕ) → key_in (key + 1) ≡ Some key
@@ -29,12 +55,17 @@ cell_of key = ap (λ (t : Bool). cond t None (Some (key + 1 - 1))) other ∙ ap 
 
 -- Cells of 0
 
-pub all_cells : (n : ℕ) (cells : List ℕ) → n ≡ 65536 → cells ≡ replicate n 0 → length cells ≡ 65536
-all_cells n cells wide made = ap length made ∙ length-replicate n 0 ∙ wide
-
-pub no_key : (n : ℕ) (cells : List ℕ) → cells ≡ replicate n 0 → (id : ℕ) → get_or (map key_in cells) id None ≡ None
-no_key n cells made id = cell_at cells id ∙ ap (λ cs. key_in (get_or cs id 0)) made ∙ by (cases_lt id n)
+-- one cell of 0 more that is written
+pub cell_more : (cells : List ℕ) → length cells < 65536 → cells_of_all (cells ++ 0 ∷ []) ≡ cells_of_all cells
+cell_more cells few = (append_assoc cells (0 ∷ []) (replicate (65536 - length (cells ++ 0 ∷ [])) 0) ∙ ap (λ n. cells ++ replicate n 0) counted)
   where
-    by : (id < n) ⊎ (n ≤ id) → key_in (get_or (replicate n 0) id 0) ≡ None
-    by (inl h) = ap key_in (get_or-replicate n id 0 0 h)
-    by (inr h) = ap key_in (get_or-eq_default (replicate n 0) 0 (subst (λ (m : ℕ). m ≤ id) (sym (length-replicate n 0)) h))
+    counted : suc (65536 - length (cells ++ 0 ∷ [])) ≡ 65536 - length cells
+    counted = ap (λ n. suc (65536 - n)) (length-append cells (0 ∷ [])) ∙ omega arith
+
+-- all ids have a cell
+pub all_wide : (cells : List ℕ) → length cells ≤ 65536 → length (cells_of_all cells) ≡ 65536
+all_wide cells few = (length-append cells (replicate (65536 - length cells) 0) ∙ ap (λ n. length cells + n) (length-replicate (65536 - length cells) 0) ∙ omega arith)
+
+-- where nothing is written, no id has a key
+pub no_key : (cells : List ℕ) → cells ≡ [] → (id : ℕ) → get_or (map key_in (cells_of_all cells)) id None ≡ None
+no_key cells none id = sym (read_at cells id) ∙ ap (λ (cs : List ℕ). key_in (get_or cs id 0)) none

@@ -1,5 +1,5 @@
 -- The records of the working graph: what stands under each id.
-use Rattle.std.specs.Prelude.{◌≡◌, ℕ, ◌≤◌, ◌-◌, ◌==◌, if◌then◌else◌, List, map, length, count_by, Option, Some, None, is_some, true, slice_index_or}
+use Rattle.std.specs.Prelude.{◌≡◌, ℕ, ◌≤◌, ◌-◌, ◌==◌, if◌then◌else◌, List, ◌++◌, map, replicate, length, count_by, Option, Some, None, is_some, true, slice_index_or}
 use Rattle.std.specs.List.{All, sum_by}
 use Rattle.std.specs.Option.{option_and_then, option_map_or}
 use Rattle.pf_model.specs.Totals.{triangles_of}
@@ -26,6 +26,15 @@ slots_of slab keys = map (option_and_then (get slab)) keys
 -- the key that a cell has: none, or one less than the cell
 abbrev pub key_in : ℕ → Option ℕ
 key_in cell = if cell == 0 then None else Some (cell - 1)
+
+-- the cells of all ids: those that are written, and 0 for each id past them
+abbrev pub cells_of_all : List ℕ → List ℕ
+cells_of_all cells = cells ++ replicate (65536 - length cells) 0
+
+-- No more cells are written than there are ids, and there is memory for all.
+pub record AreCells (cells : List ℕ) (capacity : ℕ) : Type 0 where
+  pub few : length cells ≤ 65536
+  pub reserved : 65536 ≤ capacity
 
 -- Each of the 65,536 ids has no key or that of a record of its own; all records have a key, there is room for all nodes
 -- of a graph, and each key fits a cell.

@@ -1,12 +1,18 @@
-//! Keys by ids, in two bytes each, so that a new graph is quickly made.
-ghost use Rattle.std.specs.Prelude.{◌≡◌, ◌<◌, Some, None, IfOk, slice_index_or, slice_set, length, ℕ};
-ghost use Rattle.pf_edits.specs.Tables.{key_in};
+//! Keys by ids, in two bytes each, of which no more are written than the ids that were used ask, so that a new graph is
+//! quickly made.
+ghost use Rattle.std.specs.Prelude.{◌≡◌, ◌<◌, ◌≤◌, Some, None, IfOk, slice_index_or, slice_set, length, ℕ};
+ghost use Rattle.std.specs.Vec.{vec_len, vec_capacity};
+ghost use Rattle.pf_edits.specs.Tables.{key_in, cells_of_all};
 
 use pf_io::NoMemory;
 use std::alloc::Global;
 use std::marker::Model;
 
-/// The keys of the ids that have one. Contracts see them by id.
+/// The number of ids.
+const IDS: usize = 65_536;
+
+/// The keys of the ids that have one. Contracts see them by id. There is memory for the cells of all ids, and as many are
+/// written as the greatest id that ever got a key asks.
 #[derive(Debug, Drop)]
 pub(crate) struct Keys {
     /// Under each id its key and one more, or 0 where it has none.
@@ -14,32 +20,32 @@ pub(crate) struct Keys {
 }
 
 impl Model for Keys {
-    ghost use Rattle.std.specs.Prelude.{◌≡◌, ℕ, List, Option, map, length};
-    ghost use Rattle.pf_edits.specs.Tables.{key_in};
+    ghost use Rattle.std.specs.Prelude.{ℕ, List, Option, map};
+    ghost use Rattle.std.specs.Vec.{vec_capacity};
+    ghost use Rattle.pf_edits.specs.Tables.{key_in, cells_of_all, AreCells};
 
     ghost Value = { List (Option ℕ) };
 
-    ghost view = { λ k. map key_in k.cells.items };
+    ghost view = { λ k. map key_in (cells_of_all k.cells.items) };
 
-    ghost invariant = { λ k. length k.cells.items ≡ 65536 };
+    ghost invariant = { λ k. AreCells k.cells.items (vec_capacity k.cells) };
 }
 
 impl Keys {
-    /// No keys.
+    /// No keys. It takes the memory of all cells.
     pub(crate) fn new(alloc: Global) -> Result<Keys, NoMemory>
         ensures length { IfOk result (λ k. length k ≡ 65536) }
         ensures none { IfOk result (λ k. (id : ℕ) → slice_index_or k id None ≡ None) }
     {
-        Ok(Keys {
-            cells: vec![in alloc; 0; 65_536]?,
-        })
+        let cells = Vec::with_capacity(alloc, IDS)?;
+        Ok(Keys { cells })
     }
 
     /// The key of an id.
     pub(crate) fn get(&self, id: u16) -> Option<usize>
         ensures { result ≡ slice_index_or self.now id None }
     {
-        key_in(self.cells[usize::from(id)])
+        key_in(cell_at(self.cells.as_slice(), usize::from(id)))
     }
 
     /// Gives an id a key.
@@ -47,6 +53,7 @@ impl Keys {
         requires { key < 65535 }
         ensures { self.new ≡ slice_set self.old id (Some key) }
     {
+        lengthen(&mut self.cells, usize::from(id) + 1);
         self.cells[usize::from(id)] = key as u16 + 1;
     }
 
@@ -54,7 +61,34 @@ impl Keys {
     pub(crate) fn clear(&mut self, id: u16)
         ensures { self.new ≡ slice_set self.old id None }
     {
-        self.cells[usize::from(id)] = 0;
+        if usize::from(id) < self.cells.len() {
+            self.cells[usize::from(id)] = 0;
+        }
+    }
+}
+
+/// Writes further cells without a key, until there are this many; there is memory for them.
+fn lengthen(cells: &mut Vec<u16>, count: usize)
+    requires within { count ≤ 65536 }
+    requires few { length cells.old.items ≤ 65536 }
+    requires reserved { 65536 ≤ vec_capacity cells.old }
+    ensures count { count ≤ vec_len cells.new }
+    ensures few { length cells.new.items ≤ 65536 }
+    ensures capacity { vec_capacity cells.new ≡ vec_capacity cells.old }
+    ensures cells { cells_of_all cells.new.items ≡ cells_of_all cells.old.items }
+{
+    for place in cells.len()..count {
+        cells.push_reserved(0);
+    }
+}
+
+/// What stands in a cell, 0 past the last that is written.
+fn cell_at(cells: &[u16], place: usize) -> u16
+    ensures { result ≡ slice_index_or cells.now place 0 }
+{
+    match cells.get(place) {
+        Some(cell) => *cell,
+        None => 0,
     }
 }
 

@@ -8,7 +8,7 @@ decreases-cull_from g l = l.levels
 
 abbrev pub invariant-loop-place : goal.invariant-loop-place
 invariant-loop-place g l =
-    let s : Scene = record { look = g.V.NodeView.look l.scene; boxes = g.V.SceneView.boxes l.scene; lens = l.fn.lens; time = l.fn.time } in
+    let s : Scene = record { look = g.V.NodeView.look l.scene; boxes = g.V.SceneView.boxes l.scene; lens = g.F.Frustum.lens l.frustum; time = l.fn.time } in
     let a : At = record { id = l.fn.id; joint = l.fn.joint; shift = l.fn.shift } in
     let start : Work = record { list = l.initial.out; tests = l.initial.steps; visited = l.initial.visited } in
     let there : Work = record { list = l.out; tests = l.steps; visited = l.visited } in

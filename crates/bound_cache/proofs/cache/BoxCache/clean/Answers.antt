@@ -3,7 +3,7 @@ use Rattle.fx_math.specs.Plain.{Bounds}
 use Rattle.bound_cache.specs.Caches.{CacheState, box_at, touched_at, StandBelow}
 use Rattle.bound_cache.specs.Tables.{is_touched}
 use Rattle.bound_cache.specs.Views.{table_of}
-use Rattle.bound_cache.proofs.Cleaning.{shown_of, shows, rest_clean, nothing_touched, stands_on, cleaned_right, cleaned_kept}
+use Rattle.bound_cache.proofs.Cleaning.{shown_of, shows, rest_clean, nothing_touched, stands_on, cleaned_right, cleaned_kept, cleaned_calm}
 use Rattle.bound_cache.proofs.cache.BoxCache.clean.Goals as goal
 
 pub returns-then-not-self-clause-right : goal.returns-then-not-self-clause-right
@@ -61,6 +61,16 @@ returns-clause-kept g c =
     let high = c.self.inside.high in
     let after = shown_of is.boxes.items is.marks.items high in
     cleaned_kept (g.V.NodeView.look c.args.scene.now) c.self.inside.any_touched high (table_of t) (table_of c.reach_all.new.self) (box_at c.args.self.now) (box_at after) (touched_at c.args.self.now)
+    c.self.invariant (shows t.boxes.items t.marks.items high c.args.self.now c.self.view_is) c.reach_all.ensures.proceeds
+    (λ id. (shows is.boxes.items is.marks.items high after refl).boxes_are id ∙ ap (λ (f : ℕ → Option Bounds). f id) c.forget_marks.ensures.boxes)
+
+pub returns-clause-calm : goal.returns-clause-calm
+returns-clause-calm g c =
+    let t = c.self.inside.table in
+    let is = c.forget_marks.new.self in
+    let high = c.self.inside.high in
+    let after = shown_of is.boxes.items is.marks.items high in
+    cleaned_calm (g.V.NodeView.look c.args.scene.now) c.self.inside.any_touched high (table_of t) (table_of c.reach_all.new.self) (box_at c.args.self.now) (box_at after) (touched_at c.args.self.now)
     c.self.invariant (shows t.boxes.items t.marks.items high c.args.self.now c.self.view_is) c.reach_all.ensures.proceeds
     (λ id. (shows is.boxes.items is.marks.items high after refl).boxes_are id ∙ ap (λ (f : ℕ → Option Bounds). f id) c.forget_marks.ensures.boxes)
 

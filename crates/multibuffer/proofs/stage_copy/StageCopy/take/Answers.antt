@@ -4,7 +4,7 @@ use Rattle.pf_model.specs.Graphs.{node_at}
 use Rattle.pf_model.specs.Copies.{updated_by, updates_of}
 use Rattle.bound_cache.specs.Caches.{touched_at}
 use Rattle.multibuffer.specs.StageCopies.{CopyState, boxes_of, HasRightBoxes}
-use Rattle.multibuffer.proofs.Taking.{copy_more, changes_named, boxes_after, tended_after}
+use Rattle.multibuffer.proofs.Taking.{copy_more, changes_named, boxes_after, tended_after, calm_named}
 use Rattle.multibuffer.proofs.stage_copy.StageCopy.take.Goals as goal
 
 pub returns-clause-nodes : goal.returns-clause-nodes
@@ -26,6 +26,12 @@ returns-clause-right c =
 
 pub invariant_of-self : goal.invariant_of-self
 invariant_of-self c = tended_after c.take_all.new.nodes c.take_all.new.cache c.refresh.new.cache c.refresh.ensures.untouched (c.take_all.ensures.stand c.self.invariant.stand) c.refresh.ensures.high
+
+pub returns-clause-calm : goal.returns-clause-calm
+returns-clause-calm c = λ calm is id h.
+    c.refresh.ensures.calm calm (calm_named (node_at c.take_all.new.nodes) c.args.updates (touched_at c.take_all.new.cache) calm c.take_all.ensures.touched is) id h
+    ∙ c.take_all.ensures.boxes id
+    ∙ ap (λ (s : CopyState). boxes_of s id) c.self.view_is
 
 pub returns-clause-kept : goal.returns-clause-kept
 returns-clause-kept c =
