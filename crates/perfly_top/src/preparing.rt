@@ -31,7 +31,8 @@ fn right_words(alloc: Global, words: &[String]) -> Result<Words, Stop>
     ensures few { IfOk result (λ w. w.ahead ≤ 4) }
     ensures low { IfOk result (λ w. IfSome w.make (λ n. 1 ≤ n)) }
     ensures high { IfOk result (λ w. IfSome w.make (λ n. n ≤ 256)) }
-    ensures wrong { IfErr result (λ s. ((s ≡ stop.Words) × (meaning_of_words (map string_bytes words.now) ≡ None)) ⊎ (s ≡ stop.NoMemory)) }
+    ensures wrong { IfErr result (λ s. ((s ≡ stop.Words) × (meaning_of_words (map string_bytes words.now) ≡ None))
+        ⊎ (s ≡ stop.NoMemory)) }
 {
     Ok(read_words(alloc, words)?)
 }
@@ -42,7 +43,8 @@ pub(crate) fn prepared<I: Source>(
     words: &[String],
     input: &mut I,
 ) -> Result<Task, Stop>
-    ensures given { IfOk result (λ t. IsGiven (meaning_of_words (map string_bytes words.now)) (I.left input.old) (I.left input.new) t.words t.play) }
+    ensures given { IfOk result (λ t.
+        IsGiven (meaning_of_words (map string_bytes words.now)) (I.left input.old) (I.left input.new) t.words t.play) }
     ensures can_end { IfOk result (λ t. ¬ IsStuck t.play.app t.play.dbase) }
     ensures some { IfOk result (λ t. 1 ≤ t.words.ahead) }
     ensures few { IfOk result (λ t. t.words.ahead ≤ 4) }
