@@ -65,7 +65,8 @@ pub fn cull_through<V: SceneView, F: Frustum<L>, L: Ledger>(
     out: &mut DrawList,
     steps: &mut Steps<L>,
 ) -> Stats
-    ensures walk { let sight : Scene = record { look = V.look scene.now; boxes = V.boxes scene.now; lens = F.lens frustum.now; time = time } in
+    ensures walk { let sight : Scene =
+        record { look = V.look scene.now; boxes = V.boxes scene.now; lens = F.lens frustum.now; time = time } in
         let there : Work = record { list = out.new; tests = steps.new; visited = result.visited } in
         there ≡ walked sight view.now out.old steps.old }
     ensures items { result.shown ≡ length out.new.items.items }
