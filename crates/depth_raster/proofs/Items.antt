@@ -59,13 +59,13 @@ unfolding glazed_by
 glazes_all lens behind x n px py under all = fold_numbered_all (glazed behind (alpha_of x)) (fragment_at lens px py x) under x.tris n all
 
 -- ---- lists
-take_suc : {X : Type 0} (xs : List X) (i : ℕ) → take (suc i) xs ≡ take i xs ++ option_to_list (slice_get xs i)
+pub take_suc : {X : Type 0} (xs : List X) (i : ℕ) → take (suc i) xs ≡ take i xs ++ option_to_list (slice_get xs i)
 take_suc [] zero = refl
 take_suc [] (suc i) = refl
 take_suc (x ∷ xs) zero = refl
 take_suc {X} (x ∷ xs) (suc i) = ap (λ (ys : List X). x ∷ ys) (take_suc xs i)
 
-opaque_append : (lens : Lens) (px py : ℕ) (xs ys : List Instance) → opaque_fragments lens px py (xs ++ ys) ≡ opaque_fragments lens px py xs ++ opaque_fragments lens px py ys
+pub opaque_append : (lens : Lens) (px py : ℕ) (xs ys : List Instance) → opaque_fragments lens px py (xs ++ ys) ≡ opaque_fragments lens px py xs ++ opaque_fragments lens px py ys
 opaque_append lens px py xs ys = ap (flat_map (fragments lens px py)) (filters xs) ∙ flat_map-append (fragments lens px py) (filter is_opaque xs) (filter is_opaque ys)
   where
     filters : (zs : List Instance) → filter is_opaque (zs ++ ys) ≡ filter is_opaque zs ++ filter is_opaque ys

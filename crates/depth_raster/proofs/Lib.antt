@@ -10,8 +10,10 @@ pub mod Flushed
 pub mod Folding
 pub mod Foremost
 pub mod Following
+pub mod GlassInOrder
 pub mod Glazed
 pub mod Halves
+pub mod InPieces
 pub mod Items
 pub mod Listed
 pub mod Looking

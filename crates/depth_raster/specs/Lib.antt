@@ -21,3 +21,4 @@ pub mod Strips
 pub mod Batches
 pub mod Canvas
 pub mod Shown
+pub mod InPieces

@@ -135,7 +135,7 @@ fn draw_strips<R: Threads + Sync>(
 }
 
 /// The strips of a lens's picture, from the top.
-fn new_strips(alloc: Global, lens: &Lens) -> Result<Vec<Strip>, NoMemory>
+pub(crate) fn new_strips(alloc: Global, lens: &Lens) -> Result<Vec<Strip>, NoMemory>
     ensures { IfOk result (λ strips. AreStrips lens.now strips.items) }
 {
     let mut strips = Vec::new(alloc);
