@@ -20,6 +20,7 @@ pub mod Looking
 pub mod MadeReady
 pub mod MarkOrder
 pub mod Mixed
+pub mod Narrowed
 pub mod NextPane
 pub mod Painted
 pub mod PaneOrder
@@ -31,6 +32,8 @@ pub mod Shared
 pub mod Skipped
 pub mod Slotted
 pub mod Sorting
+pub mod Spanned
 pub mod Stepped
 pub mod Tiling
 pub mod Topped
+pub mod Weighed

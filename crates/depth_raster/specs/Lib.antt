@@ -3,11 +3,15 @@ pub mod Around
 pub mod Looks
 pub mod Edges
 pub mod Weights
+pub mod Weighed
+pub mod Small
+pub mod Narrow
 pub mod Mixing
 pub mod Sums
 pub mod Quotients
 pub mod Means
 pub mod Runs
+pub mod Spans
 pub mod Blocks
 pub mod Marks
 pub mod Following

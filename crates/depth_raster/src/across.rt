@@ -37,6 +37,7 @@ pub(crate) fn draw_slots(
 }
 
 /// Draws the piece of a slot over the tiles of a band.
+#[inline(always)]
 fn draw_slot(tiles: &mut [Tile], band: &Block, lens: &Lens, pieces: &[Piece], slot: &Slot)
     requires tiles { AreTilesOf band.now tiles.old }
     requires band { IsBlockOf lens.now band.now }

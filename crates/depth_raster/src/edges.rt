@@ -1,9 +1,11 @@
 //! The edge values of a face along a row, by steps from each pixel to the next.
-ghost use Rattle.std.specs.Prelude.{◌≡◌, ◌<◌, ◌^◌, false, IfSome, IfNone};
+ghost use Rattle.std.specs.Prelude.{◌≡◌, ◌<◌, ◌≤◌, ◌^◌, false, IfSome, IfNone};
 ghost use Rattle.fx_math.specs.Limits.{size_limit};
 ghost use Rattle.fx_math.specs.Within.{IsWithin};
+ghost use Rattle.depth_raster.specs.Small.{IsNarrow};
 ghost use Rattle.depth_raster.specs.Weights.{AreSmall, are_covering, IsWeightOf};
 
+use crate::narrow::NarrowValues;
 use tri_cover::Face;
 
 /// The three edge values of a face: at a pixel, or by how much they change from a pixel to the next one of its row.
@@ -16,6 +18,7 @@ pub(crate) struct EdgeValues {
 }
 
 impl EdgeValues {
+    ghost use Rattle.depth_raster.specs.Narrow.{IsNarrowOf};
     ghost use Rattle.depth_raster.specs.Edges.{AreValuesAt, AreSlopesOf, DoFit, IsSumOf};
 
     /// Those at a pixel.
@@ -54,12 +57,39 @@ impl EdgeValues {
         }
     }
 
+    /// The same in 64 bits, where none has a magnitude above the most.
+    pub(crate) fn narrow(&self, most: u64) -> Option<NarrowValues>
+        requires { most ≤ 2 ^ 52 }
+        ensures { IfSome result (IsNarrowOf most self.now) }
+    {
+        let first = narrow(self.first, most)?;
+        let second = narrow(self.second, most)?;
+        let third = narrow(self.third, most)?;
+        Some(NarrowValues {
+            first,
+            second,
+            third,
+        })
+    }
+
     /// Their sum, where they are those of a pixel that is covered.
     pub(crate) fn covered(&self) -> Option<u128>
         ensures some { IfSome result (IsWeightOf self.now.first self.now.second self.now.third) }
         ensures none { IfNone result (are_covering self.now.first self.now.second self.now.third ≡ false) }
     {
         weight(self.first, self.second, self.third)
+    }
+}
+
+/// A number in 64 bits, where it has no magnitude above the most.
+fn narrow(number: i128, most: u64) -> Option<i64>
+    requires { most ≤ 2 ^ 52 }
+    ensures { IfSome result (IsNarrow most number) }
+{
+    if number.unsigned_abs() <= u128::from(most) {
+        Some(number as i64)
+    } else {
+        None
     }
 }
 

@@ -11,6 +11,7 @@ use tri_cover::{Face, Linear};
 
 /// Whether the edge values at the corners of a block tell that a face is hit nowhere in it before a depth. Their sum is asked
 /// first: of faces that are drawn by depth, most are behind what is drawn.
+#[inline(always)]
 pub(crate) fn is_hidden(face: &Face, block: &Block, limit: u64) -> bool
     requires columns { block.now.left + block.now.width ≤ size_limit }
     requires rows { block.now.first + block.now.rows ≤ size_limit }

@@ -16,6 +16,7 @@ pub mod laws;
 mod looks;
 mod marks;
 mod means;
+mod narrow;
 mod opaque;
 mod painting;
 mod panes;

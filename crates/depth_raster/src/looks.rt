@@ -3,19 +3,21 @@ ghost use Rattle.std.specs.Prelude.{◌≡◌, ℕ, ◌*◌, ◌/◌, ◌<◌, �
 ghost use Rattle.tri_cover.specs.Faces.{is_in_box};
 ghost use Rattle.depth_raster.specs.Edges.{AreValuesAt};
 ghost use Rattle.depth_raster.specs.Looks.{Looks, IsSeen, IsSeenBefore};
+ghost use Rattle.depth_raster.specs.Weighed.{IsSmallWeight, IsWeighedAt};
 
 use crate::edges::EdgeValues;
 use std::num::{f64_to_bits_with_nan, nearest_u64_to_f64};
 use tri_cover::Face;
 
-/// The depth of a face at a pixel of its box, where it is hit there before a depth, from its edge values there. A float that
-/// is about the face's dividend makes it cheap, and whatever it is, the depth is exact.
-pub(crate) fn look(face: &Face, values: &EdgeValues, limit: u64, about: f64) -> Option<u32>
-    requires { limit < 2 ^ 40 }
-    ensures { (px py : ℕ) → AreValuesAt face.now px py values.now → is_in_box face.now.extent px py ≡ true
+/// The depth of a face at a pixel of its box, where it is hit there before a depth, from the sum of its edge values there, if
+/// it is covered. A float that is about the face's dividend makes it cheap, and whatever it is, the depth is exact.
+pub(crate) fn look(face: &Face, weight: Option<u128>, limit: u64, about: f64) -> Option<u32>
+    requires weight { IfSome weight IsSmallWeight }
+    requires limit { limit < 2 ^ 40 }
+    ensures { (px py : ℕ) → IsWeighedAt face.now px py weight → is_in_box face.now.extent px py ≡ true
         → Looks face.now px py limit result }
 {
-    match values.covered() {
+    match weight {
         Some(sum) => depth_before(face, limit, about, sum),
         None => None,
     }

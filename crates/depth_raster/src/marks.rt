@@ -1,5 +1,6 @@
 //! Marks: what is nearest so far at a pixel.
 ghost use Rattle.std.specs.Prelude.{◌≡◌, ◌<◌};
+ghost use Rattle.std.specs.Option.{unwrap_or};
 ghost use Rattle.depth_raster.specs.Marks.{goes_before, lesser};
 
 /// The depth of a pixel at which nothing is drawn: greater than that of each hit.
@@ -44,14 +45,14 @@ impl Mark {
         }
     }
 
-    /// The nearer one of two.
-    pub(crate) fn lesser(self, other: Mark) -> Mark
-        ensures { result ≡ lesser self other }
+    /// The other one, where it is the nearer one of the two.
+    pub(crate) fn nearer(&self, other: Mark) -> Option<Mark>
+        ensures { unwrap_or result self.now ≡ lesser self.now other }
     {
-        if other.goes_before(&self) {
-            other
+        if other.goes_before(self) {
+            Some(other)
         } else {
-            self
+            None
         }
     }
 }

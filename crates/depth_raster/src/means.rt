@@ -45,6 +45,7 @@ impl Weight {
     ghost use Rattle.depth_raster.specs.Means.{IsWeightAt};
 
     /// That of a face at a pixel.
+    #[inline(always)]
     fn at(face: &Face, px: u16, py: u16) -> Weight
         requires x { px < size_limit }
         requires y { py < size_limit }
@@ -57,6 +58,7 @@ impl Weight {
     }
 
     /// Goes to the next pixel of the row.
+    #[inline(always)]
     fn advance(&mut self)
         requires { IsWithin (2 ^ 82) (self.old.here +ℤ self.old.step) }
         ensures here { self.new.here ≡ self.old.here +ℤ self.old.step }
@@ -69,6 +71,7 @@ impl Weight {
     }
 
     /// The sum at a pixel so many further on in the row.
+    #[inline(always)]
     fn ahead(&self, count: u16) -> i128
         ensures { result ≡ self.now.here +ℤ self.now.step *ℤ pos count }
     {
@@ -80,6 +83,7 @@ impl Mean {
     ghost use Rattle.depth_raster.specs.Means.{IsMeanOf, IsSmallMean, IsSettled, IsNextOf, Stays};
 
     /// This mean of a weighed sum, which changes by so much to the next pixel.
+    #[inline(always)]
     fn new(number: i128, step: i128, weight: &Weight, mean: u8) -> Mean
         requires number { IsWithin (2 ^ 98) number }
         requires step { IsWithin (2 ^ 98) step }
@@ -94,6 +98,7 @@ impl Mean {
     }
 
     /// Whether it is the quotient, rounded down.
+    #[inline(always)]
     fn is_settled(&self, weight: &Weight) -> bool
         ensures { IsTrue result ↔ IsSettled self.now weight.now }
     {
@@ -101,6 +106,7 @@ impl Mean {
     }
 
     /// Makes it the quotient, where the weighed sum is that of a pixel that is covered.
+    #[inline(always)]
     fn settle(&mut self, weight: &Weight)
         requires { IsSmallMean self.old }
         ensures kept { (number step : ℤ) → IsMeanOf number step weight.now self.old → IsMeanOf number step weight.now self.new }
@@ -113,6 +119,8 @@ impl Mean {
     }
 
     /// The quotient, where the weighed sum is that of a pixel that is covered: the mean beside this one, or else by a division.
+    #[cold]
+    #[inline(never)]
     fn mended(&self, weight: &Weight) -> Mean
         requires { IsSmallMean self.now }
         ensures kept { (number step : ℤ) → IsMeanOf number step weight.now self.now → IsMeanOf number step weight.now result }
@@ -168,6 +176,8 @@ impl Mean {
     }
 
     /// With the mean that a division tells.
+    #[cold]
+    #[inline(never)]
     fn divided(&self, weight: &Weight) -> Mean
         requires { IsSmallMean self.now }
         ensures kept { (number step : ℤ) → IsMeanOf number step weight.now self.now → IsMeanOf number step weight.now result }
@@ -180,6 +190,7 @@ impl Mean {
     }
 
     /// Goes to the next pixel of the row; the mean stays.
+    #[inline(always)]
     fn advance(&mut self)
         requires { IsWithin (2 ^ 97) (self.old.rest +ℤ self.old.change) }
         ensures { IsNextOf self.old self.new }
@@ -188,6 +199,7 @@ impl Mean {
     }
 
     /// Whether it is the quotient at this pixel, and at one so many further on, where the weight is `there`.
+    #[inline(always)]
     fn stays(&self, weight: &Weight, count: u16, there: i128) -> bool
         requires small { IsSmallMean self.now }
         requires there { there ≡ weight.now.here +ℤ weight.now.step *ℤ pos count }
@@ -201,6 +213,7 @@ impl Means {
     ghost use Rattle.depth_raster.specs.Means.{AreMeansAt, AreSmallMeans, DoFit, AreEven, colour_by};
 
     /// Those of a face at a pixel, of which nothing is known but a guess.
+    #[inline(always)]
     pub(crate) fn at(face: &Face, px: u16, py: u16, guess: [u8; 3]) -> Means
         requires x { px < size_limit }
         requires y { py < size_limit }
@@ -218,6 +231,7 @@ impl Means {
     }
 
     /// The colour, once the means are settled.
+    #[inline(always)]
     pub(crate) fn colour(&self) -> [u8; 3]
         ensures { result ≡ colour_by self.now }
     {
@@ -225,6 +239,7 @@ impl Means {
     }
 
     /// Makes them the quotients, where the face is hit.
+    #[inline(always)]
     pub(crate) fn settle(&mut self)
         requires { AreSmallMeans self.old }
         ensures kept { (f : faces.Face) (px py : ℕ) → AreMeansAt f px py self.old → AreMeansAt f px py self.new }
@@ -238,6 +253,7 @@ impl Means {
     }
 
     /// Goes to the next pixel of the row, where they are not yet settled.
+    #[inline(always)]
     pub(crate) fn advance(&mut self)
         requires { DoFit self.old }
         ensures { (f : faces.Face) (px py : ℕ) → AreMeansAt f px py self.old → AreMeansAt f (px + 1) py self.new }
@@ -250,6 +266,7 @@ impl Means {
 
     /// Whether the means are the quotients at this pixel and at one so many further on in the row; they are those of all pixels
     /// between them then.
+    #[inline(always)]
     pub(crate) fn are_even(&self, count: u16) -> bool
         requires { AreSmallMeans self.now }
         ensures { IsTrue result → AreEven self.now count }
@@ -262,6 +279,7 @@ impl Means {
 }
 
 /// Whether this is left by a quotient of this weight.
+#[inline(always)]
 fn is_left(rest: i128, weight: i128) -> bool
     ensures { IsTrue result ↔ IsLeft rest weight }
 {
@@ -269,6 +287,7 @@ fn is_left(rest: i128, weight: i128) -> bool
 }
 
 /// What a mean leaves of a weighed sum.
+#[inline(always)]
 fn left(number: i128, mean: u8, weight: i128) -> i128
     requires number { IsWithin (2 ^ 98) number }
     requires weight { IsWithin (2 ^ 82) weight }
@@ -288,6 +307,7 @@ fn whole(rest: i128, mean: u8, weight: i128) -> i128
 }
 
 /// What a mean takes of a weighed sum.
+#[inline(always)]
 fn taken(mean: u8, weight: i128) -> i128
     requires { IsWithin (2 ^ 82) weight }
     ensures value { result ≡ pos mean *ℤ weight }
@@ -317,6 +337,7 @@ fn minus(rest: i128, weight: i128) -> i128
 }
 
 /// A number that changes by so much from a pixel to the next, so many further on.
+#[inline(always)]
 fn ahead(here: i128, step: i128, count: u16) -> i128
     requires here { IsWithin (2 ^ 97) here }
     requires step { IsWithin (2 ^ 97) step }
@@ -327,6 +348,7 @@ fn ahead(here: i128, step: i128, count: u16) -> i128
 }
 
 /// By how much a number changes over so many pixels.
+#[inline(always)]
 fn far(step: i128, count: u16) -> i128
     requires { IsWithin (2 ^ 97) step }
     ensures value { result ≡ step *ℤ pos count }

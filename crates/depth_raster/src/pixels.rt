@@ -1,5 +1,5 @@
 //! A piece at a pixel.
-ghost use Rattle.std.specs.Prelude.{◌≡◌, ℕ, ◌+◌, ◌<◌, ◌^◌};
+ghost use Rattle.std.specs.Prelude.{◌≡◌, ℕ, ◌+◌, ◌<◌, ◌^◌, IfSome};
 ghost use Rattle.std.specs.Option.{unwrap_or};
 ghost use Rattle.fx_math.specs.declared.lenses.Lens.{Lens};
 ghost use Rattle.depth_raster.specs.Around.{IsWithin};
@@ -8,6 +8,7 @@ ghost use Rattle.depth_raster.specs.Faces.{glazed_by_face};
 ghost use Rattle.depth_raster.specs.Marks.{mark_over, behind_as};
 ghost use Rattle.depth_raster.specs.Means.{AreMeansAt, AreSmallMeans};
 ghost use Rattle.depth_raster.specs.Pieces.{IsPieceOf, HasFace};
+ghost use Rattle.depth_raster.specs.Weighed.{IsSmallWeight, IsWeighedAt};
 
 use crate::edges::EdgeValues;
 use crate::glazing::blend;
@@ -17,15 +18,17 @@ use crate::means::Means;
 use crate::pieces::Piece;
 use tri_cover::Face;
 
-/// What a piece of a face makes of a mark at a pixel where the face has these edge values, unless it lies behind the mark.
-pub(crate) fn nearer(piece: &Piece, face: &Face, values: &EdgeValues, mark: &Mark) -> Option<Mark>
+/// What a piece of a face makes of a mark at a pixel where the edge values of the face have this sum, if it is covered; none
+/// where the mark stays.
+pub(crate) fn nearer(piece: &Piece, face: &Face, weight: Option<u128>, mark: &Mark) -> Option<Mark>
     requires face { HasFace piece.now face.now }
+    requires weight { IfSome weight IsSmallWeight }
     ensures { (lens : Lens) (px py : ℕ) → px < lens.w → py < lens.h → IsPieceOf lens piece.now → IsWithin piece.now.extent px py
-        → AreValuesAt face.now px py values.now → unwrap_or result mark.now ≡ mark_over lens px py piece.now.face mark.now }
+        → IsWeighedAt face.now px py weight → unwrap_or result mark.now ≡ mark_over lens px py piece.now.face mark.now }
 {
     let limit = limit(mark.depth, piece.face.shift);
-    match look(face, values, limit, piece.about) {
-        Some(depth) => Some(mark.lesser(piece.face.mark(depth))),
+    match look(face, weight, limit, piece.about) {
+        Some(depth) => mark.nearer(piece.face.mark(depth)),
         None => None,
     }
 }

@@ -21,6 +21,7 @@ impl Sums {
     ghost use Rattle.depth_raster.specs.Sums.{AreSumsAt, AreStepsOf, AreMixed};
 
     /// Those of a face at a pixel.
+    #[inline(always)]
     pub(crate) fn at(face: &Face, px: u16, py: u16) -> Sums
         requires x { px < size_limit }
         requires y { py < size_limit }
@@ -34,6 +35,7 @@ impl Sums {
     }
 
     /// By how much those of a face change from a pixel to the next one of its row.
+    #[inline(always)]
     pub(crate) fn steps(face: &Face) -> Sums
         ensures { AreStepsOf face.now result }
     {
@@ -44,6 +46,7 @@ impl Sums {
     }
 
     /// The channels of vertices, weighed by three numbers.
+    #[inline(always)]
     fn mixed(colours: &[[u8; 3]; 3], first: i128, second: i128, third: i128) -> Sums
         requires first { IsWithin (2 ^ 82) first }
         requires second { IsWithin (2 ^ 82) second }
@@ -61,6 +64,7 @@ impl Sums {
 }
 
 /// Three values of a channel, weighed by three numbers.
+#[inline(always)]
 fn mix(x: u8, y: u8, z: u8, first: i128, second: i128, third: i128) -> i128
     requires first { IsWithin (2 ^ 82) first }
     requires second { IsWithin (2 ^ 82) second }
@@ -72,6 +76,7 @@ fn mix(x: u8, y: u8, z: u8, first: i128, second: i128, third: i128) -> i128
     sum_of(weighed(x, first), weighed(y, second), weighed(z, third))
 }
 
+#[inline(always)]
 fn weighed(channel: u8, number: i128) -> i128
     requires { IsWithin (2 ^ 82) number }
     ensures value { result ≡ pos channel *ℤ number }
@@ -80,6 +85,7 @@ fn weighed(channel: u8, number: i128) -> i128
     i128::from(channel) * number
 }
 
+#[inline(always)]
 fn sum_of(x: i128, y: i128, z: i128) -> i128
     requires x { IsWithin (2 ^ 90) x }
     requires y { IsWithin (2 ^ 90) y }

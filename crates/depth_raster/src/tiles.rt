@@ -1,20 +1,25 @@
 //! Faces over the marks of a tile.
-ghost use Rattle.std.specs.Prelude.{◌≡◌, ℕ, ◌+◌, ◌<◌, ◌≤◌, All, length, slice_set, slice_index_or};
+ghost use Rattle.std.specs.Prelude.{◌≡◌, ℕ, ◌+◌, ◌<◌, ◌≤◌, All, IfSome, length, slice_set, slice_index_or};
 ghost use Rattle.fx_math.specs.declared.lenses.Lens.{Lens};
 ghost use Rattle.depth_raster.specs.Around.{IsWithin};
 ghost use Rattle.depth_raster.specs.Blocks.{IsBlockOf, size_of};
-ghost use Rattle.depth_raster.specs.Edges.{AreValuesAt};
-ghost use Rattle.depth_raster.specs.Following.{Follows, RowFollows};
+ghost use Rattle.depth_raster.specs.Following.{Follows, RowFollows, SpanRelates};
 ghost use Rattle.depth_raster.specs.Marks.{mark_over, no_mark};
+ghost use Rattle.depth_raster.specs.Narrow.{IsLineAt};
 ghost use Rattle.depth_raster.specs.Pieces.{IsPieceOf, HasFace};
+ghost use Rattle.depth_raster.specs.Runs.{IsRunOf};
+ghost use Rattle.depth_raster.specs.Spans.{LiesIn, becomes};
 ghost use Rattle.depth_raster.specs.Tiles.{mark_in, within, face_over, MarksFollow};
+ghost use Rattle.depth_raster.specs.Weighed.{IsSmallWeight, IsWeighedAt};
 
 use crate::blocks::Block;
 use crate::edges::EdgeValues;
 use crate::hiding::is_hidden;
 use crate::marks::Mark;
+use crate::narrow::NarrowLine;
 use crate::pieces::Piece;
 use crate::pixels::{limit, nearer};
+use crate::runs::Run;
 use crate::tile::Tile;
 use fx_math::Lens;
 use tri_cover::Face;
@@ -32,6 +37,7 @@ pub(crate) fn draw_piece(tile: &mut Tile, lens: &Lens, piece: &Piece)
 }
 
 /// Draws the piece of a face over the marks of a tile.
+#[inline(never)]
 fn draw_face(tile: &mut Tile, lens: &Lens, piece: &Piece, face: &Face)
     requires block { IsBlockOf lens.now tile.old.block }
     requires ready { IsPieceOf lens.now piece.now }
@@ -84,7 +90,7 @@ fn draw_marks(marks: &mut [Mark], block: &Block, lens: &Lens, piece: &Piece, fac
     }
 }
 
-/// Draws the piece of a face over the marks of a row of a block, from each pixel to the next.
+/// Draws the piece of a face over the marks of a row of a block.
 fn draw_row(marks: &mut [Mark], block: &Block, lens: &Lens, piece: &Piece, face: &Face, r: u16)
     requires len { length marks.old ≡ size_of block.now }
     requires block { IsBlockOf lens.now block.now }
@@ -101,24 +107,75 @@ fn draw_row(marks: &mut [Mark], block: &Block, lens: &Lens, piece: &Piece, face:
     if end <= start {
         return;
     }
-    let steps = EdgeValues::steps(face);
-    let mut values = EdgeValues::at(face, block.left + start, block.first + r);
-    for q in start..end {
-        draw_pixel(marks, block.place(q, r), piece, face, &values);
+    let run = Run { r, start, end };
+    let values = EdgeValues::at(face, block.left + start, block.first + r);
+    match NarrowLine::of(&values, &EdgeValues::steps(face)) {
+        Some(line) => draw_narrow(marks, block, lens, piece, face, &line, &run),
+        None => draw_wide(marks, block, lens, piece, face, &run),
+    }
+}
+
+/// Draws the piece of a face over the marks of a run in its box, from each pixel to the next, by its edge values in 64 bits.
+fn draw_narrow(
+    marks: &mut [Mark],
+    block: &Block,
+    lens: &Lens,
+    piece: &Piece,
+    face: &Face,
+    line: &NarrowLine,
+    run: &Run,
+)
+    requires len { length marks.old ≡ size_of block.now }
+    requires block { IsBlockOf lens.now block.now }
+    requires ready { IsPieceOf lens.now piece.now }
+    requires face { HasFace piece.now face.now }
+    requires line { IsLineAt face.now (block.now.left + run.now.start) (block.now.first + run.now.r) line.now }
+    requires run { IsRunOf block.now run.now }
+    requires inside { LiesIn piece.now.extent block.now run.now }
+    ensures { SpanRelates block.now (mark_in block.now marks.old) (mark_in block.now marks.new)
+        (becomes (within block.now (face_over lens.now piece.now.face))) run.now.r run.now.start run.now.end }
+{
+    let steps = line.steps;
+    let mut values = line.start;
+    for q in run.start..run.end {
+        draw_pixel(marks, block.place(q, run.r), piece, face, values.covered());
         values = values.plus(&steps);
     }
 }
 
-/// Draws a piece of a face over the mark at a place, where the face has these edge values. It is written only where the piece
-/// does not lie behind it.
-fn draw_pixel(marks: &mut [Mark], place: usize, piece: &Piece, face: &Face, values: &EdgeValues)
+/// Draws the piece of a face over the marks of a run in its box, from each pixel to the next.
+#[cold]
+#[inline(never)]
+fn draw_wide(marks: &mut [Mark], block: &Block, lens: &Lens, piece: &Piece, face: &Face, run: &Run)
+    requires len { length marks.old ≡ size_of block.now }
+    requires block { IsBlockOf lens.now block.now }
+    requires ready { IsPieceOf lens.now piece.now }
+    requires face { HasFace piece.now face.now }
+    requires run { IsRunOf block.now run.now }
+    requires inside { LiesIn piece.now.extent block.now run.now }
+    ensures { SpanRelates block.now (mark_in block.now marks.old) (mark_in block.now marks.new)
+        (becomes (within block.now (face_over lens.now piece.now.face))) run.now.r run.now.start run.now.end }
+{
+    let steps = EdgeValues::steps(face);
+    let mut values = EdgeValues::at(face, block.left + run.start, block.first + run.r);
+    for q in run.start..run.end {
+        draw_pixel(marks, block.place(q, run.r), piece, face, values.covered());
+        values = values.plus(&steps);
+    }
+}
+
+/// Draws a piece of a face over the mark at a place, where the edge values of the face have this sum, if it is covered. The mark
+/// is written only where the piece is nearer.
+#[inline(always)]
+fn draw_pixel(marks: &mut [Mark], place: usize, piece: &Piece, face: &Face, weight: Option<u128>)
     requires place { place < length marks.old }
     requires face { HasFace piece.now face.now }
+    requires weight { IfSome weight IsSmallWeight }
     ensures { (lens : Lens) (px py : ℕ) → px < lens.w → py < lens.h → IsPieceOf lens piece.now → IsWithin piece.now.extent px py
-        → AreValuesAt face.now px py values.now
+        → IsWeighedAt face.now px py weight
         → marks.new ≡ slice_set marks.old place (mark_over lens px py piece.now.face (slice_index_or marks.old place no_mark)) }
 {
-    if let Some(nearer) = nearer(piece, face, values, &marks[place]) {
+    if let Some(nearer) = nearer(piece, face, weight, &marks[place]) {
         marks[place] = nearer;
     }
 }

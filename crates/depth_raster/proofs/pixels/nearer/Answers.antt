@@ -16,7 +16,7 @@ returns-in-Some c = λ lens px py column row ready inside are.
     let boxed = face_boxed lens p f ready c.requires.face px py inside in
     let looks = subst (λ (o : Option ℕ). Looks f px py c.limit-limit.result o) c.in-Some.is (c.look.ensures px py are boxed) in
     let hits = face_hits lens p f ready c.requires.face px py column row ∙ looks.0 in
-    c.lesser.ensures
+    c.nearer.ensures
     ∙ ap (lesser a.mark.now) c.mark.ensures
     ∙ sym (ap (λ (o : Option Hit). mark_with a.mark.now (option_map (mark_of p.face) o)) hits)
 
