@@ -15,6 +15,7 @@ pub mod Glazed
 pub mod Halves
 pub mod InPieces
 pub mod Items
+pub mod Later
 pub mod Listed
 pub mod Looking
 pub mod MadeReady

@@ -9,14 +9,14 @@ use Rattle.depth_raster.specs.Marks.{goes_before, lesser, mark_with}
 use Rattle.depth_raster.specs.declared.marks.Mark.{Mark}
 
 -- ---- the order of marks
-before_itself : (a : Mark) → goes_before a a ≡ false
+pub before_itself : (a : Mark) → goes_before a a ≡ false
 before_itself a = grind (arith, nat_tests)
 
 -- what is not after b is before what b is before
-before_chain : (a b c : Mark) → goes_before b a ≡ false → goes_before c b ≡ false → goes_before c a ≡ false
+pub before_chain : (a b c : Mark) → goes_before b a ≡ false → goes_before c b ≡ false → goes_before c a ≡ false
 before_chain a b c h g = grind (arith, nat_tests)
 
-before_one_way : (a b : Mark) → goes_before a b ≡ true → goes_before b a ≡ false
+pub before_one_way : (a b : Mark) → goes_before a b ≡ true → goes_before b a ≡ false
 before_one_way a b h = grind (arith, nat_tests)
 
 same_number : (m n : ℕ) → (m < n → ⊥) → (n < m → ⊥) → m ≡ n

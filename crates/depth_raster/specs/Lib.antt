@@ -1,5 +1,6 @@
 pub mod Faces
 pub mod Around
+pub mod Later
 pub mod Looks
 pub mod Edges
 pub mod Weights

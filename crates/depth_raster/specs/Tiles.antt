@@ -1,5 +1,5 @@
 -- Tiles, and what a drawing makes of them.
-use Rattle.std.specs.Prelude.{◌≡◌, ℕ, ◌+◌, ◌<◌, ◌≤◌, Bool, true, false, List, [], slice_index_or, fold, Option, Some, None}
+use Rattle.std.specs.Prelude.{◌≡◌, ℕ, ◌+◌, ◌-◌, ◌<◌, ◌≤◌, Bool, true, false, List, [], slice_index_or, fold, Option, Some, None}
 use Rattle.std.specs.Option.{IfSome}
 use Rattle.fx_math.specs.declared.lenses.Lens.{Lens}
 use Rattle.tri_cover.specs.declared.hit.Hit.{Hit}
@@ -40,6 +40,17 @@ face_over lens f px py m = mark_over lens px py f m
 abbrev pub IsBehind : Lens → Face → Block → (depth : ℕ) → Type 0
 IsBehind lens f b depth = (q r : ℕ) (h : Hit) → q < b.width → r < b.rows → hit lens (b.left + q) (b.first + r) [] f.tri ≡ Some h
     → depth + 1 + f.shift ≤ h.depth
+
+-- no hit of a face at a pixel of the block has a mark before the depth
+abbrev pub IsNoNearer : Lens → Face → Block → (depth : ℕ) → Type 0
+IsNoNearer lens f b depth = (q r : ℕ) (h : Hit) → q < b.width → r < b.rows → hit lens (b.left + q) (b.first + r) [] f.tri ≡ Some h
+    → depth ≤ h.depth - f.shift
+
+-- the tile's marks and colours stay
+pub record IsKept (before after : Tile) : Type 0 where
+  pub block : after.block ≡ before.block
+  pub marks : after.marks.items ≡ before.marks.items
+  pub colours : after.colours.items ≡ before.colours.items
 
 -- the mark at each pixel is what f makes of the mark before; the colours stay
 pub record MarksFollow (f : ℕ → ℕ → Mark → Mark) (before after : Tile) : Type 0 where

@@ -5,9 +5,10 @@ ghost use Rattle.depth_raster.specs.Blocks.{IsBlockOf};
 ghost use Rattle.depth_raster.specs.Pieces.{IsPieceOf};
 ghost use Rattle.depth_raster.specs.Slots.{IsLeast, IsSlotFor, IsSlotOf, slot_over, slots_over};
 ghost use Rattle.depth_raster.specs.Strips.{AreTilesOf, TilesRelate};
-ghost use Rattle.depth_raster.specs.Tiles.{face_over, MarksFollow};
+ghost use Rattle.depth_raster.specs.Tiles.{face_over, IsNoNearer, MarksFollow};
 
 use crate::blocks::Block;
+use crate::last::is_after;
 use crate::pieces::Piece;
 use crate::slots::Slot;
 use crate::tile::Tile;
@@ -69,7 +70,7 @@ fn draw_across(tiles: &mut [Tile], band: &Block, lens: &Lens, piece: &Piece, slo
     }
 }
 
-/// Draws a piece over the marks of a tile, unless all of these lie before the least depth that a mark of it can have. Nothing
+/// Draws a piece over the marks of a tile, unless all of these lie before the least depth that a mark of it can have. Little
 /// of the piece is looked at then.
 fn draw_before(tile: &mut Tile, lens: &Lens, piece: &Piece, least: u32)
     requires block { IsBlockOf lens.now tile.old.block }
@@ -77,9 +78,24 @@ fn draw_before(tile: &mut Tile, lens: &Lens, piece: &Piece, least: u32)
     requires least { IsLeast piece.now.face least }
     ensures { MarksFollow (face_over lens.now piece.now.face) tile.old tile.new }
 {
-    if least <= tile.top {
+    if least < tile.top {
         draw_piece(tile, lens, piece);
+    } else if least == tile.top {
+        draw_at_top(tile, lens, piece);
     }
+}
+
+/// Draws a piece none of whose marks lies before the greatest depth of a tile over its marks, unless it comes after all of these.
+fn draw_at_top(tile: &mut Tile, lens: &Lens, piece: &Piece)
+    requires block { IsBlockOf lens.now tile.old.block }
+    requires ready { IsPieceOf lens.now piece.now }
+    requires depth { IsNoNearer lens.now piece.now.face tile.old.block tile.old.top }
+    ensures { MarksFollow (face_over lens.now piece.now.face) tile.old tile.new }
+{
+    if is_after(tile, &piece.face) {
+        return;
+    }
+    draw_piece(tile, lens, piece);
 }
 
 /// The first tile of a band that a piece can reach.

@@ -47,8 +47,20 @@ impl Face {
           rank = self.now.rank;
         } }
     {
+        self.mark_at(depth.saturating_sub(self.shift))
+    }
+
+    /// The mark at a depth, which the shift does not change any more.
+    pub(crate) fn mark_at(&self, depth: u32) -> Mark
+        ensures { result ≡ record {
+          depth = depth;
+          place = self.now.place;
+          number = self.now.number;
+          rank = self.now.rank;
+        } }
+    {
         Mark {
-            depth: depth.saturating_sub(self.shift),
+            depth,
             place: self.place,
             number: self.number,
             rank: self.rank,

@@ -39,6 +39,16 @@ pub(crate) fn is_hidden(face: &Face, block: &Block, limit: u64) -> bool
     false
 }
 
+/// Whether the sum of the edge values of a face alone tells that it is hit nowhere in a block before a depth.
+pub(crate) fn is_beyond(face: &Face, block: &Block, limit: u64) -> bool
+    requires columns { block.now.left + block.now.width ≤ size_limit }
+    requires rows { block.now.first + block.now.rows ≤ size_limit }
+    requires limit { limit < 2 ^ 40 }
+    ensures { IsTrue result → IsHidden face.now block.now limit }
+{
+    block.width > 0 && block.rows > 0 && is_far(face, block, limit)
+}
+
 /// Whether a linear function is below 0 in a block.
 fn is_below(linear: &Linear, block: &Block) -> bool
     requires wide { 0 < block.now.width }

@@ -12,6 +12,7 @@ mod glass_strips;
 mod glass_tiles;
 mod glazing;
 mod hiding;
+mod last;
 pub mod laws;
 mod looks;
 mod marks;

@@ -31,7 +31,7 @@ impl Mark {
 
     /// Whether this one is nearer than the other; what is left undecided by the depth, the place and the number goes to the
     /// lesser rank.
-    fn goes_before(&self, other: &Mark) -> bool
+    pub(crate) fn goes_before(&self, other: &Mark) -> bool
         ensures { result ≡ goes_before self.now other.now }
     {
         if self.depth != other.depth {

@@ -23,6 +23,7 @@ pub(crate) fn clear(tile: &mut Tile)
 {
     tile.marks.fill(Mark::nothing());
     tile.top = NOTHING;
+    tile.last = None;
 }
 
 /// Gives each pixel of a tile the colour of the piece that is nearest there. What was drawn before keeps its colour, and
@@ -35,6 +36,7 @@ pub(crate) fn paint(tile: &mut Tile, lens: &Lens, back: [u8; 3], pieces: &[Piece
     let block = tile.block;
     paint_rows(&mut tile.colours, &tile.marks, &block, lens, back, pieces);
     settle(&mut tile.marks, &block);
+    tile.last = None;
 }
 
 /// Takes the ranks from the marks of a block, and leaves their depths.

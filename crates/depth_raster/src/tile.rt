@@ -1,22 +1,27 @@
 //! A tile of a picture: a block of pixels with its marks and its colours.
 ghost use Rattle.std.specs.Prelude.{◌≡◌, ◌≤◌, All, length, IfOk};
+ghost use Rattle.std.specs.Option.{ForSome};
 ghost use Rattle.depth_raster.specs.Blocks.{size_of};
+ghost use Rattle.depth_raster.specs.Later.{ComesLast};
 
 use crate::blocks::Block;
 use crate::marks::{Mark, NOTHING};
 use pf_io::NoMemory;
 use std::alloc::Global;
 
-/// A block of a picture, with a mark and a colour at each of its pixels; no mark has a depth above `top`.
+/// A block of a picture, with a mark and a colour at each of its pixels; no mark has a depth above `top`,
+/// and none comes after `last`, where that is known.
 #[derive(Drop)]
 pub(crate) struct Tile {
     pub(crate) block: Block,
     pub(crate) top: u32,
+    pub(crate) last: Option<Mark>,
     pub(crate) marks: Vec<Mark>,
     pub(crate) colours: Vec<[u8; 3]>,
     ghost marks_whole: { length marks.items ≡ size_of block },
     ghost colours_whole: { length colours.items ≡ size_of block },
     ghost topped: { All (λ m. m.depth ≤ top) marks.items },
+    ghost ended: { ForSome last (λ l. ComesLast l marks.items) },
 }
 
 impl Tile {
@@ -28,6 +33,7 @@ impl Tile {
         Ok(Tile {
             block,
             top: NOTHING,
+            last: None,
             marks: vec![in alloc; Mark::nothing(); count]?,
             colours: vec![in alloc; [0; 3]; count]?,
         })

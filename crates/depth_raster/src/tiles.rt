@@ -9,12 +9,13 @@ ghost use Rattle.depth_raster.specs.Narrow.{IsLineAt};
 ghost use Rattle.depth_raster.specs.Pieces.{IsPieceOf, HasFace};
 ghost use Rattle.depth_raster.specs.Runs.{IsRunOf};
 ghost use Rattle.depth_raster.specs.Spans.{LiesIn, becomes};
-ghost use Rattle.depth_raster.specs.Tiles.{mark_in, within, face_over, MarksFollow};
+ghost use Rattle.depth_raster.specs.Tiles.{mark_in, within, face_over, IsNoNearer, MarksFollow};
 ghost use Rattle.depth_raster.specs.Weighed.{IsSmallWeight, IsWeighedAt};
 
 use crate::blocks::Block;
 use crate::edges::EdgeValues;
-use crate::hiding::is_hidden;
+use crate::hiding::{is_beyond, is_hidden};
+use crate::last::is_after;
 use crate::marks::Mark;
 use crate::narrow::NarrowLine;
 use crate::pieces::Piece;
@@ -45,9 +46,41 @@ fn draw_face(tile: &mut Tile, lens: &Lens, piece: &Piece, face: &Face)
     ensures { MarksFollow (face_over lens.now piece.now.face) tile.old tile.new }
 {
     let block = tile.block;
-    if is_hidden(face, &block, limit(tile.top, piece.face.shift)) {
+    let limit = limit(tile.top, piece.face.shift);
+    if is_hidden(face, &block, limit) {
         return;
     }
+    if is_beyond(face, &block, limit - 1) {
+        draw_at_top(tile, lens, piece, face);
+    } else {
+        draw_over(tile, lens, piece, face);
+    }
+}
+
+/// Draws the piece of a face none of whose marks lies before the greatest depth of a tile over its marks, unless it comes after
+/// all of these.
+fn draw_at_top(tile: &mut Tile, lens: &Lens, piece: &Piece, face: &Face)
+    requires block { IsBlockOf lens.now tile.old.block }
+    requires ready { IsPieceOf lens.now piece.now }
+    requires face { HasFace piece.now face.now }
+    requires depth { IsNoNearer lens.now piece.now.face tile.old.block tile.old.top }
+    ensures { MarksFollow (face_over lens.now piece.now.face) tile.old tile.new }
+{
+    if is_after(tile, &piece.face) {
+        return;
+    }
+    draw_over(tile, lens, piece, face);
+}
+
+/// Draws the piece of a face over the marks of a tile, whose last one is not known any more then.
+fn draw_over(tile: &mut Tile, lens: &Lens, piece: &Piece, face: &Face)
+    requires block { IsBlockOf lens.now tile.old.block }
+    requires ready { IsPieceOf lens.now piece.now }
+    requires face { HasFace piece.now face.now }
+    ensures { MarksFollow (face_over lens.now piece.now.face) tile.old tile.new }
+{
+    let block = tile.block;
+    tile.last = None;
     draw_marks(&mut tile.marks, &block, lens, piece, face);
     tile.top = greatest_within(&tile.marks, tile.top);
 }
