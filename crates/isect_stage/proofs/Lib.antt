@@ -1,0 +1,4 @@
+pub mod Places
+pub mod Founds
+pub mod Keeping
+pub mod Histories
