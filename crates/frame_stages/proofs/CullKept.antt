@@ -1,5 +1,5 @@
 -- What the cull keeps, it keeps.
-use Rattle.std.proofs.Common.{◌≡◌, ◌+◌, Bool, false, ◌||◌, List, [], ◌∷◌, ◌++◌, length, Some, None, refl, sym, ap, ◌∙◌, subst, arith, length-append}
+use Rattle.std.proofs.Common.{◌≡◌, ◌+◌, Bool, false, ◌||◌, List, [], ◌∷◌, ◌++◌, drop, length, Option, Some, None, refl, sym, ap, ◌∙◌, subst, arith, length-append}
 use Rattle.fx_math.specs.declared.lenses.Lens.{Lens}
 use Rattle.pf_model.specs.Graphs.{Nodes, node_at}
 use Rattle.pf_model.specs.Limits.{KeepsLimits}
@@ -13,6 +13,7 @@ use Rattle.stage_parts.specs.Parts.{IsCulled, CullPart}
 use Rattle.stage_parts.specs.Steps.{CanCullNext, Culls}
 use Rattle.stage_parts.proofs.CullSteps.{cull_law}
 use Rattle.stage_parts.proofs.Pushes.{loads_push, loads_end, whole_copy, copy_whole, copy_push, copy_front}
+use Rattle.frame_stages.specs.CullBoxes.{HoldsCulled, KeepsBoxes}
 use Rattle.frame_stages.specs.CullWorks.{CullWork, cull_state, AreAllWithin, CullKeeps, CullsLoad}
 
 within_front : (loads : List LoadState) (l : LoadState) → AreAllWithin (loads ++ l ∷ []) → AreAllWithin loads
@@ -94,3 +95,31 @@ keeps_sent w now taken before after p going keeps more is =
     let here = subst (λ (t : Bool). CullKeeps (record w { ended = t || is_end p; held = None }) taken (before ++ p ∷ [])) going all in
     subst (λ (v : CullWork). CullKeeps v taken after) (sym is)
     (subst (λ (ps : List Packet). CullKeeps (record w { ended = is_end p; held = None }) taken ps) (sym more) here)
+
+-- The packets that came
+
+drop_front : (front back : List Packet) → drop (length front) (front ++ back) ≡ back
+drop_front [] back = refl
+drop_front (p ∷ front) back = drop_front front back
+
+drop_same : (all : List Packet) → drop (length all) all ≡ []
+drop_same [] = refl
+drop_same (p ∷ all) = drop_same all
+
+pub came_none : (lens : Lens) (before after : CopyState) (held : Option Packet) (taken now : List Packet) → now ≡ taken → after ≡ before →
+    KeepsBoxes lens before after held (drop (length taken) now)
+came_none lens before after held taken now none same =
+    subst (λ (ps : List Packet). KeepsBoxes lens before after held ps)
+    (sym (ap (λ (ps : List Packet). drop (length taken) ps) none ∙ drop_same taken)) same
+
+pub came_end : (lens : Lens) (before after : CopyState) (held : Option Packet) (taken now : List Packet) → now ≡ taken ++ End ∷ [] →
+    after ≡ before → KeepsBoxes lens before after held (drop (length taken) now)
+came_end lens before after held taken now end same =
+    subst (λ (ps : List Packet). KeepsBoxes lens before after held ps)
+    (sym (ap (λ (ps : List Packet). drop (length taken) ps) end ∙ drop_front taken (End ∷ []))) same
+
+pub came_load : (lens : Lens) (before after : CopyState) (held : Option Packet) (taken now : List Packet) (load : LoadState) →
+    now ≡ taken ++ Frame load ∷ [] → HoldsCulled lens before after load held → KeepsBoxes lens before after held (drop (length taken) now)
+came_load lens before after held taken now load came culled =
+    subst (λ (ps : List Packet). KeepsBoxes lens before after held ps)
+    (sym (ap (λ (ps : List Packet). drop (length taken) ps) came ∙ drop_front taken (Frame load ∷ []))) culled

@@ -22,10 +22,12 @@ use Rattle.draw_list.specs.Order.{draw_order, put_in, in_draw_order, is_of_state
 use Rattle.draw_list.specs.Shown.{is_in_sight, is_visited, shown, draw_list, stats_of}
 use Rattle.tri_cover.specs.Labels.{PlacesRise}
 use Rattle.cull_walk.specs.Premises.{CanBeExact, unnamed}
+use Rattle.cull_walk.specs.Working.{Scene, Work, walked}
 use Rattle.multibuffer.specs.StageCopies.{CopyState, boxes_of}
 use Rattle.stage_parts.specs.Pictures.{sums}
 use Rattle.stage_parts.specs.Parts.{nameless}
 use Rattle.frame_stages.proofs.WalkSizes.{walk_length}
+use Rattle.frame_stages.specs.CullBoxes.{IsWalk, sight_of}
 use Rattle.frame_stages.specs.Culling.{greatest, added, IsChannel, CanCullAll, AreCulledTo, AreAllCulled}
 
 -- Order
@@ -68,6 +70,22 @@ ordered law look time v lens before after is perm sorted =
     law (map unnamed xs) after (shown_rise look time v lens)
     (subst (λ (ys : List Instance). IsPermutation ys after) is perm) sorted
     ∙ order_unnamed xs
+
+-- a walk whose list is put in order
+pub walk_is : (s : Scene) (v : Viewpoint) (before out after : Drawables) (start steps visited : ℕ) →
+    (let there : Work = record { list = out; tests = steps; visited = visited } in there ≡ walked s v before start) → start ≡ 0 →
+    after.joints ≡ out.joints → after.kept ≡ out.kept → IsPermutation out.items.items after.items.items →
+    IsSortedBy draw_order (instances_in after) → IsWalk s v before after
+walk_is s v before out after start steps visited there none joints kept items sorted =
+    record {
+      joints = joints ∙ ap (λ (d : Drawables). d.joints) list;
+      kept = kept ∙ ap (λ (d : Drawables). d.kept) list;
+      items = subst (λ (d : Drawables). IsPermutation d.items.items after.items.items) list items;
+      sorted = sorted;
+    }
+  where
+    list : out ≡ (walked s v before 0).list
+    list = ap (λ (w : Work). w.list) there ∙ ap (λ (n : ℕ). (walked s v before n).list) none
 
 -- How large the numbers of a channel are
 
@@ -171,6 +189,7 @@ culled_none copy time views lens lists =
     record {
       many = refl;
       behind = λ i l. refl;
+      walks = λ i v d e below at_view at_first at_list. absurd (omega (arith, below));
       lists = λ can i d v below at_list at_view. absurd (omega (arith, below));
       numbers = λ can. refl;
     }
@@ -189,19 +208,34 @@ channel_can copy time views lists n d can at =
 -- one more channel is culled: its list is put at its place, and its numbers are added
 pub culled_more : (copy : CopyState) (time : ℕ) (views : List Viewpoint) (lens : Lens) (n : ℕ) (first before : List Drawables)
     (was d : Drawables) (stats seen : Stats) → slice_get before n ≡ Some was → AreCulledTo copy time views lens n first before stats →
+    ((v : Viewpoint) → slice_get views n ≡ Some v → IsWalk (sight_of copy time lens) v was d) →
     ((v : Viewpoint) → slice_get views n ≡ Some v → CanBeExact (node_at copy.nodes) (boxes_of copy) time was →
     IsChannel (node_at copy.nodes) time v lens d seen) →
     AreCulledTo copy time views lens (n + 1) first (slice_set before n d) (added stats seen)
-culled_more copy time views lens n first before was d stats seen stood old one =
+culled_more copy time views lens n first before was d stats seen stood old walk one =
     record {
       many = length-set before n d ∙ old.many;
       behind = λ i l. get_else before n i d (λ same. omega (arith, l, same)) ∙ old.behind i (omega (arith, l));
+      walks = λ i v x e below. walk_at i v x e (split i n below);
       lists = λ can i e v below. at_place can i e v (split i n below);
       numbers = numbers;
     }
   where
     within : n < length before
     within = slice_get_within before n was stood
+
+    first_here : slice_get first n ≡ Some was
+    first_here = sym (old.behind n (omega arith)) ∙ stood
+
+    walk_at : (i : ℕ) (v : Viewpoint) (x e : Drawables) → (i < n) ⊎ (i ≡ n) → slice_get views i ≡ Some v → slice_get first i ≡ Some x →
+        slice_get (slice_set before n d) i ≡ Some e → IsWalk (sight_of copy time lens) v x e
+    walk_at i v x e (inl below) at_view at_first at_list =
+        old.walks i v x e below at_view at_first (sym (get_else before n i d (λ same. omega (arith, below, same))) ∙ at_list)
+    walk_at i v x e (inr same) at_view at_first at_list =
+        let here_x : was ≡ x = same_Some was x (sym first_here ∙ ap (slice_get first) (sym same) ∙ at_first) in
+        let here_e : d ≡ e = get_here before n d e within (ap (slice_get (slice_set before n d)) (sym same) ∙ at_list) in
+        subst (λ (y : Drawables). IsWalk (sight_of copy time lens) v y e) here_x
+        (subst (λ (y : Drawables). IsWalk (sight_of copy time lens) v was y) here_e (walk v (ap (slice_get views) (sym same) ∙ at_view)))
 
     here : CanCullAll copy time views first → (v : Viewpoint) → slice_get views n ≡ Some v →
         IsChannel (node_at copy.nodes) time v lens d seen
@@ -229,6 +263,13 @@ culled_more copy time views lens n first before was d stats seen stood old one =
         ap (λ (a : Stats). added a seen) (old.numbers can) ∙ ap (added (sums (map of_view (take n views)))) channel.numbers
         ∙ sums_more of_view (λ w. small_channel (node_at copy.nodes) time w lens can.within.limits) (take n views) v few
         ∙ ap (λ (vs : List Viewpoint). sums (map of_view vs)) (sym (take_more views n home_view there))
+
+-- all lists, by the boxes of the copy
+pub walks_all : (copy : CopyState) (time : ℕ) (views : List Viewpoint) (lens : Lens) (n : ℕ) (first after : List Drawables) (stats : Stats) →
+    n ≡ length first → AreCulledTo copy time views lens n first after stats → (i : ℕ) (v : Viewpoint) (d e : Drawables) →
+    slice_get views i ≡ Some v → slice_get first i ≡ Some d → slice_get after i ≡ Some e → IsWalk (sight_of copy time lens) v d e
+walks_all copy time views lens n first after stats end culled i v d e at_view at_first =
+    culled.walks i v d e (omega (arith, slice_get_within first i d at_first, end)) at_view at_first
 
 lists_same : (f : Viewpoint → List Instance) (ds : List Drawables) (vs : List Viewpoint) → length ds ≡ length vs →
     ((i : ℕ) (d : Drawables) (v : Viewpoint) → slice_get ds i ≡ Some d → slice_get vs i ≡ Some v → instances_in d ≡ f v) →

@@ -11,6 +11,7 @@ use Rattle.stage_parts.specs.Packets.{loads_in, copy_at}
 use Rattle.stage_parts.specs.States.{CullState}
 use Rattle.stage_parts.specs.Parts.{carried, handed_back, CullPart}
 use Rattle.frame_stages.specs.Culling.{CanCullAll, AreAllCulled}
+use Rattle.frame_stages.specs.CullBoxes.{GoesByBoxes}
 
 -- The cull: the lens that it is given, its copy of the scene with the boxes, whether the End was passed on, and the packet
 -- that it holds to send.
@@ -34,10 +35,11 @@ pub record CullKeeps (w : CullWork) (taken sent : List Packet) : Type 0 where
   pub boxes : AreAllWithin (loads_in taken) → HasRightBoxes w.copy
 
 -- What the cull of a load does. The update list goes into the copy, and in its place goes back what stood there; the rest of
--- the cut and the images stay. The boxes are brought to the copy, and each channel is culled over it.
+-- the cut and the images stay. The boxes are brought to the copy, and each channel is culled over it, by its boxes.
 pub record CullsLoad (lens : Lens) (before after : CopyState) (old new : LoadState) : Type 0 where
   pub nodes : after.nodes ≡ updated_by before.nodes old.cut.updates
   pub boxes : HasRightBoxes before → KeepsLimits (node_at after.nodes) → HasRightBoxes after
   pub carries : carried new ≡ handed_back before.nodes old
   pub culled : CanCullAll after old.cut.frame old.cut.views old.lists →
       AreAllCulled after old.cut.frame old.cut.views lens new.lists new.stats
+  pub by_boxes : GoesByBoxes lens before after old new

@@ -12,6 +12,7 @@ use Rattle.multibuffer.specs.StageCopies.{CopyState, HasRightBoxes}
 use Rattle.stage_parts.specs.Loads.{Each, HasRoomFor}
 use Rattle.stage_parts.specs.Pictures.{sums}
 use Rattle.stage_parts.specs.Parts.{nameless}
+use Rattle.frame_stages.specs.CullBoxes.{IsWalk, sight_of}
 
 -- the greatest value of each number of a frame
 abbrev pub greatest : ℕ
@@ -40,11 +41,14 @@ pub record CanCullAll (copy : CopyState) (time : ℕ) (views : List Viewpoint) (
   pub room : Each (HasRoomFor (size_of (node_at copy.nodes) 0) (triangle_count (node_at copy.nodes))) lists
   pub few : length views ≤ 4
 
--- Of lists, those of the first channels are culled, and the numbers are theirs, where the cull can be exact.
+-- Of lists, those of the first channels are culled by the boxes of the copy. Where the cull can be exact they are right, and
+-- the numbers are theirs.
 pub record AreCulledTo (copy : CopyState) (time : ℕ) (views : List Viewpoint) (lens : Lens) (n : ℕ)
     (before after : List Drawables) (stats : Stats) : Type 0 where
   pub many : length after ≡ length before
   pub behind : (i : ℕ) → n ≤ i → slice_get after i ≡ slice_get before i
+  pub walks : (i : ℕ) (v : Viewpoint) (d e : Drawables) → i < n → slice_get views i ≡ Some v → slice_get before i ≡ Some d →
+      slice_get after i ≡ Some e → IsWalk (sight_of copy time lens) v d e
   pub lists : CanCullAll copy time views before → (i : ℕ) (d : Drawables) (v : Viewpoint) → i < n → slice_get after i ≡ Some d →
       slice_get views i ≡ Some v → instances_in d ≡ map nameless (draw_list (node_at copy.nodes) time v lens)
   pub numbers : CanCullAll copy time views before → stats ≡ sums (map (λ v. stats_of (node_at copy.nodes) time v lens) (take n views))

@@ -2,6 +2,7 @@ pub mod Looks
 pub mod Stays
 pub mod Painting
 pub mod Works
+pub mod CullBoxes
 pub mod Culling
 pub mod CullWorks
 pub mod DbaseWorks

@@ -1,11 +1,12 @@
 //! The cull.
-ghost use Rattle.std.specs.Prelude.{◌≡◌, ◌+◌, true, false, List, [], ◌∷◌, ◌++◌, length, None, Some, Ok, IfOk};
+ghost use Rattle.std.specs.Prelude.{◌≡◌, ◌+◌, true, false, List, [], ◌∷◌, ◌++◌, drop, length, None, Some, Ok, IfOk};
 ghost use Rattle.seat_lock.specs.Log.{Found};
 ghost use Rattle.pf_model.specs.Copies.{copy_of};
 ghost use Rattle.multibuffer.specs.StageCopies.{HasRightBoxes};
 ghost use Rattle.stage_parts.specs.Packets.{is_end};
 ghost use Rattle.frame_stages.specs.Looks.{SawMark};
 ghost use Rattle.stage_parts.specs.Answers.{is_over, IsFull, IsDry, WaitsToPass, MovesOne, PassesOn};
+ghost use Rattle.frame_stages.specs.CullBoxes.{HoldsCulled, KeepsBoxes};
 ghost use Rattle.frame_stages.specs.CullWorks.{CullKeeps};
 ghost use Rattle.stage_parts.specs.declared.answers.Did.TheVariants as did;
 ghost use Rattle.stage_parts.specs.declared.packets.Packet.TheVariants as packet;
@@ -78,6 +79,7 @@ impl CullStage {
         requires going { self.old.ended ≡ false }
         requires bare { self.old.held ≡ None }
         ensures lens { self.new.lens ≡ self.old.lens }
+        ensures copy { self.new.copy ≡ self.old.copy }
         ensures keeps { (taken : List Packet)
             → CullKeeps (record self.old { held = Some packet }) taken (S.sent to.old)
             → CullKeeps self.new taken (S.sent to.new) }
@@ -107,6 +109,7 @@ impl CullStage {
         ensures lens { self.new.lens ≡ self.old.lens }
         ensures keeps { (taken sent : List Packet) → CullKeeps self.old taken sent
             → CullKeeps self.new (taken ++ packet.Frame load ∷ []) sent }
+        ensures boxes { HoldsCulled self.old.lens self.old.copy self.new.copy load self.new.held }
     {
         cull_load(self.alloc, &mut self.copy, &self.lens, &mut load);
         self.held = Some(Packet::Frame(load));
@@ -118,6 +121,8 @@ impl CullStage {
         ensures lens { self.new.lens ≡ self.old.lens }
         ensures keeps { (sent : List Packet) → CullKeeps self.old (T.taken from.old) sent
             → CullKeeps self.new (T.taken from.new) sent }
+        ensures boxes { KeepsBoxes self.old.lens self.old.copy self.new.copy self.new.held
+            (drop (length (T.taken from.old)) (T.taken from.new)) }
         ensures came { result ≡ true → length (T.taken from.new) ≡ length (T.taken from.old) + 1 }
         ensures still { result ≡ false → self.new ≡ self.old }
         ensures none { result ≡ false → T.taken from.new ≡ T.taken from.old }
@@ -150,6 +155,8 @@ impl CullStage {
         ensures lens { self.new.lens ≡ self.old.lens }
         ensures keeps { CullKeeps self.old (T.taken from.old) (S.sent to.old)
             → CullKeeps self.new (T.taken from.new) (S.sent to.new) }
+        ensures boxes { KeepsBoxes self.old.lens self.old.copy self.new.copy self.new.held
+            (drop (length (T.taken from.old)) (T.taken from.new)) }
         ensures moves { MovesOne result
             (record { state = self.old; taken = T.taken from.old; sent = S.sent to.old })
             (record { state = self.new; taken = T.taken from.new; sent = S.sent to.new })
@@ -164,6 +171,13 @@ impl CullStage {
             Some(packet) => self.send(packet, to),
             None => self.take(from, gate),
         }
+    }
+
+    /// The copy of the scene that it culls, with the cache of its boxes.
+    pub fn copy(&self) -> &StageCopy
+        ensures { result.now ≡ self.now.copy }
+    {
+        &self.copy
     }
 
     /// Whether it has ended: the End was passed on.
@@ -185,6 +199,11 @@ impl CullStage {
         ensures lens { self.new.lens ≡ self.old.lens }
         ensures keeps { CullKeeps self.old (T.taken from.old) (S.sent to.old)
             → CullKeeps self.new (T.taken from.new) (S.sent to.new) }
+
+        // It culls by the boxes that its copy keeps, right or not: what an update list leaves alone has the box that it had
+        // before, and each channel's list is what the walk by these boxes leaves. Where no load came the copy stays.
+        ensures boxes { KeepsBoxes self.old.lens self.old.copy self.new.copy self.new.held
+            (drop (length (T.taken from.old)) (T.taken from.new)) }
 
         // What its answer says. It is over exactly where the End was passed on or this look found the stop mark.
         ensures answer { PassesOn result

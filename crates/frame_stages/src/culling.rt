@@ -1,9 +1,11 @@
 //! The cull of a load.
-ghost use Rattle.std.specs.Prelude.{◌≡◌, ◌<◌, slice_get, Some};
+ghost use Rattle.std.specs.Prelude.{◌≡◌, ℕ, ◌<◌, slice_get, Some};
 ghost use Rattle.pf_model.specs.Angles.{Viewpoint};
 ghost use Rattle.pf_model.specs.Graphs.{node_at};
+ghost use Rattle.draw_list.specs.Lists.{Drawables};
 ghost use Rattle.multibuffer.specs.StageCopies.{boxes_of};
 ghost use Rattle.cull_walk.specs.Premises.{CanBeExact};
+ghost use Rattle.frame_stages.specs.CullBoxes.{IsWalk, sight_of};
 ghost use Rattle.frame_stages.specs.Culling.{added, IsChannel, CanCullAll, AreAllCulled};
 ghost use Rattle.frame_stages.specs.CullWorks.{CullsLoad};
 
@@ -49,8 +51,9 @@ fn counted<L: Ledger>(
     requires name { blank.name ≡ L.name }
     requires parts { blank.parts ≡ L.parts }
     requires some { 0 < L.parts }
-    ensures { CanBeExact (node_at copy.now.nodes) (boxes_of copy.now) time list.old
+    ensures exact { CanBeExact (node_at copy.now.nodes) (boxes_of copy.now) time list.old
         → IsChannel (node_at copy.now.nodes) time view.now lens.now list.new result }
+    ensures walk { IsWalk (sight_of copy.now time lens.now) view.now list.old list.new }
 {
     draw_order_is_one();
     let mut steps = Steps::<L>::new(blank);
@@ -68,7 +71,9 @@ fn cull_channel(
     lens: &Lens,
     list: &mut DrawList,
 ) -> Stats
-    ensures { (v : Viewpoint) → slice_get views.now channel ≡ Some v
+    ensures walk { (v : Viewpoint) → slice_get views.now channel ≡ Some v
+        → IsWalk (sight_of copy.now time lens.now) v list.old list.new }
+    ensures exact { (v : Viewpoint) → slice_get views.now channel ≡ Some v
         → CanBeExact (node_at copy.now.nodes) (boxes_of copy.now) time list.old
         → IsChannel (node_at copy.now.nodes) time v lens.now list.new result }
 {
@@ -78,7 +83,7 @@ fn cull_channel(
     counted::<Brand>(Blank::new(1), copy, time, &view, lens, list)
 }
 
-/// Culls all channels over a copy, each into its list, and answers the numbers of the frame. It takes no memory.
+/// Culls all channels over a copy by its boxes, each into its list, and answers the numbers of the frame. It takes no memory.
 fn cull_all(
     copy: &StageCopy,
     time: u32,
@@ -86,7 +91,9 @@ fn cull_all(
     lens: &Lens,
     lists: &mut [DrawList],
 ) -> Stats
-    ensures { CanCullAll copy.now time views.now lists.old
+    ensures walks { (i : ℕ) (v : Viewpoint) (d e : Drawables) → slice_get views.now i ≡ Some v
+        → slice_get lists.old i ≡ Some d → slice_get lists.new i ≡ Some e → IsWalk (sight_of copy.now time lens.now) v d e }
+    ensures exact { CanCullAll copy.now time views.now lists.old
         → AreAllCulled copy.now time views.now lens.now lists.new result }
 {
     let mut stats = NO_STATS;
