@@ -20,8 +20,72 @@ use std::alloc::Global;
 use std::sync::{Arc, Wait};
 use std::thread::Threads;
 
-/// A poll of the application and of each stage that is with the caller, and what they came to. After the application's
-/// error, which has set the stop mark, it rings.
+/// So many polls of the application more may come before it rings.
+const MORE: u32 = 31;
+
+/// A poll of the application. After an error, which has set the stop mark, it rings.
+fn poll_app<R: Wait, O: Sink, G: Gate>(
+    common: &Common<G>,
+    app: &mut AppSeat<R>,
+    frames: &mut O,
+) -> Result<Did, StageError>
+    ensures goes { AppGoes (app_site app.old) (app_site app.new) (O.written frames.old) (O.written frames.new) }
+    ensures blames { Blames result (O.faults frames.old) (O.faults frames.new) (O.at_fault frames.new) (O.written frames.new) }
+{
+    match app.poll(frames, common) {
+        Ok(did) => Ok(did),
+        Err(error) => {
+            common.bell.ring();
+            Err(error)
+        }
+    }
+}
+
+/// Further polls of the application, some at most, for as long as each does something and nobody rings: most are edits, which
+/// nobody waits for, and one ring tells of them all. A frame rings at its gate, so the stages that are with the caller are
+/// polled behind each frame.
+fn go_on<R: Wait, O: Sink, G: Gate>(
+    common: &Common<G>,
+    app: &mut AppSeat<R>,
+    frames: &mut O,
+    noted: u64,
+) -> Result<(), StageError>
+    ensures goes { AppGoes (app_site app.old) (app_site app.new) (O.written frames.old) (O.written frames.new) }
+    ensures blames { Blames result (O.faults frames.old) (O.faults frames.new) (O.at_fault frames.new) (O.written frames.new) }
+{
+    for poll in 0..MORE {
+        if common.bell.rung() != noted {
+            return Ok(());
+        }
+        let did = poll_app(common, app, frames)?;
+        if did != Did::Did {
+            return Ok(());
+        }
+    }
+    Ok(())
+}
+
+/// Further polls of the application, where its last one did something and no other stage of the caller did.
+fn more_where_calm<R: Wait, O: Sink, G: Gate>(
+    common: &Common<G>,
+    app: &mut AppSeat<R>,
+    frames: &mut O,
+    noted: u64,
+    did: Did,
+    others: Did,
+) -> Result<(), StageError>
+    ensures goes { AppGoes (app_site app.old) (app_site app.new) (O.written frames.old) (O.written frames.new) }
+    ensures blames { Blames result (O.faults frames.old) (O.faults frames.new) (O.at_fault frames.new) (O.written frames.new) }
+{
+    if did == Did::Did && others != Did::Did {
+        go_on(common, app, frames, noted)
+    } else {
+        Ok(())
+    }
+}
+
+/// A poll of the application and of each stage that is with the caller, and what they came to. Where the application did
+/// something and no other did, further polls of the application follow.
 fn round<R: Threads + Wait + Sync + Drop, O: Sink, G: Gate>(
     rt: &R,
     common: &Common<G>,
@@ -33,16 +97,11 @@ fn round<R: Threads + Wait + Sync + Drop, O: Sink, G: Gate>(
     ensures posts { (crews : Crews R) → ArePosts crews posts.old → ArePosts crews posts.new }
     ensures blames { Blames result (O.faults frames.old) (O.faults frames.new) (O.at_fault frames.new) (O.written frames.new) }
 {
-    match app.poll(frames, &common.gate) {
-        Ok(did) => {
-            let others = posts.poll(rt, &common.gate);
-            Ok(together(did, others))
-        }
-        Err(error) => {
-            common.bell.ring();
-            Err(error)
-        }
-    }
+    let noted = common.bell.rung();
+    let did = poll_app(common, app, frames)?;
+    let others = posts.poll(rt, &common.gate);
+    more_where_calm(common, app, frames, noted, did, others)?;
+    Ok(together(did, others))
 }
 
 /// A round after which it rings where something was done or all is over, and else waits. It answers whether all is over.

@@ -9,7 +9,7 @@ use crate::bell::Bell;
 use crate::crew::Crew;
 use frame_link::{RingSend, RingTake, SendEnd, TakeEnd, home, ring};
 use frame_stages::Did;
-use pf_io::Gate;
+use pf_io::{Gate, Stage};
 use std::alloc::Global;
 use std::snapshot::Snapshot;
 use std::sync::{Arc, Wait};
@@ -21,6 +21,15 @@ use std::thread::{Promise, PromisedHandle, Threads};
 pub(crate) struct Common<G> {
     pub(crate) bell: Bell,
     pub(crate) gate: G,
+}
+
+/// Whoever comes to the gate rings before it passes: it may be held back there until others come, who may still wait for
+/// what it did.
+impl<G: Gate> Gate for Common<G> {
+    fn pass(&self, stage: Stage, number: u32) {
+        self.bell.ring();
+        self.gate.pass(stage, number);
+    }
 }
 
 /// Polls each stage of a crew once, rings where one did something or all are over, and waits where none did. It answers

@@ -1,0 +1,12 @@
+use Rattle.pf_io.specs.Causes.{Calm}
+use Rattle.mode_hosts.specs.Sites.{AppGoes}
+use Rattle.mode_hosts.specs.Seats.{app_site}
+use Rattle.mode_hosts.proofs.caller.go_on.Given as goal
+
+-- the polls so far answered no error, and the sink met no fault
+abbrev pub invariant-loop-poll : goal.invariant-loop-poll
+invariant-loop-poll g l =
+    record {
+      calm : Calm (g.O.Sink.faults l.fn.frames) (g.O.Sink.faults l.frames);
+      goes : AppGoes (app_site l.fn.app) (app_site l.app) (g.O.Sink.written l.fn.frames) (g.O.Sink.written l.frames);
+    }
