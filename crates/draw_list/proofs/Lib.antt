@@ -1,4 +1,5 @@
 mod StepLaws
+mod BoxSteps
 mod StepLists
 mod Marks
 mod Orders

@@ -11,7 +11,7 @@ use Rattle.fx_math.proofs.Still.{shift_zero}
 use Rattle.draw_list.specs.Steps.{unit_rows, rolled, pitched, turned}
 
 -- ---- steps that only shift
-moved_whole : (z t : ℤ) → moved (pos 65536 *ℤ z) t ≡ clamp (z +ℤ t)
+pub moved_whole : (z t : ℤ) → moved (pos 65536 *ℤ z) t ≡ clamp (z +ℤ t)
 unfolding moved
 moved_whole z t =
     let whole : floor_div (pos 65536 *ℤ z) (pos 65536) ≡ z = floor_times (pos 65536) z (omega (arith, ints)) in
@@ -26,7 +26,7 @@ second_alone a b c = simp (*ℤ-zero, +ℤ_idr, +ℤ_idl) (*ℤ_comm b (pos 6553
 third_alone : (a b c : ℤ) → a *ℤ pos 0 +ℤ b *ℤ pos 0 +ℤ c *ℤ pos 65536 ≡ pos 65536 *ℤ c
 third_alone a b c = simp (*ℤ-zero, +ℤ_idr, +ℤ_idl) (*ℤ_comm c (pos 65536))
 
-three : (x y z u v w : ℤ) → x ≡ u → y ≡ v → z ≡ w → point x y z ≡ point u v w
+pub three : (x y z u v w : ℤ) → x ≡ u → y ≡ v → z ≡ w → point x y z ≡ point u v w
 three x y z u v w f g h =
     ap (λ (a : ℤ). point a y z) f ∙ ap (λ (a : ℤ). point u a z) g ∙ ap (λ (a : ℤ). point u v a) h
 

@@ -2,8 +2,8 @@
 ghost use Rattle.std.specs.Prelude.{◌≡◌, pos, IsTrue};
 ghost use Rattle.fx_math.specs.Within.{IsEntry};
 
-use crate::steps::shifted;
-use fx_math::{Affine, Box3, UNIT, Vec3, apply, apply_box, cosine, scaling, shift, sine};
+use crate::steps::{shifted, shifted_box};
+use fx_math::{Affine, Box3, UNIT, Vec3, apply, apply_box, cosine, scaling, sine};
 use pf_model::{Euler, Pose};
 
 /// A scale, in 1/65536.
@@ -129,7 +129,7 @@ pub(crate) struct EulerSteps {
 impl EulerSteps {
     ghost use Rattle.std.specs.Prelude.{◌≡◌};
     ghost use Rattle.fx_math.specs.Views.{point_of, matrix_of, bounds_of};
-    ghost use Rattle.fx_math.specs.Fixed.{apply, carry, carry_box};
+    ghost use Rattle.fx_math.specs.Fixed.{apply, apply_box, carry, carry_box};
     ghost use Rattle.pf_model.specs.Kinds.{pose_steps};
     ghost use Rattle.draw_list.specs.Steps.{scale_matrix, roll_matrix, pitch_matrix, heading_matrix, euler_matrices};
 
@@ -196,46 +196,46 @@ impl EulerSteps {
     pub(crate) fn carry_box(&self, b: &Box3) -> Box3
         ensures { bounds_of result ≡ carry_box (euler_matrices self.now) (bounds_of b.now) }
     {
-        let scaled = apply_box(&self.scale_step(), b);
-        let rolled = apply_box(&self.roll_step(), &scaled);
-        let pitched = apply_box(&self.pitch_step(), &rolled);
-        let turned = apply_box(&self.heading_step(), &pitched);
-        apply_box(&shift(self.shift), &turned)
+        let scaled = self.scaled_box(b);
+        let rolled = self.rolled_box(&scaled);
+        let pitched = self.pitched_box(&rolled);
+        let turned = self.turned_box(&pitched);
+        shifted_box(&turned, self.shift)
     }
 
-    fn scale_step(&self) -> Affine
-        ensures { matrix_of result ≡ scale_matrix self.now.scale }
+    fn scaled_box(&self, b: &Box3) -> Box3
+        ensures { bounds_of result ≡ apply_box (scale_matrix self.now.scale) (bounds_of b.now) }
     {
         match &self.scale {
-            Some(factor) => scaling(factor.size),
-            None => Affine::IDENTITY,
+            Some(factor) => apply_box(&scaling(factor.size), b),
+            None => *b,
         }
     }
 
-    fn roll_step(&self) -> Affine
-        ensures { matrix_of result ≡ roll_matrix self.now.roll }
+    fn rolled_box(&self, b: &Box3) -> Box3
+        ensures { bounds_of result ≡ apply_box (roll_matrix self.now.roll) (bounds_of b.now) }
     {
         match &self.roll {
-            Some(turn) => turn.roll(),
-            None => Affine::IDENTITY,
+            Some(turn) => apply_box(&turn.roll(), b),
+            None => *b,
         }
     }
 
-    fn pitch_step(&self) -> Affine
-        ensures { matrix_of result ≡ pitch_matrix self.now.pitch }
+    fn pitched_box(&self, b: &Box3) -> Box3
+        ensures { bounds_of result ≡ apply_box (pitch_matrix self.now.pitch) (bounds_of b.now) }
     {
         match &self.pitch {
-            Some(turn) => turn.pitch(),
-            None => Affine::IDENTITY,
+            Some(turn) => apply_box(&turn.pitch(), b),
+            None => *b,
         }
     }
 
-    fn heading_step(&self) -> Affine
-        ensures { matrix_of result ≡ heading_matrix self.now.heading }
+    fn turned_box(&self, b: &Box3) -> Box3
+        ensures { bounds_of result ≡ apply_box (heading_matrix self.now.heading) (bounds_of b.now) }
     {
         match &self.heading {
-            Some(turn) => turn.heading(),
-            None => Affine::IDENTITY,
+            Some(turn) => apply_box(&turn.heading(), b),
+            None => *b,
         }
     }
 }

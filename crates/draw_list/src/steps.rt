@@ -7,7 +7,7 @@ ghost use Rattle.fx_math.specs.Fixed.{apply, apply_box, clamp};
 ghost use Rattle.fx_math.specs.Steps.{shift};
 ghost use Rattle.draw_list.specs.Steps.{step_matrix, unit_rows};
 
-use fx_math::{Affine, Box3, MAX_COORDINATE, UNIT, Vec3, apply, apply_box, shift};
+use fx_math::{Affine, Box3, MAX_COORDINATE, UNIT, Vec3, apply, apply_box};
 
 const UNIT_ROWS: [[i32; 3]; 3] = [[UNIT, 0, 0], [0, UNIT, 0], [0, 0, UNIT]];
 
@@ -52,8 +52,8 @@ impl Step {
         ensures { bounds_of result ≡ apply_box (step_matrix self.now) (bounds_of b.now) }
     {
         match self {
-            Step::Still => apply_box(&Affine::IDENTITY, b),
-            Step::Shift(t) => apply_box(&shift(*t), b),
+            Step::Still => *b,
+            Step::Shift(t) => shifted_box(b, *t),
             Step::Linear(m) => apply_box(m, b),
         }
     }
@@ -70,6 +70,15 @@ pub(crate) fn shifted(v: Vec3, t: Vec3) -> Vec3
     ensures { point_of result ≡ apply (shift (point_of t)) (point_of v) }
 {
     sums(v, t)
+}
+
+/// A box after a step that only shifts: six additions.
+pub(crate) fn shifted_box(b: &Box3, t: Vec3) -> Box3
+    ensures { bounds_of result ≡ apply_box (shift (point_of t)) (bounds_of b.now) }
+{
+    let lo = sums(b.lo, t);
+    let hi = sums(b.hi, t);
+    Box3 { lo, hi }
 }
 
 fn sums(v: Vec3, t: Vec3) -> Vec3

@@ -3,7 +3,7 @@ use Rattle.std.proofs.Common.{◌≡◌, ℕ, zero, suc, ◌+◌, ◌-◌, ◌<�
 use Rattle.std.specs.List.{fold, insert}
 use Rattle.std.specs.Option.{option_map}
 use Rattle.std.proofs.lemmas.Bool.{eqb-true, eq-eqb}
-use Rattle.std.proofs.lemmas.List.{take-append-drop, set_split, take_all}
+use Rattle.std.proofs.lemmas.List.{take-append-drop, take_more, set_split, take_all}
 use Rattle.std.proofs.lemmas.List.Sums.{fold-append}
 use Rattle.std.proofs.lemmas.List.Folds.{list_any_at}
 use Rattle.pf_model.specs.declared.nodes.Node.{Node}
@@ -11,6 +11,7 @@ use Rattle.pf_model.specs.Graphs.{Look, node_at, children_of, size_of, change}
 use Rattle.pf_model.specs.Limits.{has_child}
 use Rattle.pf_model.specs.Laws.{AreLow}
 use Rattle.pf_model.specs.NodeEdits.{with_children}
+use Rattle.pf_model.specs.Children.{drop_first}
 use Rattle.pf_model.proofs.Places.{funext}
 use Rattle.pf_model.proofs.Finds.{node_at_change, turned_eq}
 use Rattle.pf_edits.specs.declared.records.Record.{Record}
@@ -157,7 +158,7 @@ one_kept old new first x id same set was = by (x == id) refl
     by false e =
         set e id ∙ ap (λ t. cond t (reckoned (extent_at old) (children_of (look_of old) x)) (extent_at old id)) (turned_eq id x ∙ e) ∙ was
 
--- A trial: s before it, m with the node's extent set, t with those above it reckoned
+-- A node's extent set: s before it, m with it set, t with those above it reckoned
 
 there_record : (s : Slots) (id : ℕ) → is_some (look_of s id) ≡ true → is_some (record_at s id) ≡ true
 there_record s id h = by (record_at s id) h
@@ -166,7 +167,7 @@ there_record s id h = by (record_at s id) h
     by None k = k
     by (Some r) k = refl
 
-module _ (s m : Slots) (id : ℕ) (e : Extent) (way : List ℕ) (there : is_some (look_of s id) ≡ true) (sound : IsSound s) (leads : LeadUp (look_of s) way) (on : is_in id way ≡ true)
+module _ (s m : Slots) (id : ℕ) (e : Extent) (way : List ℕ) (there : is_some (look_of s id) ≡ true) (meets : MeetBut (look_of s) (extent_at s) (id ∷ [])) (leads : LeadUp (look_of s) way) (on : is_in id way ≡ true)
     (wrote : (b : ℕ) → record_at m b ≡ cond (b == id) (option_map (with_extent e) (record_at s b)) (record_at s b)) where
   pub wrote_looks : (b : ℕ) → look_of m b ≡ look_of s b
   wrote_looks = look_kept s m id (with_extent e) wrote (λ r. refl)
@@ -174,15 +175,21 @@ module _ (s m : Slots) (id : ℕ) (e : Extent) (way : List ℕ) (there : is_some
   wrote_extents : (b : ℕ) → extent_at m b ≡ cond (b == id) e (extent_at s b)
   wrote_extents = extents_set s m id (with_extent e) wrote e (λ r. refl) (there_record s id there)
 
+  pub wrote_here : extent_at m id ≡ e
+  wrote_here = wrote_extents id ∙ ap (λ u. cond u e (extent_at s id)) (eq-eqb id id refl)
+
   away : (b : ℕ) → is_in b way ≡ false → (b == id) ≡ false
   away b off = no_true (b == id) (λ h. not_true on (subst (λ (x : ℕ). is_in x way ≡ false) (eqb-true b id h) off))
 
   wrote_other : (b : ℕ) → (b == id) ≡ false → extent_at m b ≡ extent_at s b
   wrote_other b f = wrote_extents b ∙ ap (λ u. cond u e (extent_at s b)) f
 
+  pub wrote_off : (b : ℕ) → is_in b way ≡ false → extent_at m b ≡ extent_at s b
+  wrote_off b off = wrote_other b (away b off)
+
   pub wrote_meets : MeetBut (look_of m) (extent_at m) (id ∷ way)
   wrote_meets b off =
-      wrote_other b (away b out) ∙ sound.meets b
+      wrote_other b (away b out) ∙ meets b (only_first (id == b) (turned_eq id b ∙ away b out))
       ∙ sym (reckoned_same (extent_at s) (extent_at m) id (children_of (look_of s) b) wrote_other
       (no_true (is_in id (children_of (look_of s) b)) (λ h. not_true (up_closed (look_of s) way leads b id on h) out)) leaf)
       ∙ ap (λ (f : Look). reckoned (extent_at m) (children_of f b)) (sym (funext (look_of m) (look_of s) wrote_looks))
@@ -190,44 +197,61 @@ module _ (s m : Slots) (id : ℕ) (e : Extent) (way : List ℕ) (there : is_some
       out : is_in b way ≡ false
       out = second (id == b) (is_in b way) off
 
-  module _ (t : Slots) (others : (b : ℕ) → is_in b way ≡ false → extent_at t b ≡ extent_at m b) (kept : extent_at t id ≡ extent_at m id) (nodes : (b : ℕ) → look_of t b ≡ look_of m b)
-      (but : MeetBut (look_of t) (extent_at t) (id ∷ [])) where
-    off_same : (b : ℕ) → is_in b way ≡ false → extent_at t b ≡ extent_at s b
-    off_same b off = others b off ∙ wrote_other b (away b off)
+-- extents that meet the recursion but at one node, which has that of its children as they were
+pub all_meet : (look : Look) (f g : ℕ → Extent) (id : ℕ) (way : List ℕ) → MeetBut look g (id ∷ []) → g id ≡ reckoned f (children_of look id)
+    → ((x : ℕ) → is_in x way ≡ true → is_in x (children_of look id) ≡ false) → ((b : ℕ) → is_in b way ≡ false → g b ≡ f b) → Meets look g
+all_meet look f g id way but at apart off b = by (b == id) refl
+  where
+    here : g id ≡ reckoned g (children_of look id)
+    here = at ∙ reckoned_on f g (children_of look id) (λ c h. sym (off c (no_true (is_in c way) (λ k. not_true h (apart c k))))) leaf
 
-    meets_at : (b : ℕ) → (b == id) ≡ false → extent_at t b ≡ reckoned (extent_at t) (children_of (look_of t) b)
-    meets_at b f = but b (only_first (id == b) (turned_eq id b ∙ f))
+    by : (t : Bool) → (b == id) ≡ t → g b ≡ reckoned g (children_of look b)
+    by true e = subst (λ (x : ℕ). g x ≡ reckoned g (children_of look x)) (sym (eqb-true b id e)) here
+    by false e = but b (only_first (id == b) (turned_eq id b ∙ e))
 
-    pub trial_back : MeetBut (look_of t) (extent_at t) way
-    trial_back b off = meets_at b (away b off)
+-- A trial: s before it, t with the node's extent set and those above it reckoned
+module _ (s t : Slots) (id : ℕ) (e : Extent) (way : List ℕ) (there : is_some (look_of s id) ≡ true) (set : extent_at t id ≡ e) (nodes : (b : ℕ) → look_of t b ≡ look_of s b)
+    (but : MeetBut (look_of t) (extent_at t) (id ∷ [])) (off_same : (b : ℕ) → is_in b way ≡ false → extent_at t b ≡ extent_at s b) where
+  trial_looks : look_of t ≡ look_of s
+  trial_looks = funext (look_of t) (look_of s) nodes
 
-    pub trial_looks : look_of t ≡ look_of s
-    trial_looks = funext (look_of t) (look_of s) (λ b. nodes b ∙ wrote_looks b)
+  pub trial_outside : Meets (look_of s) (extent_at s) → AreLow (look_of s) → ((b : ℕ) → size_of (look_of s) b ≤ 131072) → (b : ℕ) → is_in b way ≡ false → IsWithin (extent_at t b)
+  trial_outside meets low small b off = subst IsWithin (sym (off_same b off)) (all_within s meets low small b)
 
-    pub trial_outside : AreLow (look_of s) → ((b : ℕ) → size_of (look_of s) b ≤ 131072) → (b : ℕ) → is_in b way ≡ false → IsWithin (extent_at t b)
-    trial_outside low small b off = subst IsWithin (sym (off_same b off)) (all_within s sound.meets low small b)
+  pub trial_meets : (cs : List ℕ) → e ≡ reckoned (extent_at s) cs → ((x : ℕ) → is_in x way ≡ true → is_in x cs ≡ false)
+      → Meets (node_at (change id (with_children cs) (nodes_of s))) (extent_at t)
+  trial_meets cs is apart =
+      all_meet (node_at (change id (with_children cs) (nodes_of s))) (extent_at s) (extent_at t) id way others
+      (set ∙ is ∙ ap (reckoned (extent_at s)) (sym here)) (λ x on. ap (is_in x) here ∙ apart x on) off_same
+    where
+      front : (p : Bool) → (p || false) ≡ false → p ≡ false
+      front true h = h
+      front false h = refl
 
-    pub trial_meets : (cs : List ℕ) → e ≡ reckoned (extent_at s) cs → ((x : ℕ) → is_in x way ≡ true → is_in x cs ≡ false)
-        → Meets (node_at (change id (with_children cs) (nodes_of s))) (extent_at t)
-    trial_meets cs is apart b = by (b == id) refl
-      where
-        kids : (d : ℕ) → children_of (node_at (change id (with_children cs) (nodes_of s))) d ≡ cond (d == id) cs (children_of (node_at (nodes_of s)) d)
-        kids =
-            children_changed (node_at (nodes_of s)) (node_at (change id (with_children cs) (nodes_of s))) id cs (ap (λ (o : Option Node). is_some o) (found s id) ∙ there)
-            (node_at_change (with_children cs) id (nodes_of s))
+      kids : (d : ℕ) → children_of (node_at (change id (with_children cs) (nodes_of s))) d ≡ cond (d == id) cs (children_of (node_at (nodes_of s)) d)
+      kids =
+          children_changed (node_at (nodes_of s)) (node_at (change id (with_children cs) (nodes_of s))) id cs (ap (λ (o : Option Node). is_some o) (found s id) ∙ there)
+          (node_at_change (with_children cs) id (nodes_of s))
 
-        at_id : extent_at t id ≡ reckoned (extent_at t) (children_of (node_at (change id (with_children cs) (nodes_of s))) id)
-        at_id =
-            kept ∙ wrote_extents id ∙ ap (λ u. cond u e (extent_at s id)) (eq-eqb id id refl) ∙ is
-            ∙ reckoned_on (extent_at s) (extent_at t) cs (λ c h. sym (off_same c (no_true (is_in c way) (λ k. not_true h (apart c k))))) leaf
-            ∙ ap (reckoned (extent_at t)) (sym (kids id ∙ ap (λ u. cond u cs (children_of (node_at (nodes_of s)) id)) (eq-eqb id id refl)))
+      here : children_of (node_at (change id (with_children cs) (nodes_of s))) id ≡ cs
+      here = kids id ∙ ap (λ u. cond u cs (children_of (node_at (nodes_of s)) id)) (eq-eqb id id refl)
 
-        by : (u : Bool) → (b == id) ≡ u → extent_at t b ≡ reckoned (extent_at t) (children_of (node_at (change id (with_children cs) (nodes_of s))) b)
-        by true f = subst (λ (x : ℕ). extent_at t x ≡ reckoned (extent_at t) (children_of (node_at (change id (with_children cs) (nodes_of s))) x)) (sym (eqb-true b id f)) at_id
-        by false f =
-            meets_at b f
-            ∙ ap (λ (g : Look). reckoned (extent_at t) (children_of g b)) (trial_looks ∙ sym (looks s))
-            ∙ ap (reckoned (extent_at t)) (sym (kids b ∙ ap (λ u. cond u cs (children_of (node_at (nodes_of s)) b)) f))
+      others : MeetBut (node_at (change id (with_children cs) (nodes_of s))) (extent_at t) (id ∷ [])
+      others b off =
+          but b off
+          ∙ ap (λ (g : Look). reckoned (extent_at t) (children_of g b)) (trial_looks ∙ sym (looks s))
+          ∙ ap (reckoned (extent_at t)) (sym (kids b ∙ ap (λ u. cond u cs (children_of (node_at (nodes_of s)) b)) (turned_eq b id ∙ front (id == b) off)))
+
+-- a trial taken back: all is as before
+pub trial_over : (s t : Slots) (id : ℕ) (way : List ℕ) → Meets (look_of s) (extent_at s) → ((b : ℕ) → look_of t b ≡ look_of s b) → extent_at t id ≡ extent_at s id
+    → MeetBut (look_of t) (extent_at t) (id ∷ []) → ((x : ℕ) → is_in x way ≡ true → is_in x (children_of (look_of s) id) ≡ false)
+    → ((b : ℕ) → is_in b way ≡ false → extent_at t b ≡ extent_at s b) → Meets (look_of t) (extent_at t)
+trial_over s t id way meets nodes set but apart off =
+    subst (λ (f : Look). Meets f (extent_at t)) (sym same)
+    (all_meet (look_of s) (extent_at s) (extent_at t) id way (subst (λ (f : Look). MeetBut f (extent_at t) (id ∷ [])) same but) (set ∙ meets id) apart off)
+  where
+    same : look_of t ≡ look_of s
+    same = funext (look_of t) (look_of s) nodes
 
 -- nodes and parents as before, and extents that meet the recursion
 pub sound_again : (s t : Slots) → look_of t ≡ look_of s → ((b : ℕ) → parents_of t b ≡ parents_of s b) → Meets (look_of t) (extent_at t) → IsSound s → IsSound t
@@ -241,3 +265,65 @@ pub lengthened_is : (s : Slots) → IsSound s → (p i c : ℕ) → joined (exte
 lengthened_is s sound p i c =
     ap (λ x. joined x (extent_at s c)) (sound.meets p ∙ ap (λ (f : Look). reckoned (extent_at s) (children_of f p)) (sym (looks s)))
     ∙ sym (reckoned_inserted (extent_at s) (children_of (node_at (nodes_of s)) p) i c)
+
+-- The extent of a parent with one child less
+
+dropped_from : (f : ℕ → Extent) (e : Extent) (c : ℕ) (cs : List ℕ) → is_in c cs ≡ true
+    → fold (λ e d. joined e (f d)) e cs ≡ joined (fold (λ e d. joined e (f d)) e (drop_first c cs)) (f c)
+dropped_from f e c [] h = absurd (cc)
+dropped_from f e c (d ∷ ds) h = by (dropped_from f (joined e (f d)) c ds) (d == c) refl h
+  where
+    by : (is_in c ds ≡ true → fold (λ e d. joined e (f d)) (joined e (f d)) ds ≡ joined (fold (λ e d. joined e (f d)) (joined e (f d)) (drop_first c ds)) (f c))
+        → (t : Bool) → (d == c) ≡ t → (t || is_in c ds) ≡ true
+        → fold (λ e d. joined e (f d)) (joined e (f d)) ds ≡ joined (fold (λ e d. joined e (f d)) e (cond t ds (d ∷ drop_first c ds))) (f c)
+    by rest true e2 k = ap (λ x. fold (λ e d. joined e (f d)) (joined e (f x)) ds) (eqb-true d c e2) ∙ joined_last f e c ds
+    by rest false e2 k = rest k
+
+pub reckoned_dropped : (s : Slots) → IsSound s → (p c : ℕ) (cs : List ℕ) → has_child (node_at (nodes_of s)) p c ≡ true → cs ≡ drop_first c (children_of (node_at (nodes_of s)) p)
+    → extent_at s p ≡ joined (reckoned (extent_at s) cs) (extent_at s c)
+reckoned_dropped s sound p c cs is left =
+    sound.meets p ∙ ap (λ (f : Look). reckoned (extent_at s) (children_of f p)) (sym (looks s))
+    ∙ dropped_from (extent_at s) leaf c (children_of (node_at (nodes_of s)) p) is
+    ∙ ap (λ xs. joined (reckoned (extent_at s) xs) (extent_at s c)) (sym left)
+
+-- heights grow with each child
+higher : (f : ℕ → Extent) (e : Extent) (cs : List ℕ) → e.height ≤ (fold (λ e c. joined e (f c)) e cs).height
+higher f e [] = omega arith
+higher f e (c ∷ cs) =
+    let rest : (joined e (f c)).height ≤ (fold (λ e c. joined e (f c)) (joined e (f c)) cs).height = higher f (joined e (f c)) cs in
+    let here : e.height ≤ max e.height (min 4097 ((f c).height + 1)) = omega arith in
+    omega arith
+
+-- a height that is met by the first of the children
+pub met_by : (f : ℕ → Extent) (cs : List ℕ) (n most : ℕ) → most ≤ (reckoned f (take n cs)).height → (reckoned f cs).height ≤ most
+    → (reckoned f (take n cs)).height ≡ (reckoned f cs).height
+met_by f cs n most met within =
+    let h : (reckoned f (take n cs)).height ≤ (fold (λ e c. joined e (f c)) (reckoned f (take n cs)) (drop n cs)).height = higher f (reckoned f (take n cs)) (drop n cs) in
+    let same : (fold (λ e c. joined e (f c)) (reckoned f (take n cs)) (drop n cs)).height ≡ (reckoned f cs).height =
+    ap (λ (x : Extent). x.height) (sym (fold-append (λ e d. joined e (f d)) leaf (take n cs) (drop n cs)) ∙ ap (reckoned f) (take-append-drop n cs)) in
+    omega (arith, met, within, h, same)
+
+-- and that is met with the next of them
+pub met_next : (f : ℕ → Extent) (cs : List ℕ) (n most : ℕ) (before after one : Extent) → n < length cs → before ≡ reckoned f (take n cs) → one ≡ f (get_or cs n 0)
+    → after ≡ joined before one → most ≤ after.height → (reckoned f cs).height ≤ most → after.height ≡ (reckoned f cs).height
+met_next f cs n most before after one h is at step met within =
+    let same : after ≡ reckoned f (take (n + 1) cs) =
+    step ∙ (λ i. joined (is i) (at i)) ∙ sym (fold-append (λ e d. joined e (f d)) leaf (take n cs) (get_or cs n 0 ∷ [])) ∙ sym (ap (reckoned f) (take_more cs n 0 h)) in
+    ap (λ (x : Extent). x.height) same ∙ met_by f cs (n + 1) most (subst (λ (x : Extent). most ≤ x.height) same met) within
+
+-- the parts of an extent from which a child was taken
+pub size_left : (b r c : Extent) → b ≡ joined r c → b.size ≤ 131072 → b.size ≡ r.size + c.size
+size_left b r c is small =
+    let s : b.size ≡ min 131073 (r.size + c.size) = ap (λ (x : Extent). x.size) is in
+    omega (arith, s, small)
+
+pub height_left : (b r c : Extent) → b ≡ joined r c → r.height ≤ b.height
+height_left b r c is =
+    let s : b.height ≡ max r.height (min 4097 (c.height + 1)) = ap (λ (x : Extent). x.height) is in
+    omega (arith, s)
+
+pub extent_left : (b r c : Extent) (h : ℕ) → b ≡ joined r c → b.size ≤ 131072 → h ≡ r.height → (let e : Extent = record { height = h; size = b.size - c.size } in e ≡ r)
+extent_left b r c h is small high =
+    let s : b.size ≡ r.size + c.size = size_left b r c is small in
+    let size : b.size - c.size ≡ r.size = omega (arith, s) in
+    λ i. record { height = high i; size = size i }

@@ -3,8 +3,6 @@ use Rattle.std.proofs.Common.{◌≡◌, ℕ, zero, suc, ◌+◌, ◌-◌, ◌<�
 use Rattle.std.specs.List.{fold, AllByRecursion}
 use Rattle.std.proofs.lemmas.List.{take_more, reverse-append}
 use Rattle.std.proofs.lemmas.List.Sums.{sum_by-cons}
-use Rattle.std.proofs.lemmas.List.Folds.{list_any_at}
-use Rattle.pf_edits.proofs.Marks.{in_reverse}
 use Rattle.std.proofs.lemmas.Bool.{eqb-true, eq-eqb}
 use Rattle.std.proofs.lemmas.Bool.Decides.{nat_tests}
 use Rattle.pf_model.specs.Graphs.{Look, children_of, greatest, height_in, size_in, height_of, size_of}
@@ -202,30 +200,6 @@ meets_step look f g x xs leads meets set = meets_by look f g x xs leads.0 meets 
 -- the rest of a way from its end
 pub rest_of : (xs : List ℕ) (i d : ℕ) → i < length xs → reverse (take (i + 1) xs) ≡ get_or xs i d ∷ reverse (take i xs)
 rest_of xs i d h = ap reverse (take_more xs i d h) ∙ reverse-append (take i xs) (get_or xs i d ∷ [])
-
--- what the last node of a way is followed by
-pub record SteppedDown (slots : Slots) (way : List ℕ) (left x : ℕ) : Type 0 where
-  pub leads : LeadUp (look_of slots) (reverse (take left way))
-  pub meets : MeetBut (look_of slots) (extent_at slots) (reverse (take left way))
-  pub on : is_in x (reverse way) ≡ true
-
-pub step_down : (old new : Slots) (way : List ℕ) (left : ℕ) → left < length way
-    → ((b : ℕ) → look_of new b ≡ look_of old b)
-    → ((b : ℕ) → extent_at new b ≡ cond (b == get_or way left 0) (reckoned (extent_at old) (children_of (look_of old) (get_or way left 0))) (extent_at old b))
-    → LeadUp (look_of old) (reverse (take (left + 1) way)) → MeetBut (look_of old) (extent_at old) (reverse (take (left + 1) way)) → SteppedDown new way left (get_or way left 0)
-step_down old new way left h nodes set leads meets = record {
-  leads = subst (λ (f : Look). LeadUp f (reverse (take left way))) (sym same) here.1;
-  meets = subst (λ (f : Look). MeetBut f (extent_at new) (reverse (take left way))) (sym same)
-      (meets_step (look_of old) (extent_at old) (extent_at new) (get_or way left 0) (reverse (take left way)) here
-      (subst (λ (xs : List ℕ). MeetBut (look_of old) (extent_at old) xs) (rest_of way left 0 h) meets) set);
-  on = in_reverse (get_or way left 0) way ∙ list_any_at (λ other. other == get_or way left 0) way left 0 h (eq-eqb (get_or way left 0) (get_or way left 0) refl);
-}
-  where
-    same : look_of new ≡ look_of old
-    same = funext (look_of new) (look_of old) nodes
-
-    here : LeadUp (look_of old) (get_or way left 0 ∷ reverse (take left way))
-    here = subst (LeadUp (look_of old)) (rest_of way left 0 h) leads
 
 -- All above a node of a way are on it
 

@@ -7,7 +7,7 @@ ghost use Rattle.pf_model.specs.Limits.{has_child};
 ghost use Rattle.pf_model.specs.Laws.{AreLow};
 ghost use Rattle.pf_edits.specs.Tables.{record_at};
 ghost use Rattle.pf_edits.specs.Ways.{is_in, LeadUp};
-ghost use Rattle.pf_edits.specs.Extents.{look_of, parents_of, extent_at, with_extent, joined, reckoned, Meets, MeetBut, IsSound};
+ghost use Rattle.pf_edits.specs.Extents.{look_of, parents_of, extent_at, with_extent, joined, reckoned, MeetBut, IsSound};
 
 use crate::extents::{Extent, LEAF};
 use crate::records::Records;
@@ -72,6 +72,42 @@ fn over_more(records: &Records, start: Extent, children: &[u16]) -> Extent
     extent
 }
 
+/// The height of a node with these children, of which it is known that it is not above `most`. It ends at the first child
+/// with which `most` is met.
+fn height_within(records: &Records, most: u32, children: &[u16]) -> u32
+    requires { (reckoned (extent_at records.now.slots) children.now).height ≤ most }
+    ensures { result ≡ (reckoned (extent_at records.now.slots) children.now).height }
+{
+    let mut extent = LEAF;
+    for child in children {
+        extent = extent.over(extent_at(records, *child));
+        if extent.height >= most {
+            return extent.height;
+        }
+    }
+    extent.height
+}
+
+/// The extent of a parent with one more child.
+pub(crate) fn lengthened_extent(records: &Records, parent: u16, child: u16) -> Extent
+    ensures { result ≡ joined (extent_at records.now.slots parent) (extent_at records.now.slots child) }
+{
+    extent_at(records, parent).over(extent_at(records, child))
+}
+
+/// The extent of a parent without a child, from that of before; these children are left.
+pub(crate) fn shortened_extent(records: &Records, parent: u16, child: u16, left: &[u16]) -> Extent
+    requires before { extent_at records.now.slots parent
+        ≡ joined (reckoned (extent_at records.now.slots) left.now) (extent_at records.now.slots child) }
+    requires small { (extent_at records.now.slots parent).size ≤ 131072 }
+    ensures { result ≡ reckoned (extent_at records.now.slots) left.now }
+{
+    let before = extent_at(records, parent);
+    let height = height_within(records, before.height, left);
+    let size = before.size - extent_at(records, child).size;
+    Extent { height, size }
+}
+
 /// The extent of a node with these children.
 pub(crate) fn over_children(records: &Records, children: &[u16]) -> Extent
     ensures { result ≡ reckoned (extent_at records.now.slots) children.now }
@@ -123,23 +159,6 @@ pub(crate) fn reckon(records: &mut Records, id: u16)
     set_extent(records, id, extent);
 }
 
-/// Reckons extents anew along a way, from its end to its start.
-pub(crate) fn reckon_all(records: &mut Records, way: &[u16])
-    requires leads { LeadUp (look_of records.old.slots) (reverse way.now) }
-    requires meets { MeetBut (look_of records.old.slots) (extent_at records.old.slots) (reverse way.now) }
-    ensures meets { Meets (look_of records.new.slots) (extent_at records.new.slots) }
-    ensures nodes { (b : ℕ) → look_of records.new.slots b ≡ look_of records.old.slots b }
-    ensures parents { (b : ℕ) → parents_of records.new.slots b ≡ parents_of records.old.slots b }
-    ensures others { (b : ℕ) → is_in b (reverse way.now) ≡ false
-        → extent_at records.new.slots b ≡ extent_at records.old.slots b }
-{
-    let mut left = way.len();
-    while left > 0 {
-        left -= 1;
-        reckon(records, way[left]);
-    }
-}
-
 /// Reckons the extent of a node anew, but for one node.
 fn reckon_other(records: &mut Records, at: u16, id: u16)
     ensures nodes { (b : ℕ) → look_of records.new.slots b ≡ look_of records.old.slots b }
@@ -170,6 +189,23 @@ pub(crate) fn reckon_others(records: &mut Records, way: &[u16], id: u16)
         left -= 1;
         reckon_other(records, way[left], id);
     }
+}
+
+/// Sets the extent of a node on a way, and reckons those of the other nodes along it anew, from its end to its start.
+pub(crate) fn set_along(records: &mut Records, way: &[u16], id: u16, extent: Extent)
+    requires there { is_some (look_of records.old.slots id) ≡ true }
+    requires leads { LeadUp (look_of records.old.slots) (reverse way.now) }
+    requires member { is_in id (reverse way.now) ≡ true }
+    requires meets { MeetBut (look_of records.old.slots) (extent_at records.old.slots) (id ∷ []) }
+    ensures meets { MeetBut (look_of records.new.slots) (extent_at records.new.slots) (id ∷ []) }
+    ensures extent { extent_at records.new.slots id ≡ extent }
+    ensures nodes { (b : ℕ) → look_of records.new.slots b ≡ look_of records.old.slots b }
+    ensures parents { (b : ℕ) → parents_of records.new.slots b ≡ parents_of records.old.slots b }
+    ensures others { (b : ℕ) → is_in b (reverse way.now) ≡ false
+        → extent_at records.new.slots b ≡ extent_at records.old.slots b }
+{
+    set_extent(records, id, extent);
+    reckon_others(records, way, id);
 }
 
 /// The greatest height and the greatest size along a way.

@@ -12,7 +12,7 @@ ghost use Rattle.pf_edits.specs.Listed.{nodes_of};
 ghost use Rattle.pf_edits.specs.Working.{told, IsWorking};
 ghost use Rattle.pf_edits.specs.Undoing.{KeepsParents};
 
-use crate::climb::{extent_at, over_children, over_swapped};
+use crate::climb::{lengthened_extent, over_children, over_swapped};
 use crate::extents::{Extent, LEAF};
 use crate::faults::{
     fault_of_add, fault_of_delete, fault_of_insert, fault_of_make, fault_of_remove,
@@ -22,13 +22,6 @@ use crate::links::fault_with;
 use crate::records::Records;
 use crate::work::Work;
 use pf_model::{Edit, Fault, attribute_fault};
-
-/// The extent of a parent with one more child.
-fn lengthened_extent(records: &Records, parent: u16, child: u16) -> Extent
-    ensures { result ≡ joined (extent_at records.now.slots parent) (extent_at records.now.slots child) }
-{
-    extent_at(records, parent).over(extent_at(records, child))
-}
 
 /// The place of the first that is this child.
 fn place_in(children: &[u16], child: u16) -> Option<usize>

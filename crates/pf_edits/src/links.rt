@@ -11,7 +11,7 @@ ghost use Rattle.pf_edits.specs.Extents.{look_of, parents_of, extent_at, reckone
 ghost use Rattle.pf_edits.specs.Listed.{nodes_of};
 ghost use Rattle.pf_edits.specs.Settling.{Grows};
 
-use crate::climb::{climb, has_child, is_in, reckon_all, reckon_others, set_extent};
+use crate::climb::{climb, extent_at, has_child, is_in, set_along};
 use crate::extents::Extent;
 use crate::faults::excess;
 use crate::records::Records;
@@ -40,13 +40,14 @@ fn swap_children(records: &mut Records, id: u16, children: Ids) -> Ids
     }
 }
 
-/// Gives a node other children, and reckons extents anew along a way up from it.
-fn relink_along(records: &mut Records, way: &[u16], id: u16, children: Ids) -> Ids
+/// Gives a node other children, with which its extent is known, and reckons those above it anew along a way up.
+fn relink_along(records: &mut Records, way: &[u16], id: u16, children: Ids, extent: Extent) -> Ids
     requires there { is_some (look_of records.old.slots id) ≡ true }
     requires meets { Meets (look_of records.old.slots) (extent_at records.old.slots) }
     requires leads { LeadUp (look_of records.old.slots) (reverse way.now) }
     requires member { is_in id (reverse way.now) ≡ true }
     requires apart { (x : ℕ) → is_in x (reverse way.now) ≡ true → is_in x children ≡ false }
+    requires extent { extent ≡ reckoned (extent_at records.old.slots) children }
     ensures back { option_map child_list (look_of records.old.slots id) ≡ Some result }
     ensures nodes { (b : ℕ) → look_of records.new.slots b
         ≡ (if b == id then option_map (with_children children) (look_of records.old.slots b)
@@ -57,12 +58,18 @@ fn relink_along(records: &mut Records, way: &[u16], id: u16, children: Ids) -> I
         → extent_at records.new.slots b ≡ extent_at records.old.slots b }
 {
     let older = swap_children(records, id, children);
-    reckon_all(records, way);
+    set_along(records, way, id, extent);
     older
 }
 
-/// Gives a node other children, all of which have it noted as a parent.
-pub(crate) fn relink_freely(records: &mut Records, way: &mut Way, id: u16, children: Ids) -> Ids
+/// Gives a node other children, all of which have it noted as a parent, and with which its extent is known.
+pub(crate) fn relink_freely(
+    records: &mut Records,
+    way: &mut Way,
+    id: u16,
+    children: Ids,
+    extent: Extent,
+) -> Ids
     requires way { way.old ≡ [] }
     requires sound { IsSound records.old.slots }
     requires low { AreLow (look_of records.old.slots) }
@@ -70,6 +77,7 @@ pub(crate) fn relink_freely(records: &mut Records, way: &mut Way, id: u16, child
     requires noted { (x : ℕ) → is_in x children ≡ true → is_in id (parents_of records.old.slots x) ≡ true }
     requires apart { (x : ℕ) → is_in x children ≡ true
         → (x == id || is_below (look_of records.old.slots) x id) ≡ false }
+    requires extent { extent ≡ reckoned (extent_at records.old.slots) children }
     ensures way { way.new ≡ [] }
     ensures back { option_map child_list (look_of records.old.slots id) ≡ Some result }
     ensures nodes { (b : ℕ) → look_of records.new.slots b
@@ -79,7 +87,7 @@ pub(crate) fn relink_freely(records: &mut Records, way: &mut Way, id: u16, child
     ensures sound { IsSound records.new.slots }
 {
     climb(records, way, id);
-    let older = relink_along(records, way.as_slice(), id, children);
+    let older = relink_along(records, way.as_slice(), id, children, extent);
     way.clear();
     older
 }
@@ -106,10 +114,10 @@ pub(crate) fn fault_with(
     ensures sound { IsSound records.new.slots }
 {
     climb(records, way, id);
-    set_extent(records, id, extent);
-    reckon_others(records, way.as_slice(), id);
+    let before = extent_at(records, id);
+    set_along(records, way.as_slice(), id, extent);
     let fault = excess(records, way.as_slice());
-    reckon_all(records, way.as_slice());
+    set_along(records, way.as_slice(), id, before);
     way.clear();
     fault
 }
@@ -151,6 +159,7 @@ pub(crate) fn note_link(records: &mut Records, id: u16, parent: u16) -> Result<(
     requires sound { IsSound records.old.slots }
     requires there { is_some (look_of records.old.slots id) ≡ true }
     ensures nodes { (b : ℕ) → look_of records.new.slots b ≡ look_of records.old.slots b }
+    ensures extents { (b : ℕ) → extent_at records.new.slots b ≡ extent_at records.old.slots b }
     ensures sound { IsSound records.new.slots }
     ensures noted { OnOk result (is_in parent (parents_of records.new.slots id) ≡ true) }
     ensures kept { (b : ℕ) → (p : ℕ) → is_in p (parents_of records.old.slots b) ≡ true

@@ -13,6 +13,7 @@ ghost use Rattle.pf_edits.specs.Undoing.{graph_before, parents_before, brings_ba
 ghost use Rattle.pf_edits.specs.Settling.{asked_link, any_asks, IsTight, IsTightBut, Grows, IsNoted, ComeFrom};
 ghost use Rattle.pf_edits.specs.Refusals.{RefusesAll, BeginsWell};
 
+use crate::climb::over_children;
 use crate::errors::EditsError;
 use crate::links::relink_freely;
 use crate::nodes::{insert, remove, swap_kind};
@@ -74,7 +75,8 @@ impl Work {
         ensures entries { (b : ℕ) → (p : ℕ) → is_in p (parents_of self.new.records.slots b) ≡ true
             → (is_in p (parents_of self.old.records.slots b) || brings_back id (Older.Children children) p b) ≡ true }
     {
-        relink_freely(&mut self.records, &mut self.way, id, children);
+        let extent = over_children(&self.records, children.as_slice());
+        relink_freely(&mut self.records, &mut self.way, id, children, extent);
     }
 
     /// Gives a node its older kind.

@@ -12,12 +12,14 @@ ghost use Rattle.std.specs.Result.{IsErrOf};
 ghost use Rattle.pf_model.specs.Edits.{child_count, with_nodes, remains, fault_of, effect, Refuses};
 ghost use Rattle.pf_model.specs.Fits.{fits};
 ghost use Rattle.pf_edits.specs.Ways.{is_in};
-ghost use Rattle.pf_edits.specs.Extents.{look_of};
+ghost use Rattle.pf_edits.specs.Extents.{look_of, extent_at, reckoned};
 ghost use Rattle.pf_edits.specs.Listed.{nodes_of};
 ghost use Rattle.pf_edits.specs.Working.{told, IsWorking};
 ghost use Rattle.pf_edits.specs.Undoing.{IsUndo, KeepsParents};
 ghost use Rattle.pf_edits.specs.Settling.{asked_link, loses, IsTight, IsTightBut, Grows};
 
+use crate::climb::{lengthened_extent, over_children, shortened_extent};
+use crate::extents::Extent;
 use crate::faults::{child_count, find_node};
 use crate::links::{note_link, relink_freely};
 use crate::nodes::{insert, remove, swap_kind};
@@ -148,8 +150,14 @@ impl Work {
         })
     }
 
-    /// Gives a parent other children, of which one may be new.
-    fn link(&mut self, parent: u16, child: u16, children: Ids) -> Result<Undo, NoMemory>
+    /// Gives a parent other children, of which one may be new, and with which its extent is known.
+    fn link(
+        &mut self,
+        parent: u16,
+        child: u16,
+        children: Ids,
+        extent: Extent,
+    ) -> Result<Undo, NoMemory>
         requires working { IsWorking self.old }
         requires there { is_there (node_at (nodes_of self.old.records.slots)) parent ≡ true }
         requires child { is_there (node_at (nodes_of self.old.records.slots)) child ≡ true }
@@ -157,6 +165,7 @@ impl Work {
             → (is_in x (children_of (node_at (nodes_of self.old.records.slots)) parent) || child == x) ≡ true }
         requires apart { (child == parent || is_below (node_at (nodes_of self.old.records.slots)) child parent) ≡ false }
         requires within { IsGraphWithinLimits (with_nodes (change parent (with_children children)) (told self.old)) }
+        requires extent { extent ≡ reckoned (extent_at self.old.records.slots) children }
         ensures working { IsWorking self.new }
         ensures after { OnOk result (told self.new ≡ with_nodes (change parent (with_children children)) (told self.old)) }
         ensures unchanged { OnErr result (told self.new ≡ told self.old) }
@@ -166,7 +175,7 @@ impl Work {
         ensures fewer { OnErr result (KeepsParents self.new self.old) }
     {
         note_link(&mut self.records, child, parent)?;
-        let older = relink_freely(&mut self.records, &mut self.way, parent, children);
+        let older = relink_freely(&mut self.records, &mut self.way, parent, children, extent);
         Ok(Undo {
             id: parent,
             older: Older::Children(older),
@@ -187,7 +196,8 @@ impl Work {
     {
         let place = child_count(&self.records, parent);
         let children = lengthened(&self.records, parent, place, child)?;
-        self.link(parent, child, children)
+        let extent = lengthened_extent(&self.records, parent, child);
+        self.link(parent, child, children, extent)
     }
 
     /// Puts a child before a place.
@@ -204,7 +214,8 @@ impl Work {
         ensures fewer { OnErr result (KeepsParents self.new self.old) }
     {
         let children = lengthened(&self.records, parent, usize::from(place), child)?;
-        self.link(parent, child, children)
+        let extent = lengthened_extent(&self.records, parent, child);
+        self.link(parent, child, children, extent)
     }
 
     /// Puts `by` at the first place that holds the child.
@@ -220,7 +231,8 @@ impl Work {
         ensures fewer { OnErr result (KeepsParents self.new self.old) }
     {
         let children = replaced(&self.records, parent, child, by)?;
-        self.link(parent, by, children)
+        let extent = over_children(&self.records, children.as_slice());
+        self.link(parent, by, children, extent)
     }
 
     /// Takes out the first place that holds the child.
@@ -236,7 +248,8 @@ impl Work {
         ensures fewer { OnErr result (KeepsParents self.new self.old) }
     {
         let children = shortened(&self.records, parent, child)?;
-        let older = relink_freely(&mut self.records, &mut self.way, parent, children);
+        let extent = shortened_extent(&self.records, parent, child, children.as_slice());
+        let older = relink_freely(&mut self.records, &mut self.way, parent, children, extent);
         Ok(Undo {
             id: parent,
             older: Older::Children(older),

@@ -6,8 +6,10 @@ use Rattle.pf_model.specs.Graphs.{SceneGraph, node_at, children_of, change, is_b
 use Rattle.pf_model.specs.NodeEdits.{with_children}
 use Rattle.pf_model.specs.Edits.{first, child_count, insert_rules, with_nodes, effect}
 use Rattle.pf_model.proofs.Rules.{all_passed, when_not, there_from}
+use Rattle.pf_edits.specs.Extents.{extent_at, reckoned}
 use Rattle.pf_edits.specs.Working.{told}
 use Rattle.pf_edits.proofs.Ends.{insert_is, insert_passed, ends_within, ends_after, not_full, not_far, inserted_members}
+use Rattle.pf_edits.proofs.Trials.{lengthened_is}
 use Rattle.pf_edits.proofs.work.Work.insert.Goals as goal
 
 pub lengthened-requires-clause-there : goal.lengthened-requires-clause-there
@@ -62,3 +64,10 @@ returns-clause-after c =
     ends_after c.link.result (told c.link.new.self) (with_nodes (change c.args.parent (with_children c.in_ok-children.children)) g) (effect g (edit.Insert c.args.parent c.args.place c.args.child))
     (made g c.args.parent c.args.place c.args.child c.from.result c.in_ok-children.children (insert_passed g c.args.parent c.args.place c.args.child c.requires.none) c.in_ok-children.ensures c.from.ensures)
     c.link.ensures.after
+
+pub link-requires-clause-extent : goal.link-requires-clause-extent
+link-requires-clause-extent c =
+    let s = c.args.self.now.records.slots in
+    c.lengthened_extent-extent.ensures
+    ∙ lengthened_is s c.requires.working.sound c.args.parent c.from.result c.args.child
+    ∙ sym (ap (λ (cs : List ℕ). reckoned (extent_at s) cs) c.in_ok-children.ensures)

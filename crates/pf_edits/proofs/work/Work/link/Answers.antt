@@ -1,10 +1,11 @@
-use Rattle.std.proofs.Common.{◌≡◌, ◌≤◌, Option, true, is_some, sym, ◌∙◌, ap, subst}
+use Rattle.std.proofs.Common.{◌≡◌, ℕ, ◌≤◌, Option, true, is_some, sym, ◌∙◌, ap, subst}
 use Rattle.pf_model.specs.declared.nodes.Node.{Node}
 use Rattle.pf_model.specs.Graphs.{Look, height_of, change}
 use Rattle.pf_model.specs.Limits.{IsGraphWithinLimits}
 use Rattle.pf_model.specs.NodeEdits.{with_children}
 use Rattle.pf_model.proofs.Places.{funext}
-use Rattle.pf_edits.specs.Extents.{look_of}
+use Rattle.pf_edits.specs.declared.extents.Extent.{Extent}
+use Rattle.pf_edits.specs.Extents.{look_of, extent_at, reckoned}
 use Rattle.pf_edits.specs.Tables.{Slots}
 use Rattle.pf_edits.specs.Ways.{is_in}
 use Rattle.pf_edits.proofs.Listed.{found, same_nodes, changed_nodes}
@@ -94,3 +95,8 @@ returns-clause-undo c =
 
 pub returns-clause-grown : goal.returns-clause-grown
 returns-clause-grown c = λ b p h. c.in_ok-note_link.ensures.grown b p (sym (ap (is_in p) (c.relink_freely-older.ensures.parents b)) ∙ h)
+
+pub relink_freely-older-requires-clause-extent : goal.relink_freely-older-requires-clause-extent
+relink_freely-older-requires-clause-extent c =
+    c.requires.extent
+    ∙ ap (λ (f : ℕ → Extent). reckoned f c.args.children) (sym (funext (extent_at c.note_link.new.records.slots) (extent_at c.args.self.now.records.slots) c.note_link.ensures.extents))

@@ -1,18 +1,20 @@
-use Rattle.std.proofs.Common.{◌≡◌, Option, None, true, is_some, refl, sym, ◌∙◌, ap, subst}
+use Rattle.std.proofs.Common.{◌≡◌, ℕ, List, Bool, Option, None, true, false, not, is_some, refl, sym, ◌∙◌, ap, subst}
 use Rattle.pf_model.specs.declared.nodes.Node.{Node}
 use Rattle.pf_model.specs.declared.edits.Edit.TheVariants as edit
+use Rattle.pf_model.specs.declared.edits.Fault.TheVariants as fault
 use Rattle.pf_model.specs.Graphs.{Look, SceneGraph, node_at, children_of}
 use Rattle.pf_model.specs.NodeEdits.{with_children}
-use Rattle.pf_model.specs.Edits.{first, remove_rules}
-use Rattle.pf_model.proofs.Rules.{all_passed, there_from}
+use Rattle.pf_model.specs.Edits.{first, is_child, remove_rules}
+use Rattle.pf_model.proofs.Rules.{all_passed, when_not, there_from}
 use Rattle.pf_edits.specs.Ways.{is_in}
-use Rattle.pf_edits.specs.Extents.{look_of}
+use Rattle.pf_edits.specs.Extents.{look_of, extent_at, reckoned}
 use Rattle.pf_edits.specs.Listed.{nodes_of}
 use Rattle.pf_edits.specs.Working.{told}
 use Rattle.pf_edits.proofs.Listed.{found, looks, changed_nodes}
-use Rattle.pf_edits.proofs.Relinks.{no_cycle}
+use Rattle.pf_edits.proofs.Relinks.{all_within, no_cycle}
 use Rattle.pf_edits.proofs.Ends.{remove_is, dropped_members}
-use Rattle.pf_edits.proofs.Works.{low_of, told_nodes, within_after, old_noted, there_after, none_gone, changed_stays}
+use Rattle.pf_edits.proofs.Works.{low_of, small_of, told_nodes, within_after, old_noted, there_after, none_gone, changed_stays}
+use Rattle.pf_edits.proofs.Trials.{reckoned_dropped}
 use Rattle.pf_edits.proofs.Undoes.{back_children}
 use Rattle.pf_edits.proofs.Tights.{same_grows}
 use Rattle.pf_edits.proofs.work.Work.remove.Goals as goal
@@ -85,3 +87,23 @@ shortened-requires c =
 
 pub returns-clause-grown : goal.returns-clause-grown
 returns-clause-grown c = same_grows None c.args.self.now.records.slots c.relink_freely-older.new.records.slots c.relink_freely-older.ensures.parents
+
+kept_child : (t : Bool) → not t ≡ false → t ≡ true
+kept_child true h = refl
+kept_child false h = absurd (cc)
+
+pub shortened_extent-extent-requires-clause-before : goal.shortened_extent-extent-requires-clause-before
+shortened_extent-extent-requires-clause-before c =
+    let s = c.args.self.now.records.slots in
+    let none : None ≡ first (remove_rules (nodes_of s) c.args.parent c.args.child) = c.requires.none in
+    reckoned_dropped s c.requires.working.sound c.args.parent c.args.child c.as_slice.result.now
+    (kept_child (is_child (nodes_of s) c.args.parent c.args.child)
+    (when_not (not (is_child (nodes_of s) c.args.parent c.args.child)) (fault.NotChild c.args.parent c.args.child) (all_passed (remove_rules (nodes_of s) c.args.parent c.args.child) none).1.1.1.0))
+    (c.as_slice.ensures.value ∙ c.in_ok-children.ensures)
+
+pub shortened_extent-extent-requires-clause-small : goal.shortened_extent-extent-requires-clause-small
+shortened_extent-extent-requires-clause-small c =
+    (all_within c.args.self.now.records.slots c.requires.working.sound.meets (low_of c.args.self.now c.requires.working) (small_of c.args.self.now c.requires.working) c.args.parent).small
+
+pub relink_freely-older-requires-clause-extent : goal.relink_freely-older-requires-clause-extent
+relink_freely-older-requires-clause-extent c = c.shortened_extent-extent.ensures ∙ ap (λ (cs : List ℕ). reckoned (extent_at c.args.self.now.records.slots) cs) c.as_slice.ensures.value

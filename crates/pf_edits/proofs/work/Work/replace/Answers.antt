@@ -1,10 +1,11 @@
-use Rattle.std.proofs.Common.{◌==◌, ◌||◌, refl}
+use Rattle.std.proofs.Common.{◌==◌, ◌||◌, ℕ, List, refl, ◌∙◌, ap}
 use Rattle.pf_model.specs.declared.edits.Edit.TheVariants as edit
 use Rattle.pf_model.specs.declared.edits.Fault.TheVariants as fault
 use Rattle.pf_model.specs.Graphs.{SceneGraph, node_at, children_of, change, is_below}
 use Rattle.pf_model.specs.NodeEdits.{with_children}
 use Rattle.pf_model.specs.Edits.{replace_rules, with_nodes, effect}
 use Rattle.pf_model.proofs.Rules.{all_passed, when_not, there_from}
+use Rattle.pf_edits.specs.Extents.{extent_at, reckoned}
 use Rattle.pf_edits.specs.Working.{told}
 use Rattle.pf_edits.proofs.Ends.{replace_is, replace_passed, ends_within, ends_after, replaced_members}
 use Rattle.pf_edits.proofs.work.Work.replace.Goals as goal
@@ -46,3 +47,6 @@ returns-clause-after c =
     ends_after c.link.result (told c.link.new.self) (with_nodes (change c.args.parent (with_children c.in_ok-children.children)) g) (effect g (edit.Replace c.args.parent c.args.child c.args.by))
     (replace_is g c.args.parent c.args.child c.args.by c.in_ok-children.children (replace_passed g c.args.parent c.args.child c.args.by c.requires.none) c.in_ok-children.ensures)
     c.link.ensures.after
+
+pub link-requires-clause-extent : goal.link-requires-clause-extent
+link-requires-clause-extent c = c.over_children-extent.ensures ∙ ap (λ (cs : List ℕ). reckoned (extent_at c.args.self.now.records.slots) cs) c.as_slice.ensures.value

@@ -1,10 +1,10 @@
-use Rattle.std.proofs.Common.{sym, subst}
+use Rattle.std.proofs.Common.{None, ℕ, List, sym, ◌∙◌, ap, subst}
 use Rattle.pf_model.specs.Limits.{IsGraphWithinLimits}
 use Rattle.pf_model.specs.NodeEdits.{with_children}
 use Rattle.pf_edits.proofs.Listed.{changed_nodes}
 use Rattle.pf_edits.proofs.Works.{low_of, told_nodes}
 use Rattle.pf_edits.proofs.Rollbacks.{link_apart, there_look}
-use Rattle.std.proofs.Common.{None}
+use Rattle.pf_edits.specs.Extents.{extent_at, reckoned}
 use Rattle.pf_edits.proofs.Tights.{same_grows}
 use Rattle.pf_edits.proofs.work.Work.undo_link.Goals as goal
 
@@ -33,3 +33,6 @@ returns-clause-working c =
 
 pub returns-clause-entries : goal.returns-clause-entries
 returns-clause-entries c = same_grows None c.args.self.now.records.slots c.relink_freely.new.records.slots c.relink_freely.ensures.parents
+
+pub relink_freely-requires-clause-extent : goal.relink_freely-requires-clause-extent
+relink_freely-requires-clause-extent c = c.over_children-extent.ensures ∙ ap (λ (cs : List ℕ). reckoned (extent_at c.args.self.now.records.slots) cs) c.as_slice.ensures.value
