@@ -110,6 +110,10 @@ pub fn for_each_mut<R, T>(_rt: &R, values: &mut [T], _threads: usize, act: &dyn 
     }
 }
 
+pub fn nearest_i64_to_f64(n: i64) -> f64 {
+    n as f64
+}
+
 pub fn nearest_u64_to_f64(n: u64) -> f64 {
     n as f64
 }

@@ -6,6 +6,7 @@ pub mod Depths
 pub mod Drawn
 pub mod Edged
 pub mod Finals
+pub mod Flat
 pub mod Flushed
 pub mod Folding
 pub mod Foremost

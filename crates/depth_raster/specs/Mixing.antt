@@ -1,5 +1,5 @@
 -- Weighed sums of channels.
-use Rattle.std.specs.Prelude.{ℕ, ◌<◌, ◌^◌, List, ℤ, pos, ◌+ℤ◌, ◌*ℤ◌}
+use Rattle.std.specs.Prelude.{◌≡◌, ℕ, ◌<◌, ◌^◌, List, [], ◌∷◌, ℤ, pos, ◌+ℤ◌, ◌*ℤ◌}
 use Rattle.tri_cover.specs.Hits.{channel}
 use Rattle.tri_cover.specs.Linears.{value_at, step_of}
 use Rattle.tri_cover.specs.declared.face.Face.{Face}
@@ -31,3 +31,15 @@ pub record AreColours (colours : List (List ℕ)) : Type 0 where
   pub red : AreBytes (channel colours 0 0) (channel colours 1 0) (channel colours 2 0)
   pub green : AreBytes (channel colours 0 1) (channel colours 1 1) (channel colours 2 1)
   pub blue : AreBytes (channel colours 0 2) (channel colours 1 2) (channel colours 2 2)
+
+-- the three colours have one and the same channel i
+pub record IsOneChannel (colours : List (List ℕ)) (i : ℕ) : Type 0 where
+  pub second : channel colours 1 i ≡ channel colours 0 i
+  pub third : channel colours 2 i ≡ channel colours 0 i
+
+-- the three colours are this one
+pub record IsFlat (colours : List (List ℕ)) (colour : List ℕ) : Type 0 where
+  pub red : IsOneChannel colours 0
+  pub green : IsOneChannel colours 1
+  pub blue : IsOneChannel colours 2
+  pub colour_is : colour ≡ channel colours 0 0 ∷ channel colours 0 1 ∷ channel colours 0 2 ∷ []

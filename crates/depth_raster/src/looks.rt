@@ -6,7 +6,7 @@ ghost use Rattle.depth_raster.specs.Looks.{Looks, IsSeen, IsSeenBefore};
 ghost use Rattle.depth_raster.specs.Weighed.{IsSmallWeight, IsWeighedAt};
 
 use crate::edges::EdgeValues;
-use std::num::{f64_to_bits_with_nan, nearest_u64_to_f64};
+use std::num::{f64_to_bits_with_nan, nearest_i64_to_f64, nearest_u64_to_f64};
 use tri_cover::Face;
 
 /// The depth of a face at a pixel of its box, where it is hit there before a depth, from the sum of its edge values there, if
@@ -35,9 +35,29 @@ pub(crate) fn is_seen(face: &Face, values: &EdgeValues, limit: u64) -> bool
     }
 }
 
-/// The depth of a face at a pixel where its edge values have this sum, if it is before a depth.
-#[tactic(auto, using(crate::proofs::Looking::limit_reached, crate::proofs::Looking::quotient_before))]
+/// The depth of a face at a pixel where its edge values have this sum, if it is before a depth: most sums have 64 bits.
+#[inline(always)]
 fn depth_before(face: &Face, limit: u64, about: f64, sum: u128) -> Option<u32>
+    requires limit { limit < 2 ^ 40 }
+    requires some { 0 < sum }
+    requires sum { sum < 2 ^ 84 }
+    ensures some { IfSome result (λ d. (d ≡ face.now.dividend / sum) × (face.now.extent.near ≤ d)
+        × (d ≤ face.now.extent.far) × (d < limit)) }
+    ensures none { IfNone result (face.now.extent.near ≤ face.now.dividend / sum
+        → face.now.dividend / sum ≤ face.now.extent.far → limit ≤ face.now.dividend / sum) }
+{
+    if sum < 9_223_372_036_854_775_808 {
+        narrow_before(face, limit, about, sum as u64)
+    } else {
+        wide_before(face, limit, about, sum)
+    }
+}
+
+/// The same for a sum of any size.
+#[cold]
+#[inline(never)]
+#[tactic(auto, using(crate::proofs::Looking::limit_reached, crate::proofs::Looking::quotient_before))]
+fn wide_before(face: &Face, limit: u64, about: f64, sum: u128) -> Option<u32>
     requires limit { limit < 2 ^ 40 }
     requires some { 0 < sum }
     requires sum { sum < 2 ^ 84 }
@@ -51,6 +71,28 @@ fn depth_before(face: &Face, limit: u64, about: f64, sum: u128) -> Option<u32>
     }
     let depth = quotient(face.dividend, sum, about);
     if depth < u128::from(face.extent.near) || u128::from(face.extent.far) < depth {
+        return None;
+    }
+    Some(depth as u32)
+}
+
+/// The same for a sum in 64 bits.
+#[inline(always)]
+#[tactic(auto, using(crate::proofs::Looking::limit_reached, crate::proofs::Looking::quotient_before))]
+fn narrow_before(face: &Face, limit: u64, about: f64, sum: u64) -> Option<u32>
+    requires limit { limit < 2 ^ 40 }
+    requires some { 0 < sum }
+    requires sum { sum < 2 ^ 63 }
+    ensures some { IfSome result (λ d. (d ≡ face.now.dividend / sum) × (face.now.extent.near ≤ d)
+        × (d ≤ face.now.extent.far) × (d < limit)) }
+    ensures none { IfNone result (face.now.extent.near ≤ face.now.dividend / sum
+        → face.now.dividend / sum ≤ face.now.extent.far → limit ≤ face.now.dividend / sum) }
+{
+    if narrow_product(limit, sum) <= face.dividend {
+        return None;
+    }
+    let depth = narrow_quotient(face.dividend, sum, about, limit);
+    if depth < u64::from(face.extent.near) || u64::from(face.extent.far) < depth {
         return None;
     }
     Some(depth as u32)
@@ -105,14 +147,48 @@ fn quotient(dividend: u128, sum: u128, about: f64) -> u128
     }
 }
 
-/// About the quotient, where that is below 2^32. A float from 2^52 to 2^53 has no digits below one, so that a sum with 2^52 is
-/// rounded to a whole number, whose digits are the lowest of the float; the half that is taken off makes of this rounding one
-/// down.
+/// A quotient by a number of 64 bits that is below a limit, guessed by floats from what is about the dividend, and judged.
+#[inline(always)]
+fn narrow_quotient(dividend: u128, sum: u64, about: f64, limit: u64) -> u64
+    requires some { 0 < sum }
+    requires sum { sum < 2 ^ 63 }
+    requires below { dividend < limit * sum }
+    ensures { result ≡ dividend / sum }
+{
+    let guess = rounded(about / nearest_i64_to_f64(sum as i64));
+    if is_narrow_quotient(dividend, sum, guess) {
+        guess
+    } else {
+        divided(dividend, sum, limit)
+    }
+}
+
+/// A quotient by a number of 64 bits that is below a limit, divided out.
+#[cold]
+#[inline(never)]
+#[tactic(auto, using(crate::proofs::Looking::quotient_before))]
+fn divided(dividend: u128, sum: u64, limit: u64) -> u64
+    requires some { 0 < sum }
+    requires below { dividend < limit * sum }
+    ensures { result ≡ dividend / sum }
+{
+    (dividend / u128::from(sum)) as u64
+}
+
+/// About the quotient, where that is below 2^32.
 fn guessed(about: f64, sum: u128) -> u64
     ensures { result < 2 ^ 32 }
 {
-    let near = about / near(sum) + 4_503_599_627_370_495.5;
-    f64_to_bits_with_nan(near) % 4_294_967_296
+    rounded(about / near(sum))
+}
+
+/// A float below 2^32, rounded down. A float from 2^52 to 2^53 has no digits below one, so that a sum with 2^52 is rounded to a
+/// whole number, whose digits are the lowest of the float; the half that is taken off makes of this rounding one down.
+#[inline(always)]
+fn rounded(guess: f64) -> u64
+    ensures { result < 2 ^ 32 }
+{
+    f64_to_bits_with_nan(guess + 4_503_599_627_370_495.5) % 4_294_967_296
 }
 
 /// Whether a number is the quotient.
@@ -125,4 +201,24 @@ fn is_quotient(dividend: u128, sum: u128, guess: u64) -> bool
 {
     let low = product(guess, sum);
     low <= dividend && dividend - low < sum
+}
+
+/// Whether a number is the quotient by a number of 64 bits.
+#[inline(always)]
+#[tactic(auto, using(crate::proofs::Looking::quotient_is))]
+fn is_narrow_quotient(dividend: u128, sum: u64, guess: u64) -> bool
+    requires some { 0 < sum }
+    requires guess { guess < 2 ^ 32 }
+    ensures { IsTrue result → guess ≡ dividend / sum }
+{
+    let low = narrow_product(guess, sum);
+    low <= dividend && dividend - low < u128::from(sum)
+}
+
+/// A product of two numbers of 64 bits.
+#[inline(always)]
+fn narrow_product(limit: u64, sum: u64) -> u128
+    ensures { result ≡ limit * sum }
+{
+    u128::from(limit) * u128::from(sum)
 }

@@ -1,9 +1,10 @@
 //! The colours of a tile after faces are drawn.
-ghost use Rattle.std.specs.Prelude.{◌≡◌, ℕ, ◌+◌, ◌<◌, ◌≤◌, All, length};
+ghost use Rattle.std.specs.Prelude.{◌≡◌, ℕ, [], ◌+◌, ◌<◌, ◌≤◌, All, IfSome, length, slice_set, slice_index_or};
 ghost use Rattle.fx_math.specs.Limits.{size_limit};
 ghost use Rattle.depth_raster.specs.Blocks.{IsBlockOf, size_of, colour_in};
 ghost use Rattle.depth_raster.specs.Following.{Follows, Relates, SpanRelates};
 ghost use Rattle.depth_raster.specs.Means.{AreMeansAt, filled, shaded_within};
+ghost use Rattle.depth_raster.specs.Mixing.{IsFlat};
 ghost use Rattle.depth_raster.specs.Pieces.{IsPieceOf, settled, kept_colour};
 ghost use Rattle.depth_raster.specs.Runs.{IsRunOf};
 ghost use Rattle.depth_raster.specs.Tiles.{mark_in, painted_within, kept_within, hit_within, HaveRank, IsCleared, IsPainted};
@@ -137,16 +138,19 @@ fn paint_old(colours: &mut [[u8; 3]], marks: &[Mark], block: &Block, back: [u8; 
 {
     for q in run.start..run.end {
         let place = block.place(q, run.r);
-        let colour = kept(&marks[place], colours[place], back);
-        colours[place] = colour;
+        paint_back(colours, place, &marks[place], back);
     }
 }
 
-/// The colour at a pixel of a mark at which nothing is drawn together.
-fn kept(mark: &Mark, before: [u8; 3], back: [u8; 3]) -> [u8; 3]
-    ensures { result ≡ kept_colour back mark.now before }
+/// Gives a pixel of a mark at which nothing is drawn the background's colour; any other pixel keeps its own.
+#[inline(always)]
+fn paint_back(colours: &mut [[u8; 3]], place: usize, mark: &Mark, back: [u8; 3])
+    requires { place < length colours.old }
+    ensures { colours.new ≡ slice_set colours.old place (kept_colour back mark.now (slice_index_or colours.old place [])) }
 {
-    if mark.depth < NOTHING { before } else { back }
+    if NOTHING <= mark.depth {
+        colours[place] = back;
+    }
 }
 
 /// Paints a run of pixels at which a piece is nearest.
@@ -164,8 +168,42 @@ fn paint_piece(colours: &mut [[u8; 3]], block: &Block, lens: &Lens, piece: &Piec
     }
 }
 
-/// Paints a run of pixels by a face.
+/// Paints a run of pixels by a face. Where its vertices have one colour, so has each of the pixels.
 fn paint_face(colours: &mut [[u8; 3]], block: &Block, face: &Face, run: &Run)
+    requires colours { length colours.old ≡ size_of block.now }
+    requires columns { block.now.left + block.now.width ≤ size_limit }
+    requires rows { block.now.first + block.now.rows ≤ size_limit }
+    requires run { IsRunOf block.now run.now }
+    ensures { SpanRelates block.now (colour_in block.now colours.old) (colour_in block.now colours.new)
+        (shaded_within face.now block.now) run.now.r run.now.start run.now.end }
+{
+    match flat_colour(&face.colours) {
+        Some(colour) => fill_run(colours, block, colour, run),
+        None => paint_shaded(colours, block, face, run),
+    }
+}
+
+/// The one colour of three vertices, where they have one.
+#[inline(always)]
+fn flat_colour(colours: &[[u8; 3]; 3]) -> Option<[u8; 3]>
+    ensures { IfSome result (IsFlat colours.now) }
+{
+    let [x, y, z] = *colours;
+    if x[0] == y[0]
+        && x[0] == z[0]
+        && x[1] == y[1]
+        && x[1] == z[1]
+        && x[2] == y[2]
+        && x[2] == z[2]
+    {
+        Some([x[0], x[1], x[2]])
+    } else {
+        None
+    }
+}
+
+/// Paints a run of pixels by a face whose vertices have several colours.
+fn paint_shaded(colours: &mut [[u8; 3]], block: &Block, face: &Face, run: &Run)
     requires colours { length colours.old ≡ size_of block.now }
     requires columns { block.now.left + block.now.width ≤ size_limit }
     requires rows { block.now.first + block.now.rows ≤ size_limit }

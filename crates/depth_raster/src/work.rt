@@ -3,14 +3,14 @@
 use crate::pieces::Piece;
 
 /// The work from which on half of it is worth a thread of its own.
-const MUCH_WORK: u64 = 262_144;
+const MUCH_WORK: u64 = 1_048_576;
 
 /// More work than this is worth no more threads: their number is about its quotient by `MUCH_WORK`, some more than there are
 /// processors, so that these have about the same to do.
 const MOST_WORK: u64 = 8 * MUCH_WORK;
 
 /// The number of pieces from which on it is worth some threads to make them ready.
-const MANY_PIECES: usize = 2_048;
+const MANY_PIECES: usize = 8_192;
 
 /// Whether to make so many pieces ready is worth some threads.
 pub(crate) fn are_many(count: usize) -> bool {

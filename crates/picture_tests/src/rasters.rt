@@ -1,11 +1,11 @@
 //! Pictures of draw lists, by one thread and by many.
 ghost use Rattle.std.specs.Prelude.{◌<◌, length};
 
-use depth_raster::Raster;
+use depth_raster::{PieceRaster, Raster};
 use draw_list::{DrawList, Item, Tint};
 use fx_math::{Lens, MAX_COORDINATE, Vec3};
 use pf_model::{Geom, Tri};
-use ppm_out::Image;
+use ppm_out::{Image, append_ppm};
 use std::alloc::Global;
 use std::process::Abort;
 use std::test::Fail;
@@ -72,7 +72,7 @@ fn shows<R: Abort + Threads + Sync>(
     Ok(())
 }
 
-/// A pane over a red ground, in pictures that are too small for threads, just large enough for them and larger.
+/// A pane over a red ground, in pictures that are too small for threads and just large enough for them.
 #[test]
 fn glass_by_one_thread_and_by_many(rt: HostRuntime) -> Result<(), Fail> {
     let mut list = DrawList::new(rt.alloc());
@@ -80,7 +80,7 @@ fn glass_by_one_thread_and_by_many(rt: HostRuntime) -> Result<(), Fail> {
     put(&mut list, 1, &facing(rt.alloc(), 4_096, RED, 1)?, None)?;
     let tint = Some(Tint { alpha: 128, far: 9 });
     put(&mut list, 2, &facing(rt.alloc(), 2_048, BLUE, 1)?, tint)?;
-    for size in [(37, 35), (512, 511), (512, 512), (521, 600)] {
+    for size in [(37, 35), (1024, 1023), (1024, 1024)] {
         shows(&rt, rt.alloc(), &list, size, [127, 0, 128])?;
     }
     Ok(())
@@ -114,5 +114,71 @@ fn more_than_one_go(rt: HostRuntime) -> Result<(), Fail> {
         let list = crowd(rt.alloc(), first, last)?;
         shows(&rt, rt.alloc(), &list, (2, 2), GREEN)?;
     }
+    Ok(())
+}
+
+/// The bytes of a picture.
+fn bytes_of(alloc: Global, image: &Image) -> Result<Vec<u8>, Fail> {
+    let mut bytes = Vec::new(alloc);
+    append_ppm(&mut bytes, image)?;
+    Ok(bytes)
+}
+
+/// A list of a red ground.
+fn ground(alloc: Global) -> Result<DrawList, Fail> {
+    let mut list = DrawList::new(alloc);
+    list.reserve(1, 1)?;
+    put(&mut list, 1, &facing(alloc, 4_096, RED, 1)?, None)?;
+    Ok(list)
+}
+
+/// A list of a pane, which stands before the ground.
+fn pane(alloc: Global) -> Result<DrawList, Fail> {
+    let mut list = DrawList::new(alloc);
+    list.reserve(1, 1)?;
+    let tint = Some(Tint { alpha: 128, far: 9 });
+    put(&mut list, 2, &facing(alloc, 2_048, BLUE, 1)?, tint)?;
+    Ok(list)
+}
+
+/// A list of both.
+fn both(alloc: Global) -> Result<DrawList, Fail> {
+    let mut list = DrawList::new(alloc);
+    list.reserve(2, 2)?;
+    put(&mut list, 1, &facing(alloc, 4_096, RED, 1)?, None)?;
+    let tint = Some(Tint { alpha: 128, far: 9 });
+    put(&mut list, 2, &facing(alloc, 2_048, BLUE, 1)?, tint)?;
+    Ok(list)
+}
+
+/// The picture of the one list.
+fn whole<R: Threads + Sync>(rt: &R, alloc: Global, lens: &Lens) -> Result<Vec<u8>, Fail> {
+    let list = both(alloc)?;
+    let mut image = Image::new(alloc, lens.w, lens.h)?;
+    Raster::new(alloc, lens)?.draw(rt, &list, [10, 20, 30], &mut image);
+    bytes_of(alloc, &image)
+}
+
+/// The picture of the ground and the pane, each in a piece of its own.
+fn in_pieces<R: Threads + Sync>(rt: &R, alloc: Global, lens: &Lens) -> Result<Vec<u8>, Fail> {
+    let mut image = Image::new(alloc, lens.w, lens.h)?;
+    let mut raster = PieceRaster::new(alloc, lens)?;
+    raster.begin([10, 20, 30]);
+    raster.add(rt, &ground(alloc)?);
+    raster.add(rt, &pane(alloc)?);
+    raster.finish(rt, &mut image);
+    bytes_of(alloc, &image)
+}
+
+/// The picture is that of the whole list, be it drawn at once or in pieces.
+#[test]
+fn pieces_as_one_list(rt: HostRuntime) -> Result<(), Fail> {
+    let lens = Lens::new(2, 1, 256, 1, MAX_COORDINATE).ok_or("a lens out of range")?;
+    let want = b"P6\n2 1\n255\n\x7f\0\x80\x7f\0\x80";
+    assert_eq!(rt; whole(&rt, rt.alloc(), &lens)?.as_slice(), want.as_slice());
+    assert_eq!(rt;
+        in_pieces(&rt, rt.alloc(), &lens)?.as_slice(),
+        want.as_slice()
+    );
     Ok(())
 }

@@ -1,4 +1,4 @@
-use Rattle.std.proofs.Common.{ℕ, List, [], get_or, ap, ◌∙◌, subst, arith}
+use Rattle.std.proofs.Common.{◌+◌, ℕ, List, [], get_or, ap, sym, subst, arith}
 use Rattle.depth_raster.specs.Blocks.{colour_in}
 use Rattle.depth_raster.specs.Following.{SpanRelates}
 use Rattle.depth_raster.specs.Marks.{no_mark}
@@ -18,9 +18,12 @@ loop-q-preserved c =
     let a = c.args in
     let b = a.block.now in
     let q = c.loop-q.q in
-    let here = c.kept-colour.ensures ∙ ap (λ (i : ℕ). kept_colour a.back (get_or a.marks.now i no_mark) (get_or c.loop-q.colours c.place-place.result [])) c.place-place.ensures in
-    span_written (λ (x : List ℕ). x) [] b (colour_in b a.colours.now) c.loop-q.colours (kept_within a.back b a.marks.now) a.run.now.r a.run.now.start q c.place-place.result c.kept-colour.result
-    c.loop-q.invariant (omega (arith, c.requires.colours)) (omega arith) (omega (arith, c.loop-q-test.true, c.requires.run.within)) c.requires.run.row c.place-place.ensures here
+    let place = c.place-place.result in
+    let v = kept_colour a.back (get_or a.marks.now place no_mark) (get_or c.loop-q.colours place []) in
+    let here = ap (λ (i : ℕ). kept_colour a.back (get_or a.marks.now i no_mark) (get_or c.loop-q.colours place [])) c.place-place.ensures in
+    subst (λ (cs : List (List ℕ)). SpanRelates b (colour_in b a.colours.now) (colour_in b cs) (kept_within a.back b a.marks.now) a.run.now.r a.run.now.start (q + 1)) (sym c.paint_back.ensures)
+    (span_written (λ (x : List ℕ). x) [] b (colour_in b a.colours.now) c.loop-q.colours (kept_within a.back b a.marks.now) a.run.now.r a.run.now.start q place v
+    c.loop-q.invariant (omega (arith, c.requires.colours)) (omega arith) (omega (arith, c.loop-q-test.true, c.requires.run.within)) c.requires.run.row c.place-place.ensures here)
 
 pub returns : goal.returns
 returns c =
