@@ -1,1 +1,4 @@
 pub mod Asking
+pub mod Marks
+pub mod Probing
+pub mod Laws

@@ -89,6 +89,13 @@ impl IsectStage {
         }
     }
 
+    /// The answers, one for each frame in turn.
+    pub fn into_answers(self) -> Vec<Option<Near>>
+        ensures { result.items ≡ self.answers }
+    {
+        self.answers
+    }
+
     /// The answers so far, one for each frame in turn.
     pub fn answers(&self) -> &[Option<Near>]
         ensures { result.now ≡ self.now.answers }
