@@ -7,3 +7,5 @@ mod meetings;
 mod merges;
 #[cfg(test)]
 mod played;
+#[cfg(test)]
+mod probes;

@@ -2,6 +2,7 @@
 ghost use Rattle.std.specs.Prelude.{◌≤◌};
 
 use mode_hosts::{Mode, PlayEnd, Played, Setup, play_all};
+use nearest_hit::Near;
 use pf_io::{Gate, MemSink};
 use play_check::stuck;
 use play_format::parse;
@@ -17,22 +18,24 @@ pub const MODES: [Mode; 4] = [
     Mode::AppCullDraw,
 ];
 
-/// A play, and the bytes of its stream.
+/// What a play left, and the bytes of its stream.
 #[derive(Drop)]
 pub struct Streamed {
     pub end: PlayEnd,
     pub entries: usize,
     pub frames: usize,
     pub stream: Vec<u8>,
+    pub probes: Vec<Option<Near>>,
 }
 
 /// What a play left, with the bytes of its stream.
-fn stream_of(alloc: Global, played: &Played, stream: &[u8]) -> Result<Streamed, Fail> {
+fn stream_of(alloc: Global, played: Played, stream: &[u8]) -> Result<Streamed, Fail> {
     Ok(Streamed {
         end: played.end,
         entries: played.history.len(),
         frames: played.stats.len(),
         stream: Vec::from_slice(alloc, stream)?,
+        probes: played.probes,
     })
 }
 
@@ -50,5 +53,5 @@ pub fn play_text<
     }
     let mut frames = MemSink::new(alloc, 1000, Vec::new(alloc))?;
     let played = play_all(alloc, rt, play, &setup, &mut frames, gate);
-    stream_of(alloc, &played, frames.bytes())
+    stream_of(alloc, played, frames.bytes())
 }

@@ -5,7 +5,7 @@ use Rattle.frame_stages.specs.CullWorks.{CullWork}
 use Rattle.frame_stages.specs.Works.{DrawWork}
 use Rattle.mode_hosts.specs.declared.modes.Mode.{Mode}
 use Rattle.mode_hosts.specs.declared.modes.Mode.TheVariants as mode
-use Rattle.mode_hosts.specs.Sites.{Site, DbaseSite, CrewState, CullGoes, DrawGoes, DbaseGoes, IfThere, CrewGoes}
+use Rattle.mode_hosts.specs.Sites.{Site, DbaseSite, ProbeSite, CrewState, CullGoes, DrawGoes, DbaseGoes, ProbeGoes, IfThere, CrewGoes}
 use Rattle.mode_hosts.specs.Crews.{first_of, united, all_of, full_crew, HasAll, divided}
 
 -- the first that is there, and what it is seen as
@@ -26,29 +26,34 @@ united_goes a b a' b' first second =
       cull = first_there CullGoes a.cull b.cull a'.cull b'.cull first.cull second.cull;
       draw = first_there DrawGoes a.draw b.draw a'.draw b'.draw first.draw second.draw;
       dbase = first_there DbaseGoes a.dbase b.dbase a'.dbase b'.dbase first.dbase second.dbase;
+      probe = first_there ProbeGoes a.probe b.probe a'.probe b'.probe first.probe second.probe;
     }
 
--- the crews of a mode have all three stages
-pub divided_all : (m : Mode) (own : Bool) (cull : Site CullWork) (draw : Site DrawWork) (dbase : DbaseSite) →
-    all_of (divided m own cull draw dbase) ≡ full_crew cull draw dbase
-divided_all mode.Appculldraw true cull draw dbase = refl
-divided_all mode.Appculldraw false cull draw dbase = refl
-divided_all mode.AppCulldraw true cull draw dbase = refl
-divided_all mode.AppCulldraw false cull draw dbase = refl
-divided_all mode.AppcullDraw true cull draw dbase = refl
-divided_all mode.AppcullDraw false cull draw dbase = refl
-divided_all mode.AppCullDraw true cull draw dbase = refl
-divided_all mode.AppCullDraw false cull draw dbase = refl
+-- the crews of a mode have all stages
+pub divided_all : (m : Mode) (own : Bool) (cull : Site CullWork) (draw : Site DrawWork) (dbase : DbaseSite) (probe : ProbeSite) →
+    all_of (divided m own cull draw dbase probe) ≡ full_crew cull draw dbase probe
+divided_all mode.Appculldraw true cull draw dbase probe = refl
+divided_all mode.Appculldraw false cull draw dbase probe = refl
+divided_all mode.AppCulldraw true cull draw dbase probe = refl
+divided_all mode.AppCulldraw false cull draw dbase probe = refl
+divided_all mode.AppcullDraw true cull draw dbase probe = refl
+divided_all mode.AppcullDraw false cull draw dbase probe = refl
+divided_all mode.AppCullDraw true cull draw dbase probe = refl
+divided_all mode.AppCullDraw false cull draw dbase probe = refl
 
 some_there : {X : Type 0} (G : X → X → Type 0) (x : X) (y : Option X) → IfThere G (Some x) y → IsSome y
 some_there G x None there = absurd there
 some_there G x (Some z) there = refl
 
--- polls leave all three stages there
-pub still_full : (cull : Site CullWork) (draw : Site DrawWork) (dbase : DbaseSite) (crew : CrewState) → CrewGoes (full_crew cull draw dbase) crew →
-    HasAll crew
-still_full cull draw dbase crew goes =
-    (some_there CullGoes cull crew.cull goes.cull, some_there DrawGoes draw crew.draw goes.draw, some_there DbaseGoes dbase crew.dbase goes.dbase)
+-- polls leave all stages there
+pub still_full : (cull : Site CullWork) (draw : Site DrawWork) (dbase : DbaseSite) (probe : ProbeSite) (crew : CrewState) →
+    CrewGoes (full_crew cull draw dbase probe) crew → HasAll crew
+still_full cull draw dbase probe crew goes = (
+  some_there CullGoes cull crew.cull goes.cull,
+  some_there DrawGoes draw crew.draw goes.draw,
+  some_there DbaseGoes dbase crew.dbase goes.dbase,
+  some_there ProbeGoes probe crew.probe goes.probe,
+)
 
 -- and what is seen of them as one
 pub both_go : (a b a' b' both : CrewState) → both ≡ united a' b' → CrewGoes a a' → CrewGoes b b' → CrewGoes (united a b) both

@@ -21,7 +21,7 @@ use Rattle.frame_stages.specs.CullWorks.{cull_state}
 use Rattle.frame_stages.proofs.AppLogs.{keeps_found}
 use Rattle.frame_stages.proofs.DbaseSection.{holds_on}
 use Rattle.mode_hosts.specs.Sites.{AreApp, AreBase}
-use Rattle.mode_hosts.specs.Gathering.{own_seats, Sites, AreTogether, SeatsKeep, CameHome, IsPipeOf, pipe_of}
+use Rattle.mode_hosts.specs.Gathering.{own_seats, Sites, AreAtDesks, SeatsKeep, CameHome, IsPipeOf, pipe_of}
 
 -- Entries by their numbers
 
@@ -98,14 +98,14 @@ own_at_home s log home own =
 -- The pipe
 
 -- what the seats keep, of the numbers that their desks have
-seats_own : (g : Setup) (dbase : List BaseLine) (lock : TableId) (s : Sites) (bytes bytes' : Option (List ℕ)) → AreTogether lock s →
+seats_own : (g : Setup) (dbase : List BaseLine) (lock : TableId) (s : Sites) (bytes bytes' : Option (List ℕ)) → AreAtDesks lock s →
     SeatsKeep g dbase s bytes bytes' → AreOwn s
-seats_own g dbase lock s bytes bytes' together keeps =
+seats_own g dbase lock s bytes bytes' desks keeps =
     record {
-      app = subst (λ (k : ℕ). AreApp (of k s.app.place.seen)) together.app.number keeps.app.own;
-      cull = subst (λ (k : ℕ). of k s.cull.place.seen ≡ []) together.cull.number keeps.cull.own;
-      draw = subst (λ (k : ℕ). of k s.draw.place.seen ≡ []) together.draw.number keeps.draw.own;
-      dbase = subst (λ (k : ℕ). AreBase (of k s.dbase.place.seen)) together.dbase.number keeps.dbase.own;
+      app = subst (λ (k : ℕ). AreApp (of k s.app.place.seen)) desks.app.number keeps.app.own;
+      cull = subst (λ (k : ℕ). of k s.cull.place.seen ≡ []) desks.cull.number keeps.cull.own;
+      draw = subst (λ (k : ℕ). of k s.draw.place.seen ≡ []) desks.draw.number keeps.draw.own;
+      dbase = subst (λ (k : ℕ). AreBase (of k s.dbase.place.seen)) desks.dbase.number keeps.dbase.own;
     }
 
 -- what DBASE holds to in the log that it has seen it holds to in the closed log
@@ -115,14 +115,14 @@ held_at_home lines channels w seen log (rest, is, none) holds =
     subst (DbaseHolds lines channels 3 w) (sym is) (holds_on lines channels 3 w seen rest holds (not_own 3 Dbase rest none))
 
 pub gathers : (g : Setup) (dbase : List BaseLine) (lock : TableId) (s : Sites) (log : Log) (bytes bytes' : Option (List ℕ)) →
-    g.merges ≡ length (asked_dbase dbase) → AreTogether lock s → SeatsKeep g dbase s bytes bytes' → CameHome s log → IsPipeOf g dbase s log bytes bytes'
-gathers g dbase lock s log bytes bytes' merges together keeps home =
-    let own = seats_own g dbase lock s bytes bytes' together keeps in
+    g.merges ≡ length (asked_dbase dbase) → AreAtDesks lock s → SeatsKeep g dbase s bytes bytes' → CameHome s log → IsPipeOf g dbase s log bytes bytes'
+gathers g dbase lock s log bytes bytes' merges desks keeps home =
+    let own = seats_own g dbase lock s bytes bytes' desks keeps in
     let frames = own_found 0 0 s.app.place.seen log home.app (own_at_home s log home own) in
-    let wrote = keeps.app.part (subst (λ (k : ℕ). AreOwnFrames k s.app.place.seen) (sym together.app.number) frames) in
+    let wrote = keeps.app.part (subst (λ (k : ℕ). AreOwnFrames k s.app.place.seen) (sym desks.app.number) frames) in
     let pipe = pipe_of dbase s log wrote.more in
-    let app = subst (λ (k : ℕ). AppKeeps g k s.app.work.state s.app.place.seen s.app.taken s.app.sent wrote.more) together.app.number wrote.keeps in
-    let holds = subst (λ (k : ℕ). DbaseHolds dbase g.channels k s.dbase.work s.dbase.place.seen) together.dbase.number keeps.dbase.holds in
+    let app = subst (λ (k : ℕ). AppKeeps g k s.app.work.state s.app.place.seen s.app.taken s.app.sent wrote.more) desks.app.number wrote.keeps in
+    let holds = subst (λ (k : ℕ). DbaseHolds dbase g.channels k s.dbase.work s.dbase.place.seen) desks.dbase.number keeps.dbase.holds in
     let base = held_at_home dbase g.channels s.dbase.work s.dbase.place.seen log home.dbase holds in
     record {
       stream = wrote.more;

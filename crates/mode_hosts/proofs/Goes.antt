@@ -14,7 +14,7 @@ use Rattle.stage_parts.proofs.Numbers.{own_front}
 use Rattle.frame_stages.specs.AppWorks.{AppWork}
 use Rattle.frame_stages.specs.CullWorks.{CullWork}
 use Rattle.frame_stages.specs.Works.{DrawWork}
-use Rattle.mode_hosts.specs.Sites.{Place, Site, DbaseSite, CrewState, IsSameDesk, AreSameLinks, Rests, CullGoes, DrawGoes, DbaseGoes, AppWrote, AppGoes, IfThere, CrewGoes}
+use Rattle.mode_hosts.specs.Sites.{Place, Site, DbaseSite, WaySite, ProbeSite, CrewState, IsSameDesk, AreSameLinks, Rests, CullGoes, DrawGoes, DbaseGoes, WayGoes, ProbeGoes, AppWrote, AppGoes, IfThere, CrewGoes}
 
 -- Desks and links
 
@@ -93,6 +93,28 @@ there_on G (Some a) None z on first second = absurd first
 there_on G (Some a) (Some b) None on first second = absurd second
 there_on G (Some a) (Some b) (Some c) on first second = on a b c first second
 
+way_self : (x : WaySite) → WayGoes x x
+way_self x = record { take_at = refl; send_at = refl; segment = refl; keeps = λ k. k }
+
+way_on : (x y z : WaySite) → WayGoes x y → WayGoes y z → WayGoes x z
+way_on x y z first second =
+    record {
+      take_at = second.take_at ∙ first.take_at;
+      send_at = second.send_at ∙ first.send_at;
+      segment = second.segment ∙ first.segment;
+      keeps = λ k. second.keeps (first.keeps k);
+    }
+
+probe_self : (x : ProbeSite) → ProbeGoes x x
+probe_self x = record { rests = rests_self x.place; way = there_self WayGoes x.way way_self }
+
+probe_on : (x y z : ProbeSite) → ProbeGoes x y → ProbeGoes y z → ProbeGoes x z
+probe_on x y z first second =
+    record {
+      rests = rests_on x.place y.place z.place first.rests second.rests;
+      way = there_on WayGoes x.way y.way z.way way_on first.way second.way;
+    }
+
 -- a crew before its first poll
 pub crew_self : (x : CrewState) → CrewGoes x x
 crew_self x =
@@ -100,6 +122,7 @@ crew_self x =
       cull = there_self CullGoes x.cull cull_self;
       draw = there_self DrawGoes x.draw draw_self;
       dbase = there_self DbaseGoes x.dbase dbase_self;
+      probe = there_self ProbeGoes x.probe probe_self;
     }
 
 -- a crew after polls, and further polls
@@ -109,6 +132,7 @@ crew_on x y z first second =
       cull = there_on CullGoes x.cull y.cull z.cull cull_on first.cull second.cull;
       draw = there_on DrawGoes x.draw y.draw z.draw draw_on first.draw second.draw;
       dbase = there_on DbaseGoes x.dbase y.dbase z.dbase dbase_on first.dbase second.dbase;
+      probe = there_on ProbeGoes x.probe y.probe z.probe probe_on first.probe second.probe;
     }
 
 -- The application

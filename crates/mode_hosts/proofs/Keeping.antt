@@ -1,5 +1,5 @@
 -- What the seats keep, they keep while their stages are polled.
-use Rattle.std.proofs.Common.{◌≡◌, ℕ, List, [], ◌++◌, Option, sym, ap, ◌∙◌, subst}
+use Rattle.std.proofs.Common.{◌≡◌, ℕ, List, [], ◌++◌, Option, None, Some, sym, ap, ◌∙◌, subst}
 use Rattle.std.specs.Io.KnownBytes.{append_known}
 use Rattle.atomic_table.specs.Seated.{TableId}
 use mathlib.Core.List.{IsPrefix}
@@ -16,8 +16,11 @@ use Rattle.stage_parts.proofs.Numbers.{own_front}
 use Rattle.frame_stages.specs.AppWorks.{AppWork}
 use Rattle.frame_stages.specs.CullWorks.{CullWork}
 use Rattle.frame_stages.specs.Works.{DrawWork}
-use Rattle.mode_hosts.specs.Sites.{Place, Site, DbaseSite, IsSameDesk, Rests, AppWrote, AppGoes, CullGoes, DrawGoes, DbaseGoes}
-use Rattle.mode_hosts.specs.Gathering.{Sites, IsDesk, AreTogether, AppSeatKeeps, CullSeatKeeps, DrawSeatKeeps, DbaseSeatKeeps, SeatsKeep, SeatsGo}
+use Rattle.nearest_hit.specs.declared.segment.Segment.{Segment}
+use Rattle.frame_link.specs.Link.{Link}
+use Rattle.mode_hosts.specs.Sites.{Place, Site, DbaseSite, WaySite, ProbeSite, IsSameDesk, Rests, AppWrote, AppGoes, CullGoes, DrawGoes, DbaseGoes, WayGoes, ProbeGoes, IfThere}
+use Rattle.mode_hosts.specs.Gathering.{Sites, IsDesk, AreAtDesks, AreTogether, AppSeatKeeps, CullSeatKeeps, DrawSeatKeeps, DbaseSeatKeeps, SeatsKeep, SeatsGo}
+use Rattle.mode_hosts.specs.Probes.{AllSites, AreLinked, AreAllTogether, WayKeeps, ProbeSeatKeeps, AllKeep, AllGo}
 
 -- Desks and links
 
@@ -25,17 +28,45 @@ same_desk : (lock : TableId) (k : ℕ) (old new : Place) → IsSameDesk old new 
 same_desk lock k old new same is =
     record { number = same.number ∙ is.number; lock = ap (λ (x : Stand Entry). x.lock) same.stand ∙ is.lock }
 
-pub stay_together : (lock : TableId) (old new : Sites) (bytes bytes' : Option (List ℕ)) → SeatsGo old new bytes bytes' → AreTogether lock old → AreTogether lock new
-stay_together lock old new bytes bytes' go is =
+stay_at_desks : (lock : TableId) (old new : Sites) (bytes bytes' : Option (List ℕ)) → SeatsGo old new bytes bytes' → AreAtDesks lock old → AreAtDesks lock new
+stay_at_desks lock old new bytes bytes' go is =
     record {
       app = same_desk lock 0 old.app.place new.app.place go.app.desk is.app;
       cull = same_desk lock 1 old.cull.place new.cull.place go.cull.rests.desk is.cull;
       draw = same_desk lock 2 old.draw.place new.draw.place go.draw.rests.desk is.draw;
       dbase = same_desk lock 3 old.dbase.place new.dbase.place go.dbase.desk is.dbase;
       seats = ap (λ (x : Stand Entry). x.seats) go.app.desk.stand ∙ is.seats;
+    }
+
+pub stay_together : (lock : TableId) (old new : Sites) (bytes bytes' : Option (List ℕ)) → SeatsGo old new bytes bytes' → AreTogether lock old → AreTogether lock new
+stay_together lock old new bytes bytes' go is =
+    record {
+      desks = stay_at_desks lock old new bytes bytes' go is.desks;
       a = go.cull.links.take_at ∙ (is.a ∙ sym go.app.links.send_at);
       b = go.draw.links.take_at ∙ (is.b ∙ sym go.cull.links.send_at);
       c = go.app.links.take_at ∙ (is.c ∙ sym go.draw.links.send_at);
+    }
+
+-- the way from the application to the cull, whose ends stay where they are
+still_linked : (send_at take_at : Link) (old new : Option WaySite) → IfThere WayGoes old new → AreLinked send_at old take_at → AreLinked send_at new take_at
+still_linked send_at take_at None None goes is = is
+still_linked send_at take_at None (Some new) goes is = absurd goes
+still_linked send_at take_at (Some old) None goes is = absurd goes
+still_linked send_at take_at (Some old) (Some new) goes is = (goes.take_at ∙ is.0, is.1 ∙ sym goes.send_at)
+
+pub all_stay_together : (lock : TableId) (old new : AllSites) (bytes bytes' : Option (List ℕ)) → AllGo old new bytes bytes' → AreAllTogether lock old →
+    AreAllTogether lock new
+all_stay_together lock old new bytes bytes' go is =
+    let four = go.four in
+    record {
+      desks = stay_at_desks lock old.four new.four bytes bytes' four is.desks;
+      probe = same_desk lock 4 old.probe.place new.probe.place go.probe.rests.desk is.probe;
+      a =
+          subst (λ (l : Link). AreLinked l new.probe.way new.four.cull.take_at) (sym four.app.links.send_at)
+          (subst (λ (l : Link). AreLinked old.four.app.send_at new.probe.way l) (sym four.cull.links.take_at)
+          (still_linked old.four.app.send_at old.four.cull.take_at old.probe.way new.probe.way go.probe.way is.a));
+      b = four.draw.links.take_at ∙ (is.b ∙ sym four.cull.links.send_at);
+      c = four.app.links.take_at ∙ (is.c ∙ sym four.draw.links.send_at);
     }
 
 -- Seats
@@ -100,4 +131,28 @@ seats_keep g dbase old new a b c go keeps =
       cull = cull_keeps g old.cull new.cull go.cull keeps.cull;
       draw = draw_keeps g old.draw new.draw go.draw keeps.draw;
       dbase = dbase_keeps dbase g.channels old.dbase new.dbase go.dbase keeps.dbase;
+    }
+
+way_keeps : (probe : Option Segment) (old new : Option WaySite) → IfThere WayGoes old new → IfThere WayKeeps probe old → IfThere WayKeeps probe new
+way_keeps None None None goes keeps = tt
+way_keeps None None (Some new) goes keeps = absurd goes
+way_keeps None (Some old) new goes keeps = absurd keeps
+way_keeps (Some segment) None new goes keeps = absurd keeps
+way_keeps (Some segment) (Some old) None goes keeps = absurd goes
+way_keeps (Some segment) (Some old) (Some new) goes keeps =
+    record { segment = goes.segment ∙ keeps.segment; keeps = goes.keeps keeps.keeps }
+
+probe_keeps : (probe : Option Segment) (old new : ProbeSite) → ProbeGoes old new → ProbeSeatKeeps probe old → ProbeSeatKeeps probe new
+probe_keeps probe old new goes keeps =
+    record {
+      way = way_keeps probe old.way new.way goes.way keeps.way;
+      own = still_none old.place new.place goes.rests keeps.own;
+    }
+
+pub all_keep : (g : Setup) (dbase : List BaseLine) (probe : Option Segment) (old new : AllSites) (a b c : Option (List ℕ)) → AllGo old new b c →
+    AllKeep g dbase probe old a b → AllKeep g dbase probe new a c
+all_keep g dbase probe old new a b c go keeps =
+    record {
+      four = seats_keep g dbase old.four new.four a b c go.four keeps.four;
+      probe = probe_keeps probe old.probe new.probe go.probe keeps.probe;
     }

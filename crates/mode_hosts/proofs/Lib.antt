@@ -8,6 +8,7 @@ pub mod Keeping
 pub mod Closed
 pub mod Opens
 pub mod Tells
+pub mod Probes
 pub mod Weights
 pub mod Standing
 pub mod Progress

@@ -14,8 +14,11 @@ use Rattle.frame_stages.specs.CullWorks.{CullWork, CullKeeps}
 use Rattle.frame_stages.specs.Works.{DrawWork}
 use Rattle.frame_stages.specs.DbaseWorks as base
 use Rattle.frame_stages.specs.DbaseWorks.{DbaseHolds}
-use Rattle.mode_hosts.specs.Sites.{Site, DbaseSite}
-use Rattle.mode_hosts.specs.Deals.{app_view, cull_view, draw_view, dbase_view, stands_at}
+use Rattle.nearest_hit.specs.declared.segment.Segment.{Segment}
+use Rattle.seat_lock.specs.Log.{of}
+use Rattle.mode_hosts.specs.Sites.{Place, Site, DbaseSite, ProbeSite, IfThere}
+use Rattle.mode_hosts.specs.Probes.{WayKeeps, ProbeSeatKeeps}
+use Rattle.mode_hosts.specs.Deals.{app_view, cull_view, draw_view, dbase_view, probe_view, stands_at}
 use Rattle.mode_hosts.specs.Gathering.{own_seats, Sites, AppSeatKeeps, CullSeatKeeps, DrawSeatKeeps, DbaseSeatKeeps, SeatsKeep}
 
 -- What the four seats are before the first step.
@@ -146,6 +149,12 @@ new_keeps g dbase lock s bytes merges is =
       draw = draw_new g dbase lock s merges is;
       dbase = dbase_new g dbase lock s is;
     }
+
+-- the probe's seat
+pub probe_new : (probe : Option Segment) (lock : TableId) (s : ProbeSite) → IfThere WayKeeps probe s.way → s.place ≡ stands_at lock probe_view →
+    ProbeSeatKeeps probe s
+probe_new probe lock s keeps place =
+    record { way = keeps; own = subst (λ (p : Place). of p.number p.seen ≡ []) (sym place) refl }
 
 -- What was made
 

@@ -63,7 +63,7 @@ record BaseStands (play : Script) (p : PipeState) : Type 0 where
 
 module _ (play : Script) (ahead : ℕ) (bytes : Option (List ℕ)) (s : System) (can : CanRun play ahead) (is_of : IsOfPlay play ahead bytes s) where
   pipe : IsPipeOf (setup_of play ahead) play.dbase s.sites s.scene.shared.log bytes s.sink.bytes
-  pipe = gathers (setup_of play ahead) play.dbase is_of.lock s.sites s.scene.shared.log bytes s.sink.bytes refl is_of.together is_of.seats is_of.scene
+  pipe = gathers (setup_of play ahead) play.dbase is_of.lock s.sites s.scene.shared.log bytes s.sink.bytes refl is_of.together.desks is_of.seats is_of.scene
 
   abbrev p : PipeState
   p = pipe_of play.dbase s.sites s.scene.shared.log pipe.stream

@@ -14,7 +14,7 @@ use Rattle.pipe_plays.specs.Plays.{setup_of, CanRun}
 use Rattle.pipe_plays.specs.Played.{Blames, end_of}
 use Rattle.pipe_plays.specs.Laws.{LeavesLaw}
 use Rattle.pipe_plays.proofs.Ended.{faulted, unfaulted}
-use Rattle.mode_hosts.specs.Gathering.{own_seats, Sites, AreTogether, SeatsKeep, CameHome, pipe_of}
+use Rattle.mode_hosts.specs.Gathering.{own_seats, Sites, AreAtDesks, SeatsKeep, CameHome, pipe_of}
 use Rattle.mode_hosts.specs.Plays.{IsPlayed, EndBlames}
 use Rattle.mode_hosts.proofs.Gathers.{gathers}
 
@@ -46,10 +46,10 @@ pub record HaveEnded (s : Sites) : Type 0 where
   pub dbase : has_ended s.dbase.work ≡ true
 
 pub played : LeavesLaw → (play : Script) (ahead : ℕ) (lock : TableId) (s : Sites) (end : PlayEnd) (log : Log) (stats : List Stats)
-    (bytes bytes' : Option (List ℕ)) → CanRun play ahead → AreTogether lock s → SeatsKeep (setup_of play ahead) play.dbase s bytes bytes' →
+    (bytes bytes' : Option (List ℕ)) → CanRun play ahead → AreAtDesks lock s → SeatsKeep (setup_of play ahead) play.dbase s bytes bytes' →
     CameHome s log → stats ≡ s.app.work.state.stats → (end ≡ ends.Done → HaveEnded s) → IsPlayed play ahead end log stats bytes bytes'
-played law play ahead lock s end log stats bytes bytes' can together keeps home is ended =
-    let pipe = gathers (setup_of play ahead) play.dbase lock s log bytes bytes' refl together keeps home in
+played law play ahead lock s end log stats bytes bytes' can desks keeps home is ended =
+    let pipe = gathers (setup_of play ahead) play.dbase lock s log bytes bytes' refl desks keeps home in
     let left = law play ahead own_seats (pipe_of play.dbase s log pipe.stream) bytes bytes' can pipe.fits pipe.wrote in
     subst (λ (ss : List Stats). IsPlayed play ahead end log ss bytes bytes') (sym is)
     (record {

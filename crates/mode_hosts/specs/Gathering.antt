@@ -16,11 +16,11 @@ use Rattle.frame_stages.specs.Works.{DrawWork}
 use Rattle.frame_stages.specs.DbaseWorks.{DbaseHolds, dbase_state}
 use Rattle.mode_hosts.specs.Sites.{Place, Site, DbaseSite, AppWrote, AreApp, AreBase, AppGoes, CullGoes, DrawGoes, DbaseGoes}
 
--- each stage has a desk of its own, in every mode: APP 0, CULL 1, DRAW 2 and DBASE 3
+-- each stage has a desk of its own, in every mode: APP 0, CULL 1, DRAW 2 and DBASE 3; the probe's is 4
 abbrev pub own_seats : Seats
 own_seats = record { app = 0; dbase = 3 }
 
--- The four seats of a play.
+-- The seats of the four stages of a play.
 pub record Sites : Type 0 where
   pub app : Site AppWork
   pub cull : Site CullWork
@@ -32,14 +32,18 @@ pub record IsDesk (id : TableId) (k : ℕ) (p : Place) : Type 0 where
   pub number : p.number ≡ k
   pub lock : p.stand.lock ≡ Some id
 
--- The desks are those of one lock, which has a seat for each, and the ends are those of three links: from APP to CULL, from
--- CULL to DRAW, and from DRAW to APP.
-pub record AreTogether (lock : TableId) (s : Sites) : Type 0 where
+-- The desks are those of one lock, which has a seat for each, and one for the probe.
+pub record AreAtDesks (lock : TableId) (s : Sites) : Type 0 where
   pub app : IsDesk lock 0 s.app.place
   pub cull : IsDesk lock 1 s.cull.place
   pub draw : IsDesk lock 2 s.draw.place
   pub dbase : IsDesk lock 3 s.dbase.place
-  pub seats : s.app.place.stand.seats ≡ 4
+  pub seats : s.app.place.stand.seats ≡ 5
+
+-- The desks are those of one lock, and the ends, without a probe, are those of three links: from APP to CULL, from CULL to
+-- DRAW, and from DRAW to APP.
+pub record AreTogether (lock : TableId) (s : Sites) : Type 0 where
+  pub desks : AreAtDesks lock s
   pub a : s.cull.take_at ≡ s.app.send_at
   pub b : s.draw.take_at ≡ s.cull.send_at
   pub c : s.app.take_at ≡ s.draw.send_at

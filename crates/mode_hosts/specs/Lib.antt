@@ -4,6 +4,7 @@ pub mod Crews
 pub mod Hosts
 pub mod Posts
 pub mod Gathering
+pub mod Probes
 pub mod Homes
 pub mod Deals
 pub mod Plays

@@ -17,6 +17,7 @@ module _ {R : Type 0} where
         cull = crew_state crews.cull;
         draw = crew_state crews.draw;
         dbase = crew_state crews.dbase;
+        probe = crew_state crews.probe;
       }
 
   -- this crew is with a host's thread, or with the caller, after polls
@@ -30,3 +31,4 @@ module _ {R : Type 0} where
     pub cull : IsPost crews.cull posts.cull
     pub draw : IsPost crews.draw posts.draw
     pub dbase : IsPost crews.dbase posts.dbase
+    pub probe : IsPost crews.probe posts.probe

@@ -12,8 +12,10 @@ use Rattle.mode_hosts.specs.declared.seats.AppSeat.{AppSeat}
 use Rattle.mode_hosts.specs.declared.seats.CullSeat.{CullSeat}
 use Rattle.mode_hosts.specs.declared.seats.DrawSeat.{DrawSeat}
 use Rattle.mode_hosts.specs.declared.seats.DbaseSeat.{DbaseSeat}
+use Rattle.mode_hosts.specs.declared.seats.ProbeSeat.{ProbeSeat}
+use Rattle.mode_hosts.specs.declared.seats.ProbeWay.{ProbeWay}
 use Rattle.mode_hosts.specs.declared.crew.Crew.{Crew}
-use Rattle.mode_hosts.specs.Sites.{Place, Site, DbaseSite, CrewState}
+use Rattle.mode_hosts.specs.Sites.{Place, Site, DbaseSite, WaySite, ProbeSite, CrewState}
 
 module _ {T R : Type 0} {L : _} where
   -- where a desk stands
@@ -24,6 +26,16 @@ module _ {T R : Type 0} {L : _} where
         seen = (desk_view desk).seen;
         stand = stand_of (desk_lock desk) (desk_view desk);
       }
+
+abbrev pub way_site : ProbeWay → WaySite
+way_site way =
+    record {
+      work = way.stage;
+      take_at = ring_take_at way.from;
+      send_at = ring_send_at way.to;
+      taken = ring_taken way.from;
+      sent = ring_sent way.to;
+    }
 
 module _ {R : Type 0} where
   abbrev pub app_site : AppSeat R → Site AppWork
@@ -62,10 +74,14 @@ module _ {R : Type 0} where
   abbrev pub dbase_site : DbaseSeat R → DbaseSite
   dbase_site seat = record { work = seat.stage; place = place_of seat.desk }
 
+  abbrev pub probe_site : ProbeSeat R → ProbeSite
+  probe_site seat = record { place = place_of seat.desk; way = option_map way_site seat.way }
+
   abbrev pub crew_state : Crew R → CrewState
   crew_state crew =
       record {
         cull = option_map cull_site crew.cull;
         draw = option_map draw_site crew.draw;
         dbase = option_map dbase_site crew.dbase;
+        probe = option_map probe_site crew.probe;
       }

@@ -18,6 +18,7 @@ use Rattle.frame_stages.specs.AppWorks.{AppWork, IsGiven}
 use Rattle.frame_stages.specs.CullWorks.{CullWork, CullKeeps}
 use Rattle.frame_stages.specs.Works.{DrawWork, IsGivenAsBefore}
 use Rattle.frame_stages.specs.DbaseWorks.{DbaseWork, DbaseHolds}
+use Rattle.isect_stage.specs.Probing.{ProbeWork, ProbeKeeps}
 
 -- Where a desk stands: its number, the log that it has seen, and what no turn changes.
 pub record Place : Type 0 where
@@ -39,11 +40,25 @@ pub record DbaseSite : Type 0 where
   pub work : DbaseWork
   pub place : Place
 
+-- The probe between its links, and what it took and sent.
+pub record WaySite : Type 0 where
+  pub work : ProbeWork
+  pub take_at : Link
+  pub send_at : Link
+  pub taken : List Packet
+  pub sent : List Packet
+
+-- The probe at its desk. In a play without a probe the desk rests.
+pub record ProbeSite : Type 0 where
+  pub place : Place
+  pub way : Option WaySite
+
 -- What one host polls, of the stages that need no frame sink.
 pub record CrewState : Type 0 where
   pub cull : Option (Site CullWork)
   pub draw : Option (Site DrawWork)
   pub dbase : Option DbaseSite
+  pub probe : Option ProbeSite
 
 -- Polls leave the desk where it stands.
 pub record IsSameDesk (old new : Place) : Type 0 where
@@ -111,13 +126,26 @@ pub record AppGoes (old new : Site AppWork) (bytes bytes' : Option (List ℕ)) :
       AppWrote g new bytes bytes' stream
 
 -- both are there and belong together so, or neither is there
-abbrev pub IfThere : {X : Type 0} → (X → X → Type 0) → Option X → Option X → Type 0
+abbrev pub IfThere : {X Y : Type 0} → (X → Y → Type 0) → Option X → Option Y → Type 0
 IfThere goes None None = ⊤
 IfThere goes (Some old) (Some new) = goes old new
 IfThere goes _ _ = ⊥
+
+-- The probe between its links after polls: it keeps its part.
+pub record WayGoes (old new : WaySite) : Type 0 where
+  pub take_at : new.take_at ≡ old.take_at
+  pub send_at : new.send_at ≡ old.send_at
+  pub segment : new.work.isect.segment ≡ old.work.isect.segment
+  pub keeps : ProbeKeeps old.work old.taken old.sent → ProbeKeeps new.work new.taken new.sent
+
+-- The probe at its desk after polls: it adds no entry.
+pub record ProbeGoes (old new : ProbeSite) : Type 0 where
+  pub rests : Rests old.place new.place
+  pub way : IfThere WayGoes old.way new.way
 
 -- A crew after polls: the same stages, each after polls of its own.
 pub record CrewGoes (old new : CrewState) : Type 0 where
   pub cull : IfThere CullGoes old.cull new.cull
   pub draw : IfThere DrawGoes old.draw new.draw
   pub dbase : IfThere DbaseGoes old.dbase new.dbase
+  pub probe : IfThere ProbeGoes old.probe new.probe

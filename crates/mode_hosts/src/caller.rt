@@ -3,17 +3,17 @@ ghost use Rattle.std.specs.Prelude.{◌≡◌};
 ghost use Rattle.pipe_plays.specs.Played.{Blames};
 ghost use Rattle.mode_hosts.specs.declared.modes.Crews.{Crews};
 ghost use Rattle.mode_hosts.specs.Sites.{AppGoes};
-ghost use Rattle.mode_hosts.specs.Seats.{app_site, cull_site, draw_site, dbase_site, crew_state};
+ghost use Rattle.mode_hosts.specs.Seats.{app_site, cull_site, draw_site, dbase_site, probe_site, crew_state};
 ghost use Rattle.mode_hosts.specs.Crews.{full_crew, HasAll};
-ghost use Rattle.mode_hosts.specs.Homes.{sites_of};
-ghost use Rattle.mode_hosts.specs.Gathering.{SeatsGo};
+ghost use Rattle.mode_hosts.specs.Homes.{all_sites};
+ghost use Rattle.mode_hosts.specs.Probes.{AllGo};
 ghost use Rattle.mode_hosts.specs.Posts.{ArePosts};
 
 use crate::crew::{Crew, together};
 use crate::hosts::Common;
 use crate::modes::{Setup, crews_of};
 use crate::posts::{Posts, posts_of};
-use crate::seats::{AppSeat, CullSeat, DbaseSeat, DrawSeat};
+use crate::seats::{AllSeats, AppSeat, CullSeat, DbaseSeat, DrawSeat, ProbeSeat};
 use frame_stages::{Did, StageError};
 use pf_io::{Gate, Sink};
 use std::alloc::Global;
@@ -21,7 +21,7 @@ use std::sync::{Arc, Wait};
 use std::thread::Threads;
 
 /// So many polls of the application more may come before it rings.
-const MORE: u32 = 31;
+const MORE: u32 = 1_023;
 
 /// A poll of the application. After an error, which has set the stop mark, it rings.
 fn poll_app<R: Wait, O: Sink, G: Gate>(
@@ -147,30 +147,40 @@ fn run_here<R: Threads + Wait + Sync + Drop, O: Sink, G: Gate>(
 /// The seats of a play, and what the application's polls came to.
 #[derive(Drop)]
 pub(crate) struct Ended<R> {
-    pub(crate) app: AppSeat<R>,
-    pub(crate) cull: CullSeat<R>,
-    pub(crate) draw: DrawSeat<R>,
-    pub(crate) dbase: DbaseSeat<R>,
+    pub(crate) seats: AllSeats<R>,
     pub(crate) came: Result<(), StageError>,
 }
 
-/// The stages of a crew that has all three.
+/// The stages of a crew that has all of them.
 #[derive(Drop)]
 struct Stages<R> {
     cull: CullSeat<R>,
     draw: DrawSeat<R>,
     dbase: DbaseSeat<R>,
+    probe: ProbeSeat<R>,
 }
 
 fn stages_of<R: Drop>(crew: Crew<R>) -> Stages<R>
     requires { HasAll (crew_state crew) }
-    ensures { full_crew (cull_site result.cull) (draw_site result.draw) (dbase_site result.dbase) ≡ crew_state crew }
+    ensures { full_crew (cull_site result.cull) (draw_site result.draw) (dbase_site result.dbase) (probe_site result.probe)
+        ≡ crew_state crew }
 {
-    let Crew { cull, draw, dbase } = crew;
+    let Crew {
+        cull,
+        draw,
+        dbase,
+        probe,
+    } = crew;
     let Some(cull) = cull else { unreachable!() };
     let Some(draw) = draw else { unreachable!() };
     let Some(dbase) = dbase else { unreachable!() };
-    Stages { cull, draw, dbase }
+    let Some(probe) = probe else { unreachable!() };
+    Stages {
+        cull,
+        draw,
+        dbase,
+        probe,
+    }
 }
 
 /// Plays with the seats of a play: starts the hosts, polls on the caller's thread what stays there, and waits for the hosts.
@@ -183,26 +193,35 @@ pub(crate) fn run_all<
     alloc: Global,
     common: &Arc<Common<G>, Global>,
     setup: &Setup,
-    mut app: AppSeat<R>,
-    cull: CullSeat<R>,
-    draw: DrawSeat<R>,
-    dbase: DbaseSeat<R>,
+    seats: AllSeats<R>,
     frames: &mut O,
 ) -> Ended<R>
-    ensures go { SeatsGo (sites_of app cull draw dbase) (sites_of result.app result.cull result.draw result.dbase)
-        (O.written frames.old) (O.written frames.new) }
+    ensures go { AllGo (all_sites seats) (all_sites result.seats) (O.written frames.old) (O.written frames.new) }
     ensures blames { Blames result.came (O.faults frames.old) (O.faults frames.new) (O.at_fault frames.new) (O.written frames.new) }
 {
-    let crews = crews_of(setup, cull, draw, dbase);
+    let AllSeats {
+        mut app,
+        cull,
+        draw,
+        dbase,
+        probe,
+    } = seats;
+    let crews = crews_of(setup, cull, draw, dbase, probe);
     let mut posts = posts_of(rt, alloc, common, crews);
     let came = run_here(rt, common, &mut app, &mut posts, frames);
     let crew = posts.back(rt);
-    let Stages { cull, draw, dbase } = stages_of(crew);
-    Ended {
+    let Stages {
+        cull,
+        draw,
+        dbase,
+        probe,
+    } = stages_of(crew);
+    let seats = AllSeats {
         app,
         cull,
         draw,
         dbase,
-        came,
-    }
+        probe,
+    };
+    Ended { seats, came }
 }

@@ -30,9 +30,9 @@ fn two(lock: &SeatLock<Scene>, mut into: Pass<Scene>, other: Pass<Scene>) -> Pas
 /// The scene, in a last turn.
 fn last<R: Wait>(rt: &R, lock: &SeatLock<Scene>, pass: Pass<Scene>) -> Scene
     requires lock { pass_of pass ≡ lock_id lock.now }
-    requires seats { (pass_view pass).seats ≡ 4 }
+    requires seats { (pass_view pass).seats ≡ 5 }
     ensures legal { (channels : ℕ) → IsLegal channels result.shared.log }
-    ensures within { (k : ℕ) → 4 ≤ k → of k result.shared.log ≡ [] }
+    ensures within { (k : ℕ) → 5 ≤ k → of k result.shared.log ≡ [] }
     ensures found { (k : ℕ) → 0 < answering k (pass_view pass)
         → Found k (pass_view pass).seen result.shared.log }
 {
@@ -42,7 +42,7 @@ fn last<R: Wait>(rt: &R, lock: &SeatLock<Scene>, pass: Pass<Scene>) -> Scene
     scene
 }
 
-/// The scene, once the passes of the four stages are home.
+/// The scene, once the passes of the five seats are home.
 pub(crate) fn all_home<R: Wait>(
     rt: &R,
     lock: &SeatLock<Scene>,
@@ -50,21 +50,25 @@ pub(crate) fn all_home<R: Wait>(
     cull: Pass<Scene>,
     draw: Pass<Scene>,
     dbase: Pass<Scene>,
+    probe: Pass<Scene>,
 ) -> Scene
     requires app { pass_of app ≡ lock_id lock.now }
     requires cull { pass_of cull ≡ lock_id lock.now }
     requires draw { pass_of draw ≡ lock_id lock.now }
     requires dbase { pass_of dbase ≡ lock_id lock.now }
-    requires seats { (pass_view app).seats ≡ 4 }
+    requires probe { pass_of probe ≡ lock_id lock.now }
+    requires seats { (pass_view app).seats ≡ 5 }
     ensures legal { (channels : ℕ) → IsLegal channels result.shared.log }
-    ensures within { (k : ℕ) → 4 ≤ k → of k result.shared.log ≡ [] }
+    ensures within { (k : ℕ) → 5 ≤ k → of k result.shared.log ≡ [] }
     ensures app { (k : ℕ) → 0 < answering k (pass_view app) → Found k (pass_view app).seen result.shared.log }
     ensures cull { (k : ℕ) → 0 < answering k (pass_view cull) → Found k (pass_view cull).seen result.shared.log }
     ensures draw { (k : ℕ) → 0 < answering k (pass_view draw) → Found k (pass_view draw).seen result.shared.log }
     ensures dbase { (k : ℕ) → 0 < answering k (pass_view dbase) → Found k (pass_view dbase).seen result.shared.log }
+    ensures probe { (k : ℕ) → 0 < answering k (pass_view probe) → Found k (pass_view probe).seen result.shared.log }
 {
     let with_cull = two(lock, app, cull);
     let with_draw = two(lock, with_cull, draw);
     let with_dbase = two(lock, with_draw, dbase);
-    last(rt, lock, with_dbase)
+    let with_probe = two(lock, with_dbase, probe);
+    last(rt, lock, with_probe)
 }

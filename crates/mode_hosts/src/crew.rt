@@ -1,11 +1,11 @@
 //! What one host polls.
 ghost use Rattle.std.specs.Prelude.{◌≡◌, ◌&&◌, not, is_some};
 ghost use Rattle.std.specs.Option.{option_map};
-ghost use Rattle.mode_hosts.specs.Sites.{CullGoes, DrawGoes, DbaseGoes, CrewGoes, IfThere};
-ghost use Rattle.mode_hosts.specs.Seats.{cull_site, draw_site, dbase_site, crew_state};
-ghost use Rattle.mode_hosts.specs.Crews.{together, first_of, united};
+ghost use Rattle.mode_hosts.specs.Sites.{CullGoes, DrawGoes, DbaseGoes, ProbeGoes, CrewGoes, IfThere};
+ghost use Rattle.mode_hosts.specs.Seats.{cull_site, draw_site, dbase_site, probe_site, crew_state};
+ghost use Rattle.mode_hosts.specs.Crews.{together, first_of, united, has_way};
 
-use crate::seats::{CullSeat, DbaseSeat, DrawSeat};
+use crate::seats::{CullSeat, DbaseSeat, DrawSeat, ProbeSeat};
 use frame_stages::{Did, StageError};
 use pf_io::Gate;
 use std::sync::Wait;
@@ -17,6 +17,7 @@ pub(crate) struct Crew<R> {
     pub(crate) cull: Option<CullSeat<R>>,
     pub(crate) draw: Option<DrawSeat<R>>,
     pub(crate) dbase: Option<DbaseSeat<R>>,
+    pub(crate) probe: Option<ProbeSeat<R>>,
 }
 
 /// What the polls of two stages came to: one of them did something, or one has to wait, or both are over.
@@ -75,6 +76,16 @@ fn poll_dbase<R: Wait, G: Gate>(dbase: &mut Option<DbaseSeat<R>>, gate: &G) -> D
     }
 }
 
+/// A poll of the probe, where it is there.
+fn poll_probe<R: Wait>(probe: &mut Option<ProbeSeat<R>>) -> Did
+    ensures { IfThere ProbeGoes (option_map probe_site probe.old) (option_map probe_site probe.new) }
+{
+    match probe {
+        Some(seat) => came_to(seat.poll()),
+        None => Did::Over,
+    }
+}
+
 impl<R: Threads + Wait + Sync> Crew<R> {
     /// One poll of each stage that is there, and what they came to.
     pub(crate) fn poll<G: Gate>(&mut self, rt: &R, gate: &G) -> Did
@@ -83,7 +94,8 @@ impl<R: Threads + Wait + Sync> Crew<R> {
         let cull = poll_cull(&mut self.cull, gate);
         let draw = poll_draw(rt, &mut self.draw, gate);
         let dbase = poll_dbase(&mut self.dbase, gate);
-        together(cull, together(draw, dbase))
+        let probe = poll_probe(&mut self.probe);
+        together(cull, together(draw, together(dbase, probe)))
     }
 }
 
@@ -97,12 +109,24 @@ fn first_of<T: Drop>(one: Option<T>, other: Option<T>) -> Option<T>
     }
 }
 
+/// Whether a probe is there. A desk that only rests is none.
+fn has_way<R>(probe: &Option<ProbeSeat<R>>) -> bool
+    ensures { result ≡ has_way (option_map probe_site probe.now) }
+{
+    match probe {
+        Some(seat) => seat.way.is_some(),
+        None => false,
+    }
+}
+
 impl<R: Drop> Crew<R> {
-    /// Whether no stage is there.
+    /// Whether no stage is there. A desk that only rests is none.
     pub(crate) fn is_empty(&self) -> bool
-        ensures { result ≡ (not (is_some self.now.cull) && (not (is_some self.now.draw) && not (is_some self.now.dbase))) }
+        ensures { result ≡ (not (is_some self.now.cull) && (not (is_some self.now.draw)
+            && (not (is_some self.now.dbase) && not (has_way (option_map probe_site self.now.probe))))) }
     {
-        self.cull.is_none() && (self.draw.is_none() && self.dbase.is_none())
+        let none_beside = self.dbase.is_none() && !has_way(&self.probe);
+        self.cull.is_none() && (self.draw.is_none() && none_beside)
     }
 
     /// Two crews as one: each stage of the first, else of the second.
@@ -110,11 +134,17 @@ impl<R: Drop> Crew<R> {
     pub(crate) fn united(self, other: Crew<R>) -> Crew<R>
         ensures { crew_state result ≡ united (crew_state self) (crew_state other) }
     {
-        let Crew { cull, draw, dbase } = self;
+        let Crew {
+            cull,
+            draw,
+            dbase,
+            probe,
+        } = self;
         Crew {
             cull: first_of(cull, other.cull),
             draw: first_of(draw, other.draw),
             dbase: first_of(dbase, other.dbase),
+            probe: first_of(probe, other.probe),
         }
     }
 }

@@ -1,26 +1,31 @@
 //! What the seats leave, once all of them are home.
 ghost use Rattle.std.specs.Prelude.{◌≡◌, ◌<◌, ◌≤◌, ℕ, []};
+ghost use Rattle.std.specs.Option.{option_map};
 ghost use Rattle.frame_link.specs.Ends.{ring_sent, ring_send_at, ring_taken, ring_take_at};
 ghost use Rattle.seat_lock.specs.Tokens.{lock_id};
 ghost use Rattle.stage_parts.specs.Packets.{LinkPart};
-ghost use Rattle.mode_hosts.specs.Gathering.{AreTogether, CameHome};
-ghost use Rattle.mode_hosts.specs.Homes.{sites_of};
+ghost use Rattle.mode_hosts.specs.Seats.{way_site, probe_site};
+ghost use Rattle.mode_hosts.specs.Probes.{AreLinked, AreAllTogether, CameOver, AllCameHome, answers_of};
+ghost use Rattle.mode_hosts.specs.Homes.{all_sites};
 
 use crate::closing::all_home;
-use crate::seats::{AppSeat, CullSeat, DbaseSeat, DrawSeat};
+use crate::seats::{AllSeats, AppSeat, CullSeat, DrawSeat, ProbeWay};
 use draw_list::Stats;
 use frame_link::{RingSend, RingTake, home};
 use frame_stages::Packet;
+use nearest_hit::Near;
 use pf_history::History;
 use pf_scene::Scene;
 use seat_lock::SeatLock;
+use std::alloc::Global;
 use std::sync::Wait;
 
-/// What a play leaves: the history, and the numbers of the frames that came back.
+/// What a play leaves: the history, the numbers of the frames that came back, and what the probe answered.
 #[derive(Drop)]
 pub(crate) struct Gathered {
     pub(crate) history: History,
     pub(crate) stats: Vec<Stats>,
+    pub(crate) answers: Vec<Option<Near>>,
 }
 
 /// On a link whose ends are in one thread again, what was received is a front of what was sent.
@@ -31,19 +36,55 @@ fn link_home(send: &mut RingSend<Packet>, take: &mut RingTake<Packet>)
     home(send, take);
 }
 
-/// What the four seats of a lock leave, once they are home.
+/// On the way from the application to the cull, through the probe where there is one, what was received is on each link a
+/// front of what was sent. What the probe answered; nothing where there is none.
+fn way_home(
+    alloc: Global,
+    to_cull: &mut RingSend<Packet>,
+    way: Option<ProbeWay>,
+    from_app: &mut RingTake<Packet>,
+) -> Vec<Option<Near>>
+    requires { AreLinked (ring_send_at to_cull.old) (option_map way_site way) (ring_take_at from_app.old) }
+    ensures home { CameOver (ring_sent to_cull.old) (option_map way_site way) (ring_taken from_app.old) }
+    ensures answers { result.items ≡ answers_of (option_map way_site way) }
+{
+    match way {
+        Some(way) => {
+            let ProbeWay {
+                stage,
+                mut from,
+                mut to,
+            } = way;
+            link_home(to_cull, &mut from);
+            link_home(&mut to, from_app);
+            stage.into_answers()
+        }
+        None => {
+            link_home(to_cull, from_app);
+            Vec::new(alloc)
+        }
+    }
+}
+
+/// What the seats of a lock leave, once they are home.
 pub(crate) fn gather<R: Wait, D: Wait + Drop>(
     rt: &R,
+    alloc: Global,
     lock: &SeatLock<Scene>,
-    app: AppSeat<D>,
-    cull: CullSeat<D>,
-    draw: DrawSeat<D>,
-    dbase: DbaseSeat<D>,
+    seats: AllSeats<D>,
 ) -> Gathered
-    requires { AreTogether (lock_id lock.now) (sites_of app cull draw dbase) }
-    ensures home { CameHome (sites_of app cull draw dbase) result.history.entries }
-    ensures stats { result.stats.items ≡ app.stage.state.stats }
+    requires { AreAllTogether (lock_id lock.now) (all_sites seats) }
+    ensures home { AllCameHome (all_sites seats) result.history.entries }
+    ensures stats { result.stats.items ≡ seats.app.stage.state.stats }
+    ensures answers { result.answers.items ≡ answers_of (probe_site seats.probe).way }
 {
+    let AllSeats {
+        app,
+        cull,
+        draw,
+        dbase,
+        probe,
+    } = seats;
     let AppSeat {
         stage,
         desk: app_desk,
@@ -62,7 +103,7 @@ pub(crate) fn gather<R: Wait, D: Wait + Drop>(
         from: mut from_cull,
         to: mut to_app,
     } = draw;
-    link_home(&mut to_cull, &mut from_app);
+    let answers = way_home(alloc, &mut to_cull, probe.way, &mut from_app);
     link_home(&mut to_draw, &mut from_cull);
     link_home(&mut to_app, &mut from_draw);
     let scene = all_home(
@@ -72,9 +113,11 @@ pub(crate) fn gather<R: Wait, D: Wait + Drop>(
         cull_desk.into_pass(),
         draw_desk.into_pass(),
         dbase.desk.into_pass(),
+        probe.desk.into_pass(),
     );
     Gathered {
         history: scene.into_history(),
         stats: stage.into_stats(),
+        answers,
     }
 }

@@ -1,33 +1,51 @@
 //! The end of a play on hosts, and what the play leaves.
-ghost use Rattle.std.specs.Prelude.{◌≡◌, ℕ, true, List, Option, OnOk};
+ghost use Rattle.std.specs.Prelude.{◌≡◌, ◌≢◌, ℕ, true, false, List, [], Option, OnOk};
+ghost use Rattle.std.specs.Option.{option_map};
 ghost use Rattle.seat_lock.specs.Tokens.{lock_id};
 ghost use Rattle.play_format.specs.Plays.{Script};
 ghost use Rattle.pipe_plays.specs.Plays.{CanRun, setup_of};
 ghost use Rattle.pipe_plays.specs.Played.{Blames};
-ghost use Rattle.mode_hosts.specs.Gathering.{AreTogether, SeatsKeep};
-ghost use Rattle.mode_hosts.specs.Homes.{sites_of};
-ghost use Rattle.mode_hosts.specs.Plays.{IsPlayed, EndBlames};
+ghost use Rattle.nearest_hit.specs.declared.segment.Segment.{Segment};
+ghost use Rattle.mode_hosts.specs.Seats.{way_site};
+ghost use Rattle.mode_hosts.specs.Probes.{AreAllTogether, AllKeep, has_failed};
+ghost use Rattle.mode_hosts.specs.Homes.{all_sites};
+ghost use Rattle.mode_hosts.specs.Plays.{IsPlayed, IsProbed, EndBlames};
 
 use crate::gathering::gather;
-use crate::seats::{AppSeat, CullSeat, DbaseSeat, DrawSeat};
+use crate::seats::{AllSeats, ProbeWay};
 use frame_stages::StageError;
+use isect_stage::laws::{answers_follow_the_application, two_links_are_one};
+use nearest_hit::Near;
 use pf_io::Sink;
 use pf_scene::Scene;
-use pipe_plays::laws::a_play_leaves_its_history;
+use pipe_plays::laws::{a_pipe_shows_its_history, a_play_leaves_its_history};
 use pipe_plays::{PlayEnd, Played, flush_frames};
 use seat_lock::SeatLock;
+use std::alloc::Global;
 use std::sync::Wait;
 
+/// Whether memory ran out for the probe.
+fn has_failed(way: &Option<ProbeWay>) -> bool
+    ensures { result ≡ has_failed (option_map way_site way.now) }
+{
+    match way {
+        Some(way) => way.stage.has_failed(),
+        None => false,
+    }
+}
+
 /// What the application's polls came to is what the play came to, unless memory ran out for one of the two stages that make
-/// entries. At the end the frame sink is flushed.
+/// entries or for the probe. At the end the frame sink is flushed.
 fn finish<O: Sink>(
     came: Result<(), StageError>,
     app_ended: bool,
     dbase_ended: bool,
+    probe_failed: bool,
     frames: &mut O,
 ) -> Result<(), StageError>
     ensures app { OnOk result (app_ended ≡ true) }
     ensures dbase { OnOk result (dbase_ended ≡ true) }
+    ensures probe { OnOk result (probe_failed ≡ false) }
     ensures bytes { O.written frames.new ≡ O.written frames.old }
     ensures flushed { OnOk result (O.flushed frames.new ≡ true) }
     ensures blames { (before : ℕ)
@@ -41,37 +59,59 @@ fn finish<O: Sink>(
     if !dbase_ended {
         return Err(StageError::NoMemory);
     }
+    if probe_failed {
+        return Err(StageError::NoMemory);
+    }
     flush_frames(frames)
 }
 
-/// Brings the four seats home and takes what the play leaves, where the application's polls came to this.
+/// The answers of the probe, where the play came to its end; else none.
+fn answers_at(alloc: Global, end: PlayEnd, answers: Vec<Option<Near>>) -> Vec<Option<Near>>
+    ensures done { end ≡ PlayEnd.Done → result.items ≡ answers.items }
+    ensures early { end ≢ PlayEnd.Done → result.items ≡ [] }
+{
+    if end == PlayEnd::Done {
+        answers
+    } else {
+        Vec::new(alloc)
+    }
+}
+
+/// Brings the seats home and takes what the play leaves, where the application's polls came to this.
 pub(crate) fn leave<R: Wait, D: Wait + Drop, O: Sink>(
     rt: &R,
+    alloc: Global,
     lock: &SeatLock<Scene>,
-    app: AppSeat<D>,
-    cull: CullSeat<D>,
-    draw: DrawSeat<D>,
-    dbase: DbaseSeat<D>,
+    seats: AllSeats<D>,
     came: Result<(), StageError>,
     frames: &mut O,
 ) -> Played
-    requires { AreTogether (lock_id lock.now) (sites_of app cull draw dbase) }
-    ensures leaves { (play : Script) (ahead : ℕ) (bytes : Option (List ℕ)) → CanRun play ahead
-        → SeatsKeep (setup_of play ahead) play.dbase (sites_of app cull draw dbase) bytes (O.written frames.old)
+    requires { AreAllTogether (lock_id lock.now) (all_sites seats) }
+    ensures leaves { (play : Script) (ahead : ℕ) (probe : Option Segment) (bytes : Option (List ℕ)) → CanRun play ahead
+        → AllKeep (setup_of play ahead) play.dbase probe (all_sites seats) bytes (O.written frames.old)
         → IsPlayed play ahead result.end result.history.entries result.stats.items bytes (O.written frames.new) }
+    ensures probes { (play : Script) (ahead : ℕ) (probe : Option Segment) (bytes : Option (List ℕ)) → CanRun play ahead
+        → AllKeep (setup_of play ahead) play.dbase probe (all_sites seats) bytes (O.written frames.old)
+        → IsProbed play.channels probe result.end result.history.entries result.probes.items }
     ensures flushed { result.end ≡ PlayEnd.Done → O.flushed frames.new ≡ true }
     ensures blames { (before : ℕ)
         → Blames came before (O.faults frames.old) (O.at_fault frames.old) (O.written frames.old)
         → EndBlames result.end before (O.faults frames.new) (O.at_fault frames.new) (O.written frames.new) }
 {
     a_play_leaves_its_history();
-    let app_ended = app.stage.has_ended();
-    let dbase_ended = dbase.stage.has_ended();
-    let came = finish(came, app_ended, dbase_ended, frames);
-    let gathered = gather(rt, lock, app, cull, draw, dbase);
+    a_pipe_shows_its_history();
+    answers_follow_the_application();
+    two_links_are_one();
+    let app_ended = seats.app.stage.has_ended();
+    let dbase_ended = seats.dbase.stage.has_ended();
+    let probe_failed = has_failed(&seats.probe.way);
+    let came = finish(came, app_ended, dbase_ended, probe_failed, frames);
+    let gathered = gather(rt, alloc, lock, seats);
+    let end = PlayEnd::of(came);
     Played {
-        end: PlayEnd::of(came),
+        end,
         history: gathered.history,
         stats: gathered.stats,
+        probes: answers_at(alloc, end, gathered.answers),
     }
 }

@@ -1,12 +1,13 @@
 //! How the stages are divided among hosts.
-ghost use Rattle.std.specs.Prelude.{◌≡◌};
+ghost use Rattle.std.specs.Prelude.{◌≡◌, None, Some};
 ghost use Rattle.std.specs.Option.{option_map};
-ghost use Rattle.mode_hosts.specs.Seats.{cull_site, draw_site, dbase_site};
+ghost use Rattle.mode_hosts.specs.Seats.{cull_site, draw_site, dbase_site, probe_site};
 ghost use Rattle.mode_hosts.specs.Crews.{divided, unless, only_if, all_of, full_crew};
 ghost use Rattle.mode_hosts.specs.Posts.{crews_state};
 
 use crate::crew::Crew;
-use crate::seats::{CullSeat, DbaseSeat, DrawSeat};
+use crate::seats::{CullSeat, DbaseSeat, DrawSeat, ProbeSeat};
+use nearest_hit::Segment;
 
 /// Which stages share a thread. A name has a capital letter where a thread begins.
 #[derive(Clone, Copy, Debug, PartialEq, Eq)]
@@ -29,16 +30,20 @@ pub struct Setup {
     pub dbase: bool,
     /// How many frames may be in flight, 1 to 4.
     pub ahead: u8,
+    /// The segment whose nearest hit is asked for in each frame, in eye coordinates of the first channel. The probe has a
+    /// thread of its own in every mode.
+    pub probe: Option<Segment>,
 }
 
-/// The crews of a play: of the caller's thread, and of the hosts of the cull, of the draw, and of the database process. A
-/// crew may be empty.
+/// The crews of a play: of the caller's thread, and of the hosts of the cull, of the draw, of the database process, and of
+/// the probe. A crew may be empty.
 #[derive(Drop)]
 pub(crate) struct Crews<R> {
     pub(crate) caller: Crew<R>,
     pub(crate) cull: Crew<R>,
     pub(crate) draw: Crew<R>,
     pub(crate) dbase: Crew<R>,
+    pub(crate) probe: Crew<R>,
 }
 
 /// The database process, with the caller or with a host of its own.
@@ -64,54 +69,78 @@ fn place_dbase<R>(own: bool, dbase: DbaseSeat<R>) -> Placed<R>
     }
 }
 
-/// A crew of these stages.
+/// A crew of these stages, without the probe.
 fn crew_of<R>(
     cull: Option<CullSeat<R>>,
     draw: Option<DrawSeat<R>>,
     dbase: Option<DbaseSeat<R>>,
 ) -> Crew<R>
-    ensures { result ≡ record { cull = cull; draw = draw; dbase = dbase } }
+    ensures { result ≡ record { cull = cull; draw = draw; dbase = dbase; probe = None } }
 {
-    Crew { cull, draw, dbase }
+    Crew {
+        cull,
+        draw,
+        dbase,
+        probe: None,
+    }
 }
 
-/// The crews of a mode. Together they have all three stages.
+/// The crew of the probe.
+fn crew_of_probe<R>(probe: ProbeSeat<R>) -> Crew<R>
+    ensures { result ≡ record { cull = None; draw = None; dbase = None; probe = Some probe } }
+{
+    Crew {
+        cull: None,
+        draw: None,
+        dbase: None,
+        probe: Some(probe),
+    }
+}
+
+/// The crews of a mode. Together they have all stages, and the desk of the probe is with a crew of its own.
 pub(crate) fn crews_of<R>(
     setup: &Setup,
     cull: CullSeat<R>,
     draw: DrawSeat<R>,
     dbase: DbaseSeat<R>,
+    probe: ProbeSeat<R>,
 ) -> Crews<R>
     ensures divided { crews_state result
-        ≡ divided setup.now.mode setup.now.dbase (cull_site cull) (draw_site draw) (dbase_site dbase) }
-    ensures all { all_of (crews_state result) ≡ full_crew (cull_site cull) (draw_site draw) (dbase_site dbase) }
+        ≡ divided setup.now.mode setup.now.dbase (cull_site cull) (draw_site draw) (dbase_site dbase) (probe_site probe) }
+    ensures all { all_of (crews_state result)
+        ≡ full_crew (cull_site cull) (draw_site draw) (dbase_site dbase) (probe_site probe) }
 {
     let Placed { caller, own } = place_dbase(setup.dbase, dbase);
     let own = crew_of(None, None, own);
+    let probe = crew_of_probe(probe);
     match setup.mode {
         Mode::Appculldraw => Crews {
             caller: crew_of(Some(cull), Some(draw), caller),
             cull: crew_of(None, None, None),
             draw: crew_of(None, None, None),
             dbase: own,
+            probe,
         },
         Mode::AppCulldraw => Crews {
             caller: crew_of(None, None, caller),
             cull: crew_of(Some(cull), Some(draw), None),
             draw: crew_of(None, None, None),
             dbase: own,
+            probe,
         },
         Mode::AppcullDraw => Crews {
             caller: crew_of(Some(cull), None, caller),
             cull: crew_of(None, None, None),
             draw: crew_of(None, Some(draw), None),
             dbase: own,
+            probe,
         },
         Mode::AppCullDraw => Crews {
             caller: crew_of(None, None, caller),
             cull: crew_of(Some(cull), None, None),
             draw: crew_of(None, Some(draw), None),
             dbase: own,
+            probe,
         },
     }
 }

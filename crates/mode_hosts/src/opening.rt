@@ -1,19 +1,25 @@
 //! The seats of a play, before its first step.
 ghost use Rattle.std.specs.Prelude.{◌≡◌, ◌+◌, ℕ, [], IfOk, List, Option};
+ghost use Rattle.std.specs.Option.{option_map};
 ghost use Rattle.std.specs.Arc.{arc_value};
 ghost use Rattle.seat_lock.specs.Tokens.{lock_id};
 ghost use Rattle.frame_link.specs.Ends.{IsNewRing};
 ghost use Rattle.play_format.specs.Plays.{IsPlay};
 ghost use Rattle.pf_scene.specs.Scenes.{IsSmall};
 ghost use Rattle.pipe_plays.specs.Plays.{setup_of};
-ghost use Rattle.mode_hosts.specs.Gathering.{AreTogether, SeatsKeep};
-ghost use Rattle.mode_hosts.specs.Homes.{sites_of};
+ghost use Rattle.nearest_hit.specs.declared.segment.Segment.{Segment};
+ghost use Rattle.mode_hosts.specs.Seats.{way_site};
+ghost use Rattle.mode_hosts.specs.Probes.{AreAllTogether, AllKeep};
+ghost use Rattle.mode_hosts.specs.Homes.{all_sites};
+ghost use Rattle.mode_hosts.specs.Deals.{IsNewWay};
 
 use crate::dealing::{Desks, new_desks};
 use crate::parts::{Parts, all_made};
-use crate::seats::{AppSeat, CullSeat, DbaseSeat, DrawSeat};
+use crate::seats::{AllSeats, AppSeat, CullSeat, DbaseSeat, DrawSeat, ProbeSeat, ProbeWay};
 use frame_link::{RingSend, RingTake, ring};
 use frame_stages::{AppStage, CullStage, DbaseStage, DrawStage, Packet};
+use isect_stage::ProbeStage;
+use nearest_hit::Segment;
 use pf_io::NoMemory;
 use pf_scene::Scene;
 use pipe_plays::count_merges;
@@ -22,14 +28,11 @@ use seat_lock::SeatLock;
 use std::alloc::Global;
 use std::sync::{Arc, Wait};
 
-/// The four seats of a play, and the lock that their desks stand at.
+/// The seats of a play, and the lock that their desks stand at.
 #[derive(Drop)]
 pub(crate) struct Opened<D> {
     pub(crate) lock: Arc<SeatLock<Scene>, Global>,
-    pub(crate) app: AppSeat<D>,
-    pub(crate) cull: CullSeat<D>,
-    pub(crate) draw: DrawSeat<D>,
-    pub(crate) dbase: DbaseSeat<D>,
+    pub(crate) seats: AllSeats<D>,
 }
 
 /// The two ends of a link.
@@ -47,18 +50,54 @@ fn new_link(alloc: Global, ahead: u8) -> Result<Ends, NoMemory>
     Ok(Ends { send, take })
 }
 
-/// The seats of a play before its first step, where so many frames may be in flight.
+/// The way from the application to the cull: a link, or the probe between two of them.
+#[derive(Drop)]
+struct Way {
+    send: RingSend<Packet>,
+    probe: Option<ProbeWay>,
+    take: RingTake<Packet>,
+}
+
+/// The way from the application to the cull, through which nothing went, with the probe of this segment where there is one.
+fn new_way(alloc: Global, ahead: u8, probe: Option<Segment>) -> Result<Way, NoMemory>
+    ensures { IfOk result (λ w. IsNewWay probe w.send (option_map way_site w.probe) w.take) }
+{
+    let Ends { send, take } = new_link(alloc, ahead)?;
+    match probe {
+        Some(segment) => {
+            let stage = ProbeStage::new(alloc, segment)?;
+            let further = new_link(alloc, ahead)?;
+            Ok(Way {
+                send,
+                probe: Some(ProbeWay {
+                    stage,
+                    from: take,
+                    to: further.send,
+                }),
+                take: further.take,
+            })
+        }
+        None => Ok(Way {
+            send,
+            probe: None,
+            take,
+        }),
+    }
+}
+
+/// The seats of a play before its first step, where so many frames may be in flight and this segment is asked for.
 pub(crate) fn open<D: Wait + Copy + Drop>(
     rt: D,
     alloc: Global,
     play: Play,
     ahead: u8,
+    probe: Option<Segment>,
 ) -> Result<Opened<D>, NoMemory>
     requires ahead { IsSmall ahead }
     ensures play { IsPlay play }
-    ensures together { IfOk result (λ o. AreTogether (lock_id (arc_value o.lock)) (sites_of o.app o.cull o.draw o.dbase)) }
+    ensures together { IfOk result (λ o. AreAllTogether (lock_id (arc_value o.lock)) (all_sites o.seats)) }
     ensures keeps { IfOk result (λ o. (bytes : Option (List ℕ))
-        → SeatsKeep (setup_of play ahead) play.dbase (sites_of o.app o.cull o.draw o.dbase) bytes bytes) }
+        → AllKeep (setup_of play ahead) play.dbase probe (all_sites o.seats) bytes bytes) }
 {
     let lens = play.lens();
     let back = play.back();
@@ -71,7 +110,7 @@ pub(crate) fn open<D: Wait + Copy + Drop>(
         DrawStage::new(alloc, lens, back),
         DbaseStage::new(alloc, dbase_lines),
         new_desks(rt, alloc, ahead, channels),
-        new_link(alloc, ahead),
+        new_way(alloc, ahead, probe),
         new_link(alloc, ahead),
         new_link(alloc, ahead),
     )?;
@@ -91,9 +130,9 @@ pub(crate) fn open<D: Wait + Copy + Drop>(
         cull: cull_desk,
         draw: draw_desk,
         dbase: dbase_desk,
+        probe: probe_desk,
     } = desks;
-    Ok(Opened {
-        lock,
+    let seats = AllSeats {
         app: AppSeat {
             stage: app,
             desk: app_desk,
@@ -116,5 +155,10 @@ pub(crate) fn open<D: Wait + Copy + Drop>(
             stage: dbase,
             desk: dbase_desk,
         },
-    })
+        probe: ProbeSeat {
+            desk: probe_desk,
+            way: to_cull.probe,
+        },
+    };
+    Ok(Opened { lock, seats })
 }

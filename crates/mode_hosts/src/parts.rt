@@ -5,28 +5,28 @@ use pf_io::NoMemory;
 
 /// The stages, the desks and the links of a play.
 #[derive(Drop)]
-pub(crate) struct Parts<A, C, D, B, K, L> {
+pub(crate) struct Parts<A, C, D, B, K, W, L> {
     pub(crate) app: A,
     pub(crate) cull: C,
     pub(crate) draw: D,
     pub(crate) dbase: B,
     pub(crate) desks: K,
-    pub(crate) to_cull: L,
+    pub(crate) to_cull: W,
     pub(crate) to_draw: L,
     pub(crate) back: L,
 }
 
 /// The parts, where there was memory for all of them.
-pub(crate) fn all_made<A: Drop, C: Drop, D: Drop, B: Drop, K: Drop, L: Drop>(
+pub(crate) fn all_made<A: Drop, C: Drop, D: Drop, B: Drop, K: Drop, W: Drop, L: Drop>(
     app: Result<A, NoMemory>,
     cull: Result<C, NoMemory>,
     draw: Result<D, NoMemory>,
     dbase: Result<B, NoMemory>,
     desks: Result<K, NoMemory>,
-    to_cull: Result<L, NoMemory>,
+    to_cull: Result<W, NoMemory>,
     to_draw: Result<L, NoMemory>,
     back: Result<L, NoMemory>,
-) -> Result<Parts<A, C, D, B, K, L>, NoMemory>
+) -> Result<Parts<A, C, D, B, K, W, L>, NoMemory>
     ensures app { IfOk result (λ p. app ≡ Ok p.app) }
     ensures cull { IfOk result (λ p. cull ≡ Ok p.cull) }
     ensures draw { IfOk result (λ p. draw ≡ Ok p.draw) }

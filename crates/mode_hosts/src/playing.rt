@@ -1,5 +1,5 @@
 //! Whole plays on hosts.
-ghost use Rattle.std.specs.Prelude.{◌≡◌, ◌≢◌, ◌≤◌, ℕ, true, List, Option, IfOk};
+ghost use Rattle.std.specs.Prelude.{◌≡◌, ◌≢◌, ◌≤◌, ℕ, true, List, [], Option, IfOk, IfSome, IfNone};
 ghost use Rattle.std.specs.Arc.{arc_value};
 ghost use Rattle.std.specs.List.{concat};
 ghost use Rattle.std.specs.Io.KnownBytes.{append_known};
@@ -13,8 +13,9 @@ ghost use Rattle.stage_parts.specs.Pictures.{pictures, frame_numbers};
 ghost use Rattle.pf_scene.specs.Scenes.{IsSmall};
 ghost use Rattle.pipe_plays.specs.Plays.{setup_of};
 ghost use Rattle.pipe_plays.specs.Played.{AddsFront, KeepsNumbers};
-ghost use Rattle.mode_hosts.specs.Gathering.{AreTogether, SeatsKeep};
-ghost use Rattle.mode_hosts.specs.Homes.{sites_of};
+ghost use Rattle.isect_stage.specs.Asking.{nearest_hits};
+ghost use Rattle.mode_hosts.specs.Probes.{AreAllTogether, AllKeep};
+ghost use Rattle.mode_hosts.specs.Homes.{all_sites};
 
 use crate::bell::Bell;
 use crate::caller::run_all;
@@ -22,6 +23,7 @@ use crate::hosts::Common;
 use crate::leaving::leave;
 use crate::modes::Setup;
 use crate::opening::{Opened, open};
+use nearest_hit::Segment;
 use pf_history::History;
 use pf_io::{Gate, NoMemory, Sink};
 use pipe_plays::laws::a_play_not_begun_leaves_nothing;
@@ -44,16 +46,16 @@ fn get_ready<R: Wait + Copy + Drop, G: Drop>(
     rt: &R,
     play: Play,
     ahead: u8,
+    probe: Option<Segment>,
     gate: G,
 ) -> Result<Ready<R, G>, NoMemory>
     requires ahead { IsSmall ahead }
     ensures play { IsPlay play }
-    ensures together { IfOk result (λ r. AreTogether (lock_id (arc_value r.opened.lock))
-        (sites_of r.opened.app r.opened.cull r.opened.draw r.opened.dbase)) }
-    ensures keeps { IfOk result (λ r. (bytes : Option (List ℕ)) → SeatsKeep (setup_of play ahead) play.dbase
-        (sites_of r.opened.app r.opened.cull r.opened.draw r.opened.dbase) bytes bytes) }
+    ensures together { IfOk result (λ r. AreAllTogether (lock_id (arc_value r.opened.lock)) (all_sites r.opened.seats)) }
+    ensures keeps { IfOk result (λ r. (bytes : Option (List ℕ))
+        → AllKeep (setup_of play ahead) play.dbase probe (all_sites r.opened.seats) bytes bytes) }
 {
-    let opened = open(*rt, alloc, play, ahead)?;
+    let opened = open(*rt, alloc, play, ahead, probe)?;
     let bell = Bell::new();
     let common = Arc::new(alloc, Common { bell, gate })?;
     Ok(Ready { opened, common })
@@ -61,7 +63,8 @@ fn get_ready<R: Wait + Copy + Drop, G: Drop>(
 
 /// Plays a play that is not stuck, its stages divided among hosts by the setup, and writes the pictures of its frames to
 /// `frames`, which the caller's thread alone uses; at the end it flushes the sink. A host for which there is no thread is
-/// polled by the caller. The stages pass the gate before each frame and each merge.
+/// polled by the caller. The stages pass the gate before each frame and each merge. Where the setup has a segment, a probe
+/// stands between the application and the cull, on a thread of its own, and finds its nearest hit in each frame.
 pub fn play_all<
     R: Threads + Wait + Copy + Drop + Send + Sync + 'static,
     O: Sink,
@@ -90,38 +93,31 @@ pub fn play_all<
     // Where it is done, the last call on the sink was a flush that succeeded.
     ensures flushed { result.end ≡ PlayEnd.Done → O.flushed frames.new ≡ true }
 
+    // Where it is done, the nearest hit of the segment of the setup in each Frame of the history, in turn. Without a segment,
+    // or at another end, there are none.
+    ensures probes { result.end ≡ PlayEnd.Done → IfSome setup.now.probe (λ segment.
+        result.probes.items ≡ nearest_hits play.channels segment result.history.entries) }
+    ensures no_probe { IfNone setup.now.probe (result.probes.items ≡ []) }
+    ensures early { result.end ≢ PlayEnd.Done → result.probes.items ≡ [] }
+
     // Causes.
     ensures fault { result.end ≡ PlayEnd.FrameFault → Rose (O.faults frames.old) (O.faults frames.new) }
     ensures last { result.end ≡ PlayEnd.FrameFault → O.at_fault frames.new ≡ O.written frames.new }
     ensures calm { result.end ≢ PlayEnd.FrameFault → Calm (O.faults frames.old) (O.faults frames.new) }
 {
     a_play_not_begun_leaves_nothing();
-    match get_ready(alloc, rt, play, setup.ahead, gate) {
+    match get_ready(alloc, rt, play, setup.ahead, setup.probe, gate) {
         Ok(ready) => {
             let Ready { opened, common } = ready;
-            let Opened {
-                lock,
-                app,
-                cull,
-                draw,
-                dbase,
-            } = opened;
-            let ended = run_all(rt, alloc, &common, setup, app, cull, draw, dbase, frames);
-            leave(
-                rt,
-                &lock,
-                ended.app,
-                ended.cull,
-                ended.draw,
-                ended.dbase,
-                ended.came,
-                frames,
-            )
+            let Opened { lock, seats } = opened;
+            let ended = run_all(rt, alloc, &common, setup, seats, frames);
+            leave(rt, alloc, &lock, ended.seats, ended.came, frames)
         }
         Err(NoMemory) => Played {
             end: PlayEnd::NoMemory,
             history: History::new(alloc),
             stats: Vec::new(alloc),
+            probes: Vec::new(alloc),
         },
     }
 }

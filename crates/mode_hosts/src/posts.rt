@@ -30,6 +30,7 @@ pub(crate) struct Posts<R: Drop> {
     cull: Post<R>,
     draw: Post<R>,
     dbase: Post<R>,
+    probe: Post<R>,
 }
 
 /// Sends a crew to a thread of its own, where it has a stage and there is a thread for it.
@@ -89,12 +90,14 @@ pub(crate) fn posts_of<
         cull,
         draw,
         dbase,
+        probe,
     } = crews;
     Posts {
         caller,
         cull: post_of(rt, alloc, common, cull),
         draw: post_of(rt, alloc, common, draw),
         dbase: post_of(rt, alloc, common, dbase),
+        probe: post_of(rt, alloc, common, probe),
     }
 }
 
@@ -107,7 +110,11 @@ impl<R: Threads + Wait + Sync + Drop> Posts<R> {
         let cull = self.cull.poll(rt, gate);
         let draw = self.draw.poll(rt, gate);
         let dbase = self.dbase.poll(rt, gate);
-        together(together(caller, cull), together(draw, dbase))
+        let probe = self.probe.poll(rt, gate);
+        together(
+            together(caller, cull),
+            together(draw, together(dbase, probe)),
+        )
     }
 
     /// All stages, as their hosts hand them back.
@@ -119,10 +126,12 @@ impl<R: Threads + Wait + Sync + Drop> Posts<R> {
             cull,
             draw,
             dbase,
+            probe,
         } = self;
         let cull = cull.back(rt);
         let draw = draw.back(rt);
         let dbase = dbase.back(rt);
-        caller.united(cull).united(draw.united(dbase))
+        let probe = probe.back(rt);
+        caller.united(cull).united(draw.united(dbase.united(probe)))
     }
 }

@@ -1,11 +1,12 @@
 //! Each stage at its desk, between its links.
 ghost use Rattle.std.specs.Prelude.{◌≡◌};
 ghost use Rattle.pipe_plays.specs.Played.{Blames};
-ghost use Rattle.mode_hosts.specs.Sites.{AppGoes, CullGoes, DrawGoes, DbaseGoes};
-ghost use Rattle.mode_hosts.specs.Seats.{app_site, cull_site, draw_site, dbase_site};
+ghost use Rattle.mode_hosts.specs.Sites.{AppGoes, CullGoes, DrawGoes, DbaseGoes, Rests, WayGoes, ProbeGoes};
+ghost use Rattle.mode_hosts.specs.Seats.{place_of, app_site, cull_site, draw_site, dbase_site, way_site, probe_site};
 
 use frame_link::{RingSend, RingTake};
 use frame_stages::{AppStage, CullStage, DbaseStage, Did, DrawStage, Packet, StageError};
+use isect_stage::ProbeStage;
 use pf_io::{Gate, Sink};
 use pf_scene::Scene;
 use seat_lock::SeatDesk;
@@ -44,6 +45,31 @@ pub(crate) struct DrawSeat<R> {
 pub(crate) struct DbaseSeat<R> {
     pub(crate) stage: DbaseStage,
     pub(crate) desk: SeatDesk<Scene, R>,
+}
+
+/// The probe between its links: it takes from the application and sends to the cull.
+#[derive(Drop)]
+pub(crate) struct ProbeWay {
+    pub(crate) stage: ProbeStage,
+    pub(crate) from: RingTake<Packet>,
+    pub(crate) to: RingSend<Packet>,
+}
+
+/// The probe at its desk. In a play without a probe the desk is there, and rests.
+#[derive(Drop)]
+pub(crate) struct ProbeSeat<R> {
+    pub(crate) desk: SeatDesk<Scene, R>,
+    pub(crate) way: Option<ProbeWay>,
+}
+
+/// The seats of a play.
+#[derive(Drop)]
+pub(crate) struct AllSeats<R> {
+    pub(crate) app: AppSeat<R>,
+    pub(crate) cull: CullSeat<R>,
+    pub(crate) draw: DrawSeat<R>,
+    pub(crate) dbase: DbaseSeat<R>,
+    pub(crate) probe: ProbeSeat<R>,
 }
 
 impl<R: Wait> AppSeat<R> {
@@ -91,5 +117,27 @@ impl<R: Wait> DbaseSeat<R> {
         ensures { DbaseGoes (dbase_site self.old) (dbase_site self.new) }
     {
         self.stage.poll(&mut self.desk, gate)
+    }
+}
+
+impl ProbeWay {
+    /// One poll of the probe, at its desk.
+    fn poll<R: Wait>(&mut self, desk: &mut SeatDesk<Scene, R>) -> Result<Did, StageError>
+        ensures rests { Rests (place_of desk.old) (place_of desk.new) }
+        ensures goes { WayGoes (way_site self.old) (way_site self.new) }
+    {
+        self.stage.poll(desk, &mut self.from, &mut self.to)
+    }
+}
+
+impl<R: Wait> ProbeSeat<R> {
+    /// One poll of the probe. It is over where there is none.
+    pub(crate) fn poll(&mut self) -> Result<Did, StageError>
+        ensures { ProbeGoes (probe_site self.old) (probe_site self.new) }
+    {
+        match &mut self.way {
+            Some(way) => way.poll(&mut self.desk),
+            None => Ok(Did::Over),
+        }
     }
 }

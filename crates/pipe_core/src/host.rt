@@ -1,5 +1,5 @@
 //! A whole play on one thread: rounds of events until all stages are over.
-ghost use Rattle.std.specs.Prelude.{◌≡◌, ◌≢◌, ◌↔◌, ℕ, ◌+◌, ◌*◌, ◌≤◌, IsTrue, true, false, IfOk, OnOk};
+ghost use Rattle.std.specs.Prelude.{◌≡◌, ◌≢◌, ◌↔◌, ℕ, ◌+◌, ◌*◌, ◌≤◌, IsTrue, true, false, [], IfOk, OnOk};
 ghost use Rattle.std.specs.List.{concat};
 ghost use Rattle.std.specs.Io.KnownBytes.{append_known};
 ghost use Rattle.pf_io.specs.Causes.{Calm, Rose};
@@ -161,6 +161,9 @@ pub fn play_all<R: Threads + Sync, O: Sink, G: Gate>(
     // Whatever the end, the numbers are those of the frames that came back: the first of the history's.
     ensures numbers { KeepsNumbers play result.history.entries result.stats.items (O.written frames.old) (O.written frames.new) }
 
+    // There is no probe.
+    ensures probes { result.probes.items ≡ [] }
+
     // Where it is done, the last call on the sink was a flush that succeeded.
     ensures flushed { result.end ≡ PlayEnd.Done → O.flushed frames.new ≡ true }
 
@@ -181,12 +184,14 @@ pub fn play_all<R: Threads + Sync, O: Sink, G: Gate>(
                 end: PlayEnd::of(came),
                 history,
                 stats,
+                probes: Vec::new(alloc),
             }
         }
         Err(NoMemory) => Played {
             end: PlayEnd::NoMemory,
             history: History::new(alloc),
             stats: Vec::new(alloc),
+            probes: Vec::new(alloc),
         },
     }
 }

@@ -3,6 +3,7 @@ ghost use Rattle.std.specs.Prelude.{◌≡◌};
 ghost use Rattle.pipe_plays.specs.Played.{end_of};
 
 use draw_list::Stats;
+use nearest_hit::Near;
 use pf_history::History;
 use stage_parts::StageError;
 
@@ -38,4 +39,6 @@ pub struct Played {
     pub history: History,
     /// The numbers of each frame that came back, summed over its channels.
     pub stats: Vec<Stats>,
+    /// What a probe found in each frame, in turn. It is empty where there is no probe.
+    pub probes: Vec<Option<Near>>,
 }

@@ -6,29 +6,45 @@ returns-clause-app g c = λ k answers.
     let a = c.two-with_cull.ensures in
     let b = c.two-with_draw.ensures in
     let d = c.two-with_dbase.ensures in
-    let here = a.keeps k answers in
-    let there = b.keeps k here in
+    let e = c.two-with_probe.ensures in
+    let with_cull = a.keeps k answers in
+    let with_draw = b.keeps k with_cull in
+    let with_dbase = d.keeps k with_draw in
     found-trans k _ _ _ (a.found k answers)
-    (found-trans k _ _ _ (b.found k here) (found-trans k _ _ _ (d.found k there) (c.last.ensures.found k (d.keeps k there))))
+    (found-trans k _ _ _ (b.found k with_cull)
+    (found-trans k _ _ _ (d.found k with_draw) (found-trans k _ _ _ (e.found k with_dbase) (c.last.ensures.found k (e.keeps k with_dbase)))))
 
 pub returns-clause-cull : goal.returns-clause-cull
 returns-clause-cull g c = λ k answers.
     let a = c.two-with_cull.ensures in
     let b = c.two-with_draw.ensures in
     let d = c.two-with_dbase.ensures in
-    let here = a.gains k answers in
-    let there = b.keeps k here in
+    let e = c.two-with_probe.ensures in
+    let with_cull = a.gains k answers in
+    let with_draw = b.keeps k with_cull in
+    let with_dbase = d.keeps k with_draw in
     found-trans k _ _ _ (a.other_found k answers)
-    (found-trans k _ _ _ (b.found k here) (found-trans k _ _ _ (d.found k there) (c.last.ensures.found k (d.keeps k there))))
+    (found-trans k _ _ _ (b.found k with_cull)
+    (found-trans k _ _ _ (d.found k with_draw) (found-trans k _ _ _ (e.found k with_dbase) (c.last.ensures.found k (e.keeps k with_dbase)))))
 
 pub returns-clause-draw : goal.returns-clause-draw
 returns-clause-draw g c = λ k answers.
     let b = c.two-with_draw.ensures in
     let d = c.two-with_dbase.ensures in
-    let here = b.gains k answers in
-    found-trans k _ _ _ (b.other_found k answers) (found-trans k _ _ _ (d.found k here) (c.last.ensures.found k (d.keeps k here)))
+    let e = c.two-with_probe.ensures in
+    let with_draw = b.gains k answers in
+    let with_dbase = d.keeps k with_draw in
+    found-trans k _ _ _ (b.other_found k answers)
+    (found-trans k _ _ _ (d.found k with_draw) (found-trans k _ _ _ (e.found k with_dbase) (c.last.ensures.found k (e.keeps k with_dbase))))
 
 pub returns-clause-dbase : goal.returns-clause-dbase
 returns-clause-dbase g c = λ k answers.
     let d = c.two-with_dbase.ensures in
-    found-trans k _ _ _ (d.other_found k answers) (c.last.ensures.found k (d.gains k answers))
+    let e = c.two-with_probe.ensures in
+    let with_dbase = d.gains k answers in
+    found-trans k _ _ _ (d.other_found k answers) (found-trans k _ _ _ (e.found k with_dbase) (c.last.ensures.found k (e.keeps k with_dbase)))
+
+pub returns-clause-probe : goal.returns-clause-probe
+returns-clause-probe g c = λ k answers.
+    let e = c.two-with_probe.ensures in
+    found-trans k _ _ _ (e.other_found k answers) (c.last.ensures.found k (e.gains k answers))

@@ -2,22 +2,44 @@ use Rattle.std.proofs.Common.{ℕ, List, Option, sym, ◌∙◌, subst}
 use Rattle.seat_lock.specs.Tokens.{lock_id}
 use Rattle.pipe_plays.specs.Plays.{setup_of}
 use Rattle.pipe_plays.proofs.Ended.{done_only}
-use Rattle.mode_hosts.specs.Gathering.{SeatsKeep}
-use Rattle.mode_hosts.specs.Homes.{sites_of}
+use Rattle.mode_hosts.specs.Probes.{AllKeep}
+use Rattle.mode_hosts.specs.Homes.{all_sites}
 use Rattle.mode_hosts.proofs.Tells.{played}
+use Rattle.mode_hosts.proofs.Probes.{four_home, probed}
 use Rattle.mode_hosts.proofs.leaving.leave.Goals as goal
 
 pub returns-clause-leaves : goal.returns-clause-leaves
-returns-clause-leaves g c = λ play ahead bytes can keeps.
-    let s = sites_of c.args.app c.args.cull c.args.draw c.args.dbase in
+returns-clause-leaves g c = λ play ahead probe bytes can keeps.
+    let s = all_sites c.args.seats in
+    let lock = lock_id c.args.lock.now in
+    let log = c.gather-gathered.result.history.entries in
+    let written = g.O.Sink.written c.finish-came.new.frames in
     let came = c.finish-came.ensures in
-    let kept = subst (λ (now : Option (List ℕ)). SeatsKeep (setup_of play ahead) play.dbase s bytes now) (sym came.bytes) keeps in
-    played c.a_play_leaves_its_history.ensures play ahead (lock_id c.args.lock.now) s c.of.result c.gather-gathered.result.history.entries
-    c.gather-gathered.result.stats.items bytes (g.O.Sink.written c.finish-came.new.frames) can c.requires kept
-    c.gather-gathered.ensures.home c.gather-gathered.ensures.stats
+    let kept = subst (λ (now : Option (List ℕ)). AllKeep (setup_of play ahead) play.dbase probe s bytes now) (sym came.bytes) keeps in
+    let home = four_home c.two_links_are_one.ensures (setup_of play ahead) play.dbase probe lock s log bytes written c.requires kept
+    c.gather-gathered.ensures.home in
+    played c.a_play_leaves_its_history.ensures play ahead lock s.four c.of-end.result log c.gather-gathered.result.stats.items bytes written can
+    c.requires.desks kept.four home c.gather-gathered.ensures.stats
     (λ done.
-    let end = sym c.of.ensures ∙ done in
+    let end = sym c.of-end.ensures ∙ done in
     record {
       app = sym c.has_ended-app_ended.ensures ∙ done_only c.finish-came.result _ came.app end;
       dbase = sym c.has_ended-dbase_ended.ensures ∙ done_only c.finish-came.result _ came.dbase end;
     })
+
+pub returns-clause-probes : goal.returns-clause-probes
+returns-clause-probes g c = λ play ahead probe bytes can keeps.
+    let s = all_sites c.args.seats in
+    let came = c.finish-came.ensures in
+    let answers = c.answers_at.ensures in
+    probed c.a_pipe_shows_its_history.ensures c.answers_follow_the_application.ensures c.two_links_are_one.ensures play ahead probe
+    (lock_id c.args.lock.now) s c.of-end.result c.gather-gathered.result.history.entries c.answers_at.result.items bytes
+    (g.O.Sink.written c.args.frames.now) can c.requires keeps c.gather-gathered.ensures.home
+    (λ done.
+    let end = sym c.of-end.ensures ∙ done in
+    record {
+      app = sym c.has_ended-app_ended.ensures ∙ done_only c.finish-came.result _ came.app end;
+      whole = sym c.has_failed-probe_failed.ensures ∙ done_only c.finish-came.result _ came.probe end;
+      answers = answers.done done ∙ c.gather-gathered.ensures.answers;
+    })
+    answers.early

@@ -10,7 +10,7 @@ use Rattle.frame_stages.specs.DbaseWorks as base
 use Rattle.frame_stages.specs.DbaseWorks.{DbaseHolds}
 use Rattle.pipe_plays.specs.Plays.{setup_of}
 use Rattle.mode_hosts.specs.Deals.{stands_at}
-use Rattle.mode_hosts.proofs.Opens.{new_keeps, of_ok, one_ok}
+use Rattle.mode_hosts.proofs.Opens.{new_keeps, probe_new, of_ok, one_ok}
 use Rattle.mode_hosts.proofs.opening.open.Goals as goal
 
 pub returns-clause-together : goal.returns-clause-together
@@ -21,15 +21,19 @@ returns-clause-together g c =
     let cull = of_ok _ made.desks desks.cull in
     let draw = of_ok _ made.desks desks.draw in
     let dbase = of_ok _ made.desks desks.dbase in
+    let probe = of_ok _ made.desks desks.probe in
     record {
-      app = record { number = ap (λ (v : View Entry). v.number) app.1; lock = ap Some app.0 };
-      cull = record { number = ap (λ (v : View Entry). v.number) cull.1; lock = ap Some cull.0 };
-      draw = record { number = ap (λ (v : View Entry). v.number) draw.1; lock = ap Some draw.0 };
-      dbase = record { number = ap (λ (v : View Entry). v.number) dbase.1; lock = ap Some dbase.0 };
-      seats = ap (λ (v : View Entry). v.seats) app.1;
-      a = (of_ok _ made.to_cull c.new_link.ensures).link;
-      b = (of_ok _ made.to_draw c.new_link-2.ensures).link;
-      c = (of_ok _ made.back c.new_link-3.ensures).link;
+      desks = record {
+        app = record { number = ap (λ (v : View Entry). v.number) app.1; lock = ap Some app.0 };
+        cull = record { number = ap (λ (v : View Entry). v.number) cull.1; lock = ap Some cull.0 };
+        draw = record { number = ap (λ (v : View Entry). v.number) draw.1; lock = ap Some draw.0 };
+        dbase = record { number = ap (λ (v : View Entry). v.number) dbase.1; lock = ap Some dbase.0 };
+        seats = ap (λ (v : View Entry). v.seats) app.1;
+      };
+      probe = record { number = ap (λ (v : View Entry). v.number) probe.1; lock = ap Some probe.0 };
+      a = (of_ok _ made.to_cull c.new_way.ensures).linked;
+      b = (of_ok _ made.to_draw c.new_link.ensures).link;
+      c = (of_ok _ made.back c.new_link-2.ensures).link;
     }
 
 pub returns-clause-keeps : goal.returns-clause-keeps
@@ -56,10 +60,12 @@ returns-clause-keeps g c = λ bytes.
     let cull_desk = of_ok _ made.desks desks.cull in
     let draw_desk = of_ok _ made.desks desks.draw in
     let dbase_desk = of_ok _ made.desks desks.dbase in
-    let a = of_ok _ made.to_cull c.new_link.ensures in
-    let b = of_ok _ made.to_draw c.new_link-2.ensures in
-    let d = of_ok _ made.back c.new_link-3.ensures in
-    new_keeps (setup_of play c.args.ahead) play.dbase (lock_id (arc_value parts.desks.lock)) _ bytes refl (record {
+    let probe_desk = of_ok _ made.desks desks.probe in
+    let a = of_ok _ made.to_cull c.new_way.ensures in
+    let b = of_ok _ made.to_draw c.new_link.ensures in
+    let d = of_ok _ made.back c.new_link-2.ensures in
+    let lock = lock_id (arc_value parts.desks.lock) in
+    let four = new_keeps (setup_of play c.args.ahead) play.dbase lock _ bytes refl (record {
       app_work = of_ok _ made.app c.new.ensures.opens ∙ ap (λ (g : Setup). app.opening_work g parts.app.state.spare) given;
       loads = of_ok _ made.app c.new.ensures.loads;
       lens = of_ok _ made.cull c.new-2.ensures.lens ∙ lens;
@@ -78,4 +84,8 @@ returns-clause-keeps g c = λ bytes.
       cull_taken = a.taken;
       draw_sent = d.sent;
       draw_taken = b.taken;
-    })
+    }) in
+    record {
+      four = four;
+      probe = probe_new c.args.probe lock _ a.keeps (λ i. stands_at (probe_desk.0 i) (probe_desk.1 i));
+    }

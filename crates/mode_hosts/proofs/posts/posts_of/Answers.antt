@@ -9,4 +9,5 @@ returns g c =
       cull = c.post_of.ensures;
       draw = c.post_of-2.ensures;
       dbase = c.post_of-3.ensures;
+      probe = c.post_of-4.ensures;
     }

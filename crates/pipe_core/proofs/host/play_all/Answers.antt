@@ -29,6 +29,7 @@ returns-in-Ok g c =
       whole = λ is. (left.all is).whole;
       stats = λ is. (left.all is).all_numbers;
       numbers = left.now.numbers;
+      probes = c.new-in-Ok.ensures.items;
       flushed = λ is. done_only c.run-came.result _ run.flushed (sym c.of.ensures ∙ is);
       fault = λ is. (faulted c.run-came.result c.of.result _ _ _ _ run.blames c.of.ensures is).0;
       last = λ is. (faulted c.run-came.result c.of.result _ _ _ _ run.blames c.of.ensures is).1;

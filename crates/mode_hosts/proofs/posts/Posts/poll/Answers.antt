@@ -10,4 +10,5 @@ returns g c = λ crews are.
       cull = c.poll-cull.ensures crews.cull are.cull;
       draw = c.poll-draw.ensures crews.draw are.draw;
       dbase = c.poll-dbase.ensures crews.dbase are.dbase;
+      probe = c.poll-probe.ensures crews.probe are.probe;
     }
