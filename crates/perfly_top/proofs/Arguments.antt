@@ -1,7 +1,11 @@
--- The words behind the first.
-use Rattle.std.proofs.Common.{◌≡◌, ◌<◌, ℕ, List, [], ◌∷◌, ◌++◌, drop, length, Option, Some, None, refl, sym, ap, ◌∙◌, arith}
+-- The words behind the first argument, and what they mean.
+use Rattle.std.proofs.Common.{◌≡◌, ◌<◌, ℕ, List, [], ◌∷◌, ◌++◌, drop, length, Option, Some, None, ◌⊎◌, inl, inr, sym, ap, subst, arith}
 use Rattle.std.specs.Prelude.{IsSome, ◌↔◌}
 use Rattle.std.specs.Option.{option_to_list}
+use Rattle.pf_history.specs.Logs.{Log}
+use Rattle.program_words.specs.declared.words.Words.{Words}
+use Rattle.perfly_top.specs.Calls.{Bytes, IsUntouched}
+use Rattle.perfly_top.specs.Endings.{IsBegun}
 
 -- what is left behind a `next`
 pub behind_first : {A : Type 0} (first : Option A) (all rest : List A) (n : ℕ) → all ≡ option_to_list first ++ rest →
@@ -9,3 +13,11 @@ pub behind_first : {A : Type 0} (first : Option A) (all rest : List A) (n : ℕ)
 behind_first (Some x) all rest n e some len = sym (ap (drop 1) e)
 behind_first None [] rest n e some len = sym e
 behind_first None (x ∷ xs) rest n e some len = absurd (let is = some.1 (omega (arith, len)) in cc)
+
+-- what words leave of a play that was begun, or was not, is left of it by arguments of the same meaning
+pub part_by : (meant given : Option Words) (left left' : Bytes) (log : Log) (frames frames' : Bytes) → given ≡ meant →
+    IsUntouched log frames frames' ⊎ IsBegun given left left' log frames frames' →
+    (frames' ≡ frames) ⊎ ((x : Log) × IsBegun meant left left' x frames frames')
+part_by meant given left left' log frames frames' e (inl untouched) = inl untouched.1
+part_by meant given left left' log frames frames' e (inr begun) =
+    inr (log, subst (λ (m : Option Words). IsBegun m left left' log frames frames') e begun)

@@ -6,10 +6,11 @@ use Rattle.std.specs.Str.{bytes_eq}
 use Rattle.std.specs.Str.Parse.{digits_value}
 use Rattle.std.proofs.lemmas.Bool.{ltb-false}
 use Rattle.clap.specs.Words.{Row, Text, first_of, fault_of, matches_of}
+use Rattle.nearest_hit.specs.declared.segment.Segment.{Segment}
 use Rattle.program_words.specs.declared.words.Mode.{Mode}
 use Rattle.program_words.specs.declared.words.Words.{Words}
 use Rattle.program_words.specs.Usage.{usage}
-use Rattle.program_words.specs.Meaning.{number_in, mode_of, dbase_of, ahead_of, make_of, words_of, meaning_of_values, meaning_of_words}
+use Rattle.program_words.specs.Meaning.{number_in, mode_of, dbase_of, ahead_of, make_of, probe_of, words_of, meaning_of_values, meaning_of_words}
 
 abbrev Judged : ℕ → Bool → Bool → Bool → Option ℕ
 Judged n a b c = cond (a && (not b && not c)) (Some n) None
@@ -31,13 +32,14 @@ in_range low high text n e =
         (omega (arith, ltb-false m low q, same), omega (arith, ltb-false high m r, same))
 
 -- what the ahead and the number to make of such words come from
-parts : (mode : Option Mode) (dbase : Bool) (ahead : Option ℕ) (make : Option (Option ℕ)) (w : Words) → words_of mode dbase ahead make ≡ Some w →
-    (ahead ≡ Some w.ahead) × (make ≡ Some w.make)
-parts None dbase ahead make w e = absurd cc
-parts (Some m) dbase None make w e = absurd cc
-parts (Some m) dbase (Some a) None w e = absurd cc
-parts (Some m) dbase (Some a) (Some k) w e =
-    let read : Words = record { mode = m; dbase = dbase; ahead = a; make = k } in
+parts : (mode : Option Mode) (dbase : Bool) (ahead : Option ℕ) (make : Option (Option ℕ)) (probe : Option (Option Segment)) (w : Words) →
+    words_of mode dbase ahead make probe ≡ Some w → (ahead ≡ Some w.ahead) × (make ≡ Some w.make)
+parts None dbase ahead make probe w e = absurd cc
+parts (Some m) dbase None make probe w e = absurd cc
+parts (Some m) dbase (Some a) None probe w e = absurd cc
+parts (Some m) dbase (Some a) (Some k) None w e = absurd cc
+parts (Some m) dbase (Some a) (Some k) (Some p) w e =
+    let read : Words = record { mode = m; dbase = dbase; ahead = a; make = k; probe = p } in
     let is : Some read ≡ Some w = e in
     let same : read ≡ w = cc in
     (ap (λ (v : Words). Some v.ahead) same, ap (λ (v : Words). Some v.make) same)
@@ -74,7 +76,8 @@ of_words words w e = by (list_any (λ t. bytes_eq t (codes "--")) words) (length
     by false false j = absurd cc
     by false true j =
         let is = parts (mode_of (first_of (codes "mode") rows)) (dbase_of (first_of (codes "dbase") rows))
-        (ahead_of (first_of (codes "ahead") rows)) (make_of (first_of (codes "make") rows)) w j in
+        (ahead_of (first_of (codes "ahead") rows)) (make_of (first_of (codes "make") rows))
+        (probe_of (first_of (codes "probe") rows)) w j in
         let ahead = of_ahead (first_of (codes "ahead") rows) w.ahead is.0 in
         let make = to_make (first_of (codes "make") rows) w.make is.1 in
         (ahead.0, ahead.1, make.0, make.1)

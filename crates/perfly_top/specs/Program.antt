@@ -1,5 +1,5 @@
 -- The headline: what a call leaves that played its play to the end.
-use Rattle.std.specs.Prelude.{◌≡◌, ℕ, ◌+◌, ◌≤◌, true, List, Option, Some, IsSome, slice_get}
+use Rattle.std.specs.Prelude.{◌≡◌, ℕ, ◌+◌, ◌≤◌, true, List, [], ◌++◌, Option, Some, IsSome, slice_get}
 use Rattle.std.specs.List.{concat}
 use Rattle.std.specs.Option.{option_map_or}
 use Rattle.std.specs.Io.KnownBytes.{append_known}
@@ -12,7 +12,10 @@ use Rattle.pf_history.specs.Cuts.{found_by_frames}
 use Rattle.pf_history.specs.CutLaws.{has_serial, is_among, sync_entry}
 use Rattle.stage_parts.specs.Pictures.{pictures}
 use Rattle.pipe_plays.specs.Played.{AddsFront}
+use Rattle.nearest_hit.specs.declared.found.Near.{Near}
+use Rattle.isect_stage.specs.Asking.{nearest_hits}
 use Rattle.play_report.specs.Reports.{report, summary}
+use Rattle.play_report.specs.Probes.{probe_text}
 use Rattle.program_words.specs.declared.words.Words.{Words}
 use Rattle.perfly_top.specs.Sums.{sum_of_bytes}
 
@@ -20,10 +23,18 @@ use Rattle.perfly_top.specs.Sums.{sum_of_bytes}
 abbrev pub stream_of : Script → Log → List ℕ
 stream_of play log = concat (pictures play.channels play.lens play.back log)
 
--- what the report sink gets: the report, or with a number to make the summary, which has a sum
-abbrev pub told : Words → Script → Log → ℕ → List ℕ
-told words play log sum =
+-- what is told of the play: the report, or with a number to make the summary, which has a sum
+abbrev pub account : Words → Script → Log → ℕ → List ℕ
+account words play log sum =
     option_map_or (λ n. summary play.lens play.channels n log sum) words.make (report play.lens play.channels log)
+
+-- the answers to the probe: the nearest hit of each Frame, in the state that it found; none where there is no probe
+abbrev pub answers : Words → Script → Log → List (Option Near)
+answers words play log = option_map_or (λ segment. nearest_hits play.channels segment log) words.probe []
+
+-- what the report sink gets: the report or the summary, and then the lines of the probe
+abbrev pub told : Words → Script → Log → ℕ → List ℕ
+told words play log sum = account words play log sum ++ probe_text (answers words play log)
 
 -- The sum of a summary is that of the bytes of the pictures, where the frame sink tells its bytes.
 abbrev pub IsSummed : Words → Script → Log → Option (List ℕ) → ℕ → Type 0

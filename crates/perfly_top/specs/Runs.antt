@@ -3,6 +3,7 @@ use Rattle.std.specs.Prelude.{◌≡◌, ◌≢◌, ℕ, List, Option}
 use Rattle.std.specs.Io.KnownBytes.{append_known}
 use Rattle.pf_io.specs.Causes.{Calm, Rose}
 use Rattle.draw_list.specs.declared.stats.Stats.{Stats}
+use Rattle.nearest_hit.specs.declared.found.Near.{Near}
 use Rattle.play_format.specs.Plays.{Script}
 use Rattle.pf_history.specs.Logs.{Log, IsLegal}
 use Rattle.pf_history.specs.Fits.{FitsPlay, FitsWholly}
@@ -10,11 +11,16 @@ use Rattle.stage_parts.specs.Pictures.{frame_numbers}
 use Rattle.pipe_plays.specs.Played.{AddsFront}
 use Rattle.pipe_plays.specs.declared.played.PlayEnd.{PlayEnd}
 use Rattle.pipe_plays.specs.declared.played.PlayEnd.TheVariants as end
-use Rattle.perfly_top.specs.Program.{stream_of}
+use Rattle.program_words.specs.declared.words.Words.{Words}
+use Rattle.perfly_top.specs.Program.{stream_of, answers}
 
 -- the numbers are those of the frames of a history
 abbrev pub HasNumbers : Script → List Stats → Log → Type 0
 HasNumbers play stats log = stats ≡ frame_numbers play.channels play.lens log
+
+-- the answers are those to the probe in a history
+abbrev pub HasAnswers : Words → Script → List (Option Near) → Log → Type 0
+HasAnswers words play probes log = probes ≡ answers words play log
 
 -- The history is one of the play, and the stream is a front of its pictures; where the play came to its end, the history
 -- fits it wholly, the stream is all pictures, and the numbers are those of the frames.

@@ -1,5 +1,6 @@
 -- How the words divide the stages of a play among threads.
 use Rattle.std.specs.Prelude.{Bool, true, false, not, ◌&&◌}
+use Rattle.std.specs.Option.{is_some}
 use Rattle.mode_hosts.specs.declared.modes.Mode.{Mode as HostMode}
 use Rattle.mode_hosts.specs.declared.modes.Mode.TheVariants as host
 use Rattle.mode_hosts.specs.declared.modes.Setup.{Setup}
@@ -15,7 +16,7 @@ host_mode mode.AppcullDraw = host.AppcullDraw
 host_mode mode.AppCullDraw = host.AppCullDraw
 
 abbrev pub setup_of : Words → Setup
-setup_of words = record { mode = host_mode words.mode; dbase = words.dbase; ahead = words.ahead }
+setup_of words = record { mode = host_mode words.mode; dbase = words.dbase; ahead = words.ahead; probe = words.probe }
 
 -- one thread has all stages
 abbrev pub has_one : Mode → Bool
@@ -24,4 +25,4 @@ has_one _ = false
 
 -- no stage has a thread of its own
 abbrev pub is_on_one_thread : Words → Bool
-is_on_one_thread words = has_one words.mode && not words.dbase
+is_on_one_thread words = has_one words.mode && (not words.dbase && not (is_some words.probe))

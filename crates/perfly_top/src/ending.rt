@@ -6,7 +6,7 @@ ghost use Rattle.play_format.specs.Plays.{Script};
 ghost use Rattle.perfly_top.specs.Calls.{IsTold, AddsSome};
 ghost use Rattle.perfly_top.specs.Endings.{status_of, refusal_of, stuck_of, IsStopped};
 ghost use Rattle.perfly_top.specs.Program.{told};
-ghost use Rattle.perfly_top.specs.Runs.{HasNumbers};
+ghost use Rattle.perfly_top.specs.Runs.{HasNumbers, HasAnswers};
 ghost use Rattle.perfly_top.specs.Messages.{message_of};
 
 use crate::messages::say_why;
@@ -134,9 +134,11 @@ pub(crate) fn tell<P: Sink>(alloc: Global, words: Words, run: Run, report: &mut 
     ensures one_of { (result.status ≡ DONE) ⊎ (result.status ≡ REPORT_FAULT) ⊎ (result.status ≡ NO_MEMORY) }
     ensures history { result.history ≡ run.played.history }
     ensures whole { (play : Script) → HasNumbers play run.played.stats.items run.played.history.entries
+        → HasAnswers words play run.played.probes.items run.played.history.entries
         → result.status ≡ DONE
         → P.written report.new ≡ append_known (P.written report.old) (told words play run.played.history.entries run.sum) }
     ensures some { (play : Script) → HasNumbers play run.played.stats.items run.played.history.entries
+        → HasAnswers words play run.played.probes.items run.played.history.entries
         → result.status ≡ REPORT_FAULT
         → AddsSome (P.written report.old) (P.written report.new) (told words play run.played.history.entries run.sum) }
     ensures calm { result.status ≡ DONE → Calm (P.faults report.old) (P.faults report.new) }

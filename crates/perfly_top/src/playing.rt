@@ -1,9 +1,9 @@
 //! A play that is played, and what is told of it.
 ghost use Rattle.std.specs.Prelude.{◌≡◌, ◌≤◌, ◌++◌, true, Some, IfOk, OnOk, IsSome};
 ghost use Rattle.play_check.specs.Stuck.{IsStuck};
-ghost use Rattle.perfly_top.specs.Program.{stream_of, told, IsSummed};
+ghost use Rattle.perfly_top.specs.Program.{stream_of, account, told, IsSummed};
 ghost use Rattle.perfly_top.specs.Sums.{sum_of_bytes};
-ghost use Rattle.perfly_top.specs.Runs.{IsRun, EndsByFault, HasNumbers};
+ghost use Rattle.perfly_top.specs.Runs.{IsRun, EndsByFault, HasNumbers, HasAnswers};
 ghost use Rattle.play_format.specs.Plays.{Script};
 ghost use Rattle.program_words.specs.declared.words.Words.{Words};
 
@@ -12,7 +12,7 @@ use crate::summing::{Held, Lent, Start, Summing};
 use pf_io::{Gate, NoMemory, Sink};
 use pipe_core::{PlayEnd, Played};
 use play_format::Play;
-use play_report::{append_report, append_summary};
+use play_report::{append_probes, append_report, append_summary};
 use program_words::Words;
 use std::alloc::Global;
 use std::marker::{Brand, PhantomData};
@@ -37,6 +37,7 @@ fn play_by<
     requires few { words.ahead ≤ 4 }
     ensures run { IsRun play words.ahead result.end result.history.entries result.stats.items
         (O.written frames.old) (O.written frames.new) }
+    ensures answers { result.end ≡ PlayEnd.Done → HasAnswers words play result.probes.items result.history.entries }
     ensures cause { EndsByFault result.end (O.faults frames.old) (O.faults frames.new)
         (O.at_fault frames.new) (O.written frames.new) }
     ensures flushed { result.end ≡ PlayEnd.Done → O.flushed frames.new ≡ true }
@@ -63,6 +64,8 @@ fn held_run<
     ensures same { H.loan result.1 ≡ H.loan held }
     ensures run { IsRun play words.ahead result.0.played.end result.0.played.history.entries result.0.played.stats.items
         (H.bytes held) (H.bytes result.1) }
+    ensures answers { result.0.played.end ≡ PlayEnd.Done
+        → HasAnswers words play result.0.played.probes.items result.0.played.history.entries }
     ensures cause { EndsByFault result.0.played.end (H.failed held) (H.failed result.1)
         (H.at_failure result.1) (H.bytes result.1) }
     ensures flushed { result.0.played.end ≡ PlayEnd.Done → H.is_flushed result.1 ≡ true }
@@ -94,6 +97,8 @@ fn summed_run<
     requires few { words.ahead ≤ 4 }
     ensures run { IsRun play words.ahead result.played.end result.played.history.entries result.played.stats.items
         (O.written frames.old) (O.written frames.new) }
+    ensures answers { result.played.end ≡ PlayEnd.Done
+        → HasAnswers words play result.played.probes.items result.played.history.entries }
     ensures cause { EndsByFault result.played.end (O.faults frames.old) (O.faults frames.new)
         (O.at_fault frames.new) (O.written frames.new) }
     ensures flushed { result.played.end ≡ PlayEnd.Done → O.flushed frames.new ≡ true }
@@ -117,6 +122,8 @@ pub(crate) fn run_of<
     requires few { words.ahead ≤ 4 }
     ensures run { IsRun play words.ahead result.played.end result.played.history.entries result.played.stats.items
         (O.written frames.old) (O.written frames.new) }
+    ensures answers { result.played.end ≡ PlayEnd.Done
+        → HasAnswers words play result.played.probes.items result.played.history.entries }
     ensures cause { EndsByFault result.played.end (O.faults frames.old) (O.faults frames.new)
         (O.at_fault frames.new) (O.written frames.new) }
     ensures flushed { result.played.end ≡ PlayEnd.Done → O.flushed frames.new ≡ true }
@@ -132,8 +139,8 @@ pub(crate) fn run_of<
     }
 }
 
-/// Appends what is told of a play that came to its end: the report, or the summary of a play that was made.
-fn append_told(
+/// Appends the report of a play that came to its end, or the summary of one that was made.
+fn append_account(
     alloc: Global,
     text: &mut Vec<u8>,
     make: Option<u16>,
@@ -141,7 +148,7 @@ fn append_told(
 ) -> Result<(), NoMemory>
     ensures { (play : Script) (words : Words) → words.make ≡ make
         → HasNumbers play run.now.played.stats.items run.now.played.history.entries
-        → OnOk result (text.new.items ≡ text.old.items ++ told words play run.now.played.history.entries run.now.sum) }
+        → OnOk result (text.new.items ≡ text.old.items ++ account words play run.now.played.history.entries run.now.sum) }
 {
     let stats = run.played.stats.as_slice();
     match make {
@@ -157,12 +164,14 @@ fn append_told(
     }
 }
 
-/// What is told of a play that came to its end.
+/// What is told of a play that came to its end: its report or its summary, and then the answers to its probe.
 pub(crate) fn telling(alloc: Global, words: Words, run: &Run) -> Result<Vec<u8>, NoMemory>
     ensures { (play : Script) → HasNumbers play run.now.played.stats.items run.now.played.history.entries
+        → HasAnswers words play run.now.played.probes.items run.now.played.history.entries
         → IfOk result (λ text. text.items ≡ told words play run.now.played.history.entries run.now.sum) }
 {
     let mut text = Vec::new(alloc);
-    append_told(alloc, &mut text, words.make, run)?;
+    append_account(alloc, &mut text, words.make, run)?;
+    append_probes(alloc, &mut text, run.played.probes.as_slice())?;
     Ok(text)
 }

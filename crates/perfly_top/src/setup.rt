@@ -25,6 +25,7 @@ pub(crate) fn setup_of(words: Words) -> Setup
         mode: host_mode(words.mode),
         dbase: words.dbase,
         ahead: words.ahead,
+        probe: words.probe,
     }
 }
 
@@ -32,5 +33,5 @@ pub(crate) fn setup_of(words: Words) -> Setup
 pub(crate) fn is_on_one_thread(words: Words) -> bool
     ensures { result ≡ is_on_one_thread words }
 {
-    words.mode == Mode::Appculldraw && !words.dbase
+    words.mode == Mode::Appculldraw && !words.dbase && words.probe.is_none()
 }

@@ -1,5 +1,5 @@
 -- Plays worked by hand: the report of the one-thread object's own history.
-use Rattle.std.proofs.Common.{◌≡◌, ℕ, ◌+◌, ◌/◌, ◌%◌, ◌^◌, ◌<◌, ◌≤◌, false, List, [], ◌∷◌, ◌++◌, pos, refl, ap, ◌∙◌, arith}
+use Rattle.std.proofs.Common.{◌≡◌, ℕ, ◌+◌, ◌/◌, ◌%◌, ◌^◌, ◌<◌, ◌≤◌, false, List, [], ◌∷◌, ◌++◌, Some, None, pos, refl, ap, ◌∙◌, arith}
 use Rattle.std.specs.Prelude.{codes, count_by, decimal}
 use Rattle.std.proofs.lemmas.Fmt.{decimal_digit, decimal_step}
 use Rattle.fx_math.specs.Constants.{origin_vector}
@@ -17,6 +17,7 @@ use Rattle.draw_list.specs.declared.stats.Stats.{Stats}
 use Rattle.draw_list.specs.Order.{all_states}
 use Rattle.play_report.specs.Entries.{entry_texts}
 use Rattle.play_report.specs.Frames.{stats_of_frames}
+use Rattle.play_report.specs.Probes.{probe_text}
 use Rattle.play_report.specs.Reports.{report_text, report, summary_text}
 
 -- the object's own entries for commands that are made one after the other
@@ -60,6 +61,13 @@ text_of_1800 =
 
 text_of_77 : decimal 77 ≡ codes "77"
 text_of_77 = with_digit 77 7 (codes "7") (omega arith) (omega arith) (decimal_digit 7 (omega arith)) refl
+
+text_of_32768 : decimal 32768 ≡ codes "32768"
+text_of_32768 =
+    with_digit 32768 8 (codes "3276") (omega arith) (omega arith)
+    (with_digit 3276 6 (codes "327") (omega arith) (omega arith)
+    (with_digit 327 7 (codes "32") (omega arith) (omega arith)
+    (with_digit 32 2 (codes "3") (omega arith) (omega arith) three_text refl) refl) refl) refl
 
 text_of_46 : decimal 46 ≡ codes "46"
 text_of_46 = with_digit 46 6 (codes "4") (omega arith) (omega arith) four_text refl
@@ -148,3 +156,9 @@ empty_scene_report : (lens : Lens) → report lens 1 (log_of empty_scene)
     ≡ codes "app sync 0 : freed 0\napp frame 1 : ok\napp sync 1 : freed 0\nframe 1 shown 0 states 0 visited 1\n"
 empty_scene_report lens =
     ap (λ (stats : List Stats). report_text (log_of empty_scene) stats) (empty_scene_stats lens) ∙ simp (zero_text, one_text)
+
+-- A probe that hits in the first frame, half way along its segment, and misses in the second
+
+probe_of_two_frames :
+    probe_text (Some (record { t = 32768; place = 0; tri = 0; id = 1 }) ∷ None ∷ []) ≡ codes "probe 1 32768 0 0 1\nprobe 2 none\n"
+probe_of_two_frames = simp (zero_text, one_text, two_text, text_of_32768)

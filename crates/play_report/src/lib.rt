@@ -1,10 +1,12 @@
-//! The report of a play: a line for each entry of its history and for each frame; and its
-//! summary in one line.
+//! The report of a play: a line for each entry of its history and for each frame; its summary in
+//! one line; and the lines of a probe's answers.
 #![tactic(auto)]
 
 mod entries;
 mod frames;
 mod numbers;
+mod probes;
 mod reports;
 
+pub use probes::append_probes;
 pub use reports::{append_report, append_stats, append_summary};

@@ -1,2 +1,4 @@
 mod Numbers
 mod Meanings
+mod Coordinates
+mod Pieces

@@ -1,2 +1,4 @@
 pub mod Usage
+pub mod Probes
 pub mod Meaning
+pub mod Lefts

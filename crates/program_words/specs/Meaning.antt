@@ -4,8 +4,10 @@ use Rattle.std.specs.List.{list_any}
 use Rattle.std.specs.Option.{option_map_or}
 use Rattle.std.specs.Str.{bytes_eq}
 use Rattle.std.specs.Str.Parse.{digits_value}
+use Rattle.nearest_hit.specs.declared.segment.Segment.{Segment}
 use Rattle.clap.specs.Words.{Row, Text, first_of, fault_of, matches_of}
 use Rattle.program_words.specs.Usage.{usage}
+use Rattle.program_words.specs.Probes.{segment_in}
 use Rattle.program_words.specs.declared.words.Mode.{Mode}
 use Rattle.program_words.specs.declared.words.Mode.TheVariants as mode
 use Rattle.program_words.specs.declared.words.Words.{Words}
@@ -41,16 +43,22 @@ ahead_of given = given_or 1 (number_in 1 4) given
 abbrev pub make_of : Option Text → Option (Option ℕ)
 make_of given = given_or None (λ text. option_map Some (number_in 1 256 text)) given
 
+-- the segment whose nearest hit is asked for in each frame, where one is
+abbrev pub probe_of : Option Text → Option (Option Segment)
+probe_of given = given_or None (λ text. option_map Some (segment_in text)) given
+
 -- all of them, where each is right
-abbrev pub words_of : Option Mode → Bool → Option ℕ → Option (Option ℕ) → Option Words
-words_of (Some mode) dbase (Some ahead) (Some make) = Some (record { mode = mode; dbase = dbase; ahead = ahead; make = make })
-words_of _ _ _ _ = None
+abbrev pub words_of : Option Mode → Bool → Option ℕ → Option (Option ℕ) → Option (Option Segment) → Option Words
+words_of (Some mode) dbase (Some ahead) (Some make) (Some probe) =
+    Some (record { mode = mode; dbase = dbase; ahead = ahead; make = make; probe = probe })
+words_of _ _ _ _ _ = None
 
 -- what the values of the options mean
 abbrev pub meaning_of_values : List Row → Option Words
 meaning_of_values rows =
     words_of (mode_of (first_of (codes "mode") rows)) (dbase_of (first_of (codes "dbase") rows))
     (ahead_of (first_of (codes "ahead") rows)) (make_of (first_of (codes "make") rows))
+    (probe_of (first_of (codes "probe") rows))
 
 -- The meaning of words: there is one where none is `--`, clap has matches for them, and the values are right.
 abbrev pub meaning_of_words : List Text → Option Words

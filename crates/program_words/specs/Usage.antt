@@ -1,4 +1,4 @@
--- The usage `[--mode m] [--dbase] [--ahead n] [--make n]`, as a simple command of clap.
+-- The usage `[--mode m] [--dbase] [--ahead n] [--make n] [--probe s]`, as a simple command of clap.
 use Rattle.std.specs.Prelude.{true, Some, codes}
 use Rattle.clap.specs.Words.{App, Rule, Text, new_app, new_rule, with_rule}
 use Rattle.clap.specs.Simple.{on_top}
@@ -18,7 +18,12 @@ bare =
     on_top (λ s. record s { no_binary_name = true; disable_help_flag = true; disable_version_flag = true })
     (new_app (codes "perfly"))
 
+-- with the options that say how a play is played
+abbrev pub playing : App
+playing =
+    with_rule (with_rule (with_rule bare (option_rule (codes "mode"))) (flag_rule (codes "dbase")))
+    (option_rule (codes "ahead"))
+
+-- and those that say what is played, and what is told of it
 abbrev pub usage : App
-usage =
-    with_rule (with_rule (with_rule (with_rule bare (option_rule (codes "mode"))) (flag_rule (codes "dbase")))
-    (option_rule (codes "ahead"))) (option_rule (codes "make"))
+usage = with_rule (with_rule playing (option_rule (codes "make"))) (option_rule (codes "probe"))

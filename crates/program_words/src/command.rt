@@ -1,7 +1,7 @@
 //! The usage, as a command of clap.
 ghost use Rattle.std.specs.Prelude.{◌≡◌, false, IfOk, codes};
 ghost use Rattle.clap.specs.Words.{app_of, rule_of};
-ghost use Rattle.program_words.specs.Usage.{bare, option_rule, flag_rule, usage};
+ghost use Rattle.program_words.specs.Usage.{bare, option_rule, flag_rule, playing, usage};
 
 use clap::{Arg, ArgAction, Command};
 use std::alloc::{AllocError, Global};
@@ -32,13 +32,21 @@ fn bare<'a>(alloc: Global) -> Command<'a>
         .disable_version_flag(true)
 }
 
-/// `perfly [--mode m] [--dbase] [--ahead n] [--make n]`
-pub(crate) fn usage<'a>(alloc: Global) -> Result<Command<'a>, AllocError>
-    ensures { IfOk result (λ c. app_of c ≡ usage) }
+/// The command with the options that say how a play is played: `[--mode m] [--dbase] [--ahead n]`.
+fn playing<'a>(alloc: Global) -> Result<Command<'a>, AllocError>
+    ensures { IfOk result (λ c. app_of c ≡ playing) }
 {
     bare(alloc)
         .arg(option(alloc, "mode"))?
         .arg(flag(alloc, "dbase"))?
-        .arg(option(alloc, "ahead"))?
-        .arg(option(alloc, "make"))
+        .arg(option(alloc, "ahead"))
+}
+
+/// `perfly [--mode m] [--dbase] [--ahead n] [--make n] [--probe s]`
+pub(crate) fn usage<'a>(alloc: Global) -> Result<Command<'a>, AllocError>
+    ensures { IfOk result (λ c. app_of c ≡ usage) }
+{
+    playing(alloc)?
+        .arg(option(alloc, "make"))?
+        .arg(option(alloc, "probe"))
 }

@@ -2,6 +2,7 @@
 #![tactic(auto)]
 
 mod command;
+mod probe;
 mod reading;
 mod values;
 mod words;

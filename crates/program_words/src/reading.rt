@@ -10,6 +10,7 @@ ghost use Rattle.program_words.specs.Meaning.{meaning_of_values, meaning_of_word
 ghost use Rattle.program_words.specs.declared.words.WordsError.TheVariants as error;
 
 use crate::command::usage;
+use crate::probe::probe_of;
 use crate::values::{ahead_of, dbase_of, make_of, mode_of};
 use crate::words::{Words, WordsError};
 use clap::error::ErrorKind;
@@ -65,17 +66,20 @@ fn meaning(matches: &ArgMatches) -> Option<Words>
     let dbase = dbase_of(value(matches, "dbase"));
     let ahead = ahead_of(value(matches, "ahead"))?;
     let make = make_of(value(matches, "make"))?;
+    let probe = probe_of(value(matches, "probe"))?;
     Some(Words {
         mode,
         dbase,
         ahead,
         make,
+        probe,
     })
 }
 
-/// Reads the words behind the program's name: `[--mode m] [--dbase] [--ahead 1..4] [--make 1..256]`, where `m` is
-/// `appculldraw`, `app_culldraw`, `appcull_draw` or `app_cull_draw`; each at most once, in any order, its value as the next
-/// word or after `=`. It is `Err(Wrong)` only where they have no meaning.
+/// Reads the words behind the program's name: `[--mode m] [--dbase] [--ahead 1..4] [--make 1..256]
+/// [--probe x0,y0,z0,x1,y1,z1]`, where `m` is `appculldraw`, `app_culldraw`, `appcull_draw` or `app_cull_draw`, and the
+/// others are coordinates; each at most once, in any order, its value as the next word or after `=`. A value that is the
+/// next word does not begin with `-`. It is `Err(Wrong)` only where they have no meaning.
 pub fn read_words(alloc: Global, words: &[String]) -> Result<Words, WordsError>
     ensures right { IfOk result (λ w. meaning_of_words (map string_bytes words.now) ≡ Some w) }
     ensures wrong { result ≡ Err error.Wrong → meaning_of_words (map string_bytes words.now) ≡ None }

@@ -1,4 +1,6 @@
 use crate::{Mode, Words, WordsError, read_words};
+use fx_math::Vec3;
+use nearest_hit::Segment;
 use std::alloc::Global;
 use std::test::Fail;
 
@@ -19,7 +21,19 @@ fn right(mode: Mode, dbase: bool, ahead: u8, make: Option<u16>) -> Words {
         dbase,
         ahead,
         make,
+        probe: None,
     }
+}
+
+fn probing(from: [i32; 3], to: [i32; 3]) -> Result<Words, Fail> {
+    let [x, y, z] = from;
+    let from = Vec3::new(x, y, z).ok_or("no point")?;
+    let [x, y, z] = to;
+    let to = Vec3::new(x, y, z).ok_or("no point")?;
+    Ok(Words {
+        probe: Some(Segment { from, to }),
+        ..right(Mode::Appculldraw, false, 1, None)
+    })
 }
 
 #[test]
@@ -45,6 +59,27 @@ fn right_words(rt: HostRuntime) -> Result<(), Fail> {
             "--mode app_cull_draw --dbase --ahead 3 --make=256",
             right(Mode::AppCullDraw, true, 3, Some(256)),
         ),
+    ];
+    for (line, words) in rows.iter() {
+        assert_eq!(rt; meaning(alloc, line)?, Ok(*words));
+    }
+    Ok(())
+}
+
+#[test]
+fn right_probes(rt: HostRuntime) -> Result<(), Fail> {
+    let alloc = rt.alloc();
+    let rows = [
+        ("--probe 0,0,0,0,8192,0", probing([0, 0, 0], [0, 8192, 0])?),
+        (
+            "--probe=-1,2,-3,40,-50,60",
+            probing([-1, 2, -3], [40, -50, 60])?,
+        ),
+        (
+            "--ahead 1 --probe 1073741823,0,0,0,0,-1073741823",
+            probing([1_073_741_823, 0, 0], [0, 0, -1_073_741_823])?,
+        ),
+        ("--probe 5,6,7,5,6,7", probing([5, 6, 7], [5, 6, 7])?),
     ];
     for (line, words) in rows.iter() {
         assert_eq!(rt; meaning(alloc, line)?, Ok(*words));
@@ -84,6 +119,57 @@ fn wrong_words(rt: HostRuntime) -> Result<(), Fail> {
     ];
     for line in lines.iter() {
         assert_eq!(rt; meaning(alloc, line)?, Err(WordsError::Wrong));
+    }
+    Ok(())
+}
+
+#[test]
+fn wrong_probes(rt: HostRuntime) -> Result<(), Fail> {
+    let alloc = rt.alloc();
+    let lines = [
+        "--probe",
+        "--probe=",
+        "--probe 0,0,0,0,1",
+        "--probe 0,0,0,0,1,0,0",
+        "--probe 0,0,0,0,0,007",
+        "--probe 0,0,0,0,0,-0",
+        "--probe 0,0,0,0,0,+1",
+        "--probe 0,0,0,0,0,",
+        "--probe ,0,0,0,0,0",
+        "--probe 0,0,0,0,0,0,",
+        "--probe 0,0,,0,0,0",
+        "--probe 0;0;0;0;1;0",
+        "--probe 0,0,0,0,0,x",
+        "--probe 0,0,0,0,0,1.5",
+        "--probe 0,0,0,0,1073741824,0",
+        "--probe=-1073741824,0,0,0,0,0",
+        "--probe 0,0,0,0,0,99999999999999999999",
+        "--probe -1,0,0,0,1,0",
+        "--probe 0, 0,0,0,1,0",
+        "--probe 0,0,0,0,1,0 --probe 0,0,0,0,1,0",
+    ];
+    for line in lines.iter() {
+        assert_eq!(rt; meaning(alloc, line)?, Err(WordsError::Wrong));
+    }
+    Ok(())
+}
+
+#[test]
+fn spaces_in_a_probe_are_wrong(rt: HostRuntime) -> Result<(), Fail> {
+    let alloc = rt.alloc();
+    let values = [
+        " 0,0,0,0,1,0",
+        "0,0,0,0,1,0 ",
+        "0,0,0, 0,1,0",
+        "0 0 0 0 1 0",
+        "0,0,0,0,1,0\n",
+    ];
+    for value in values.iter() {
+        let words = vec![in alloc;
+            String::from_str(alloc, "--probe")?,
+            String::from_str(alloc, value)?,
+        ]?;
+        assert_eq!(rt; read_words(alloc, &words), Err(WordsError::Wrong));
     }
     Ok(())
 }

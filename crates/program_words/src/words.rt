@@ -1,5 +1,7 @@
 //! What words say, and why they may say nothing.
 
+use nearest_hit::Segment;
+
 /// Which stages share a thread. A name has a capital letter where a thread begins.
 #[derive(Clone, Copy, Debug, PartialEq, Eq)]
 pub enum Mode {
@@ -23,6 +25,8 @@ pub struct Words {
     pub ahead: u8,
     /// The number of the generated play, 1 to 256, where one is to be made in place of reading the source.
     pub make: Option<u16>,
+    /// The segment whose nearest hit is asked for in each frame, where one is, in eye coordinates of the first channel.
+    pub probe: Option<Segment>,
 }
 
 /// Why words say nothing.

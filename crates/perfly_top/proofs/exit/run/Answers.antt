@@ -1,6 +1,8 @@
-use Rattle.std.proofs.Common.{◌≡◌, ◌⊎◌, ◌∙◌, ℕ, List, map, Some, ap, sym, subst}
+use Rattle.std.proofs.Common.{◌≡◌, ◌⊎◌, ◌∙◌, ℕ, map, ap, sym, subst}
 use Rattle.std.specs.String.{string_bytes}
 use Rattle.program_words.specs.Meaning.{meaning_of_words}
+use Rattle.perfly_top.specs.Arguments.{meaning_of_arguments}
+use Rattle.perfly_top.proofs.Arguments.{part_by}
 use Rattle.perfly_top.proofs.exit.run.Goals as goal
 
 pub returns-in-Ok-clause-unread : goal.returns-in-Ok-clause-unread
@@ -13,3 +15,10 @@ returns-in-Ok-clause-made g c = λ words n meaning make.
     let same = ap (λ xs. meaning_of_words (map string_bytes xs)) c.as_slice.ensures.value ∙ c.in-Ok.ensures.meaning in
     subst (λ (s : ℕ). (s ≡ 0) ⊎ (s ≡ 5) ⊎ (s ≡ 6) ⊎ (s ≡ 7)) (sym c.from-in-Ok.ensures)
     (c.perfly-ended.ensures.made words n (same ∙ meaning) make)
+
+pub returns-in-Ok-clause-part : goal.returns-in-Ok-clause-part
+returns-in-Ok-clause-part g c = λ e.
+    let same = ap (λ xs. meaning_of_words (map string_bytes xs)) c.as_slice.ensures.value ∙ c.in-Ok.ensures.meaning in
+    part_by (meaning_of_arguments c.args.arguments) (meaning_of_words (map string_bytes c.as_slice.result.now)) (g.I.Source.left c.args.input.now)
+    (g.I.Source.left c.perfly-ended.new.input) c.perfly-ended.result.history.entries (g.O.Sink.written c.args.frames.now)
+    (g.O.Sink.written c.perfly-ended.new.frames) same (c.perfly-ended.ensures.part (sym c.from-in-Ok.ensures ∙ e))

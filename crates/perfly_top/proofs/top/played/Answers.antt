@@ -30,11 +30,11 @@ returns-in-Done-clause-whole g c = λ told.
     let run = c.run_of-run.ensures.run in
     whole_of c.args.task.words c.args.task.play c.tell.result.history c.run_of-run.result.played.history (g.O.Sink.written c.args.frames.now)
     (g.P.Sink.written c.args.report.now) (g.P.Sink.written c.tell.new.report) c.run_of-run.result.sum c.tell.ensures.history
-    (c.run_of-run.ensures.sum c.in-Done.is) (c.tell.ensures.whole c.args.task.play (run.numbers c.in-Done.is) told)
+    (c.run_of-run.ensures.sum c.in-Done.is) (c.tell.ensures.whole c.args.task.play (run.numbers c.in-Done.is) (c.run_of-run.ensures.answers c.in-Done.is) told)
 
 pub returns-in-Done-clause-some_told : goal.returns-in-Done-clause-some_told
 returns-in-Done-clause-some_told g c = λ told.
     let run = c.run_of-run.ensures.run in
     some_of c.args.task.words c.args.task.play c.tell.result.history c.run_of-run.result.played.history (g.O.Sink.written c.args.frames.now)
     (g.P.Sink.written c.args.report.now) (g.P.Sink.written c.tell.new.report) c.run_of-run.result.sum c.tell.ensures.history
-    (c.run_of-run.ensures.sum c.in-Done.is) (c.tell.ensures.some c.args.task.play (run.numbers c.in-Done.is) told)
+    (c.run_of-run.ensures.sum c.in-Done.is) (c.tell.ensures.some c.args.task.play (run.numbers c.in-Done.is) (c.run_of-run.ensures.answers c.in-Done.is) told)
