@@ -1,0 +1,4 @@
+pub mod Dealing
+pub mod Exchanged
+pub mod InTurn
+pub mod Going

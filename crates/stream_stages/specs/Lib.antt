@@ -1,0 +1,5 @@
+pub mod Links
+pub mod PieceFrames
+pub mod Drawing
+pub mod DrawParts
+pub mod DrawSteps
