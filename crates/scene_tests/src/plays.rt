@@ -33,7 +33,7 @@ enum Step {
 
 /// What the scene tells of a command.
 #[derive(Clone, Copy, Debug, PartialEq, Eq)]
-enum Told {
+pub(crate) enum Told {
     Done,
     /// The first of the serials that were freed, and their number.
     Freed(Option<u32>, usize),
@@ -69,7 +69,8 @@ fn of_outcome<B: Drop>(outcome: Outcome<Reply, B>) -> Told {
     }
 }
 
-fn edit(scene: &mut Scene, edit: Edit) -> Told {
+/// Makes an edit, and tells of it.
+pub(crate) fn edit(scene: &mut Scene, edit: Edit) -> Told {
     of_outcome((EditAct { edit }).act(scene, 0))
 }
 
@@ -89,7 +90,7 @@ fn sync(scene: &mut Scene, retired: u32, lists: Vec<Updates>) -> Told {
 }
 
 /// The cut of a frame, or none where it may not be begun.
-fn frame(alloc: Global, scene: &mut Scene) -> Result<Option<Cut>, NoMemory> {
+pub(crate) fn frame(alloc: Global, scene: &mut Scene) -> Result<Option<Cut>, NoMemory> {
     let mut lists = Vec::new(alloc);
     for _ in 0..scene.channels() {
         lists.push(DrawList::new(alloc))?;
