@@ -1,10 +1,10 @@
 # Completion for perfly and fly in bash: source this file, or copy it to where bash-completion looks for one (README.md).
 
 # The words of perfly, and those that fly adds.
-_perfly_words="--mode --dbase --ahead --make"
+_perfly_words="--mode --dbase --ahead --make --probe"
 _fly_words="--jobs --quick --help --version"
 
-# The values that may follow a word; of --jobs, as many as there are processors.
+# The values that may follow a word; of --jobs, as many as there are processors. Those of --probe only its user knows.
 _perfly_values() {
     case $1 in
         --mode) echo appculldraw app_culldraw appcull_draw app_cull_draw ;;
@@ -30,6 +30,7 @@ _perfly() {
         mapfile -t COMPREPLY < <(compgen -f -- "$cur")
         return
     fi
+    [ "$prev" != --probe ] || return 0
     if [[ " $offered " == *" $prev "* ]]; then
         values=$(_perfly_values "$prev")
         if [ -n "$values" ]; then

@@ -130,3 +130,28 @@ class Look(unittest.TestCase):
         text = run("look", given=head + b"add 0 7\nframe\n").stdout.decode()
         self.assertIn("line 6: add 0 7: there is no node 7\n", text)
         self.assertEqual(run("look", given=head + b"wait 1\n").returncode, 1)
+
+
+class Profile(unittest.TestCase):
+    REPORT = (b"app geode 1 7 2 : ok\napp view 0 0 409600 0 0 0 : ok\napp frame 1 : ok\napp view 0 0 491520 0 0 0 : ok\n"
+              b"app frame 2 : ok\nframe 1 shown 1 states 1 visited 2\nframe 2 shown 1 states 1 visited 2\n"
+              b"probe 1 none\nprobe 2 17920 0 1 1\n")
+
+    def test_columns(self):
+        """The first frame's eye is 100 high over nothing, the second's 120 high and 70 above geometry of state 7."""
+        done = run("../examples/draw-height", given=self.REPORT)
+        self.assertEqual((done.returncode, done.stderr), (0, b""))
+        with tempfile.TemporaryDirectory() as scratch:
+            path = pathlib.Path(scratch) / "profile.png"
+            path.write_bytes(done.stdout)
+            width, height, rows = pixels_of(path)
+        self.assertEqual((width, height), (12, 170))
+        first, second = ({150 - y: row[at:at + 3] for y, row in enumerate(rows)} for at in (0, 18))
+        sky, eye, water = first[140], first[100], second[45]
+        self.assertEqual({first[height] for height in (120, 60, 45, 0)}, {sky})
+        self.assertEqual((second[120], second[100], second[60]), (eye, sky, sky))
+        self.assertEqual(len({sky, eye, water, second[0]}), 4)
+
+    def test_no_probe(self):
+        done = run("../examples/draw-height", given=self.REPORT.partition(b"probe")[0])
+        self.assertEqual((done.returncode, done.stderr), (1, b"draw-height: the report has no line of a probe\n"))
