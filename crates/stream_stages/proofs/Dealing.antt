@@ -19,19 +19,22 @@ with_last l p = record { whole = l.whole ++ (l.begun ++ p ∷ []) ∷ []; begun 
 abbrev with_next : PieceLists → Cut → PieceLists
 with_next l p = record { whole = l.whole; begun = l.begun ++ p ∷ [] }
 
+pub with_on : (l : PieceLists) (p : Cut) → p.last ≡ false → with_piece l p ≡ record { whole = l.whole; begun = l.begun ++ p ∷ [] }
+with_on l p mark = ap (λ (t : Bool). if t then with_last l p else with_next l p) mark
+
+pub with_end : (l : PieceLists) (p : Cut) → p.last ≡ true →
+    with_piece l p ≡ record { whole = l.whole ++ (l.begun ++ p ∷ []) ∷ []; begun = [] }
+with_end l p mark = ap (λ (t : Bool). if t then with_last l p else with_next l p) mark
+
 -- a piece without the mark goes to the list that is under way
 pub lists_on : (ps : List Cut) (p : Cut) → p.last ≡ false →
     lists_in (ps ++ p ∷ []) ≡ record { whole = (lists_in ps).whole; begun = (lists_in ps).begun ++ p ∷ [] }
-lists_on ps p mark =
-    let l = lists_in ps in
-    lists_more ps p ∙ ap (λ (t : Bool). if t then with_last l p else with_next l p) mark
+lists_on ps p mark = lists_more ps p ∙ with_on (lists_in ps) p mark
 
 -- a piece with the mark ends it
 pub lists_end : (ps : List Cut) (p : Cut) → p.last ≡ true →
     lists_in (ps ++ p ∷ []) ≡ record { whole = (lists_in ps).whole ++ ((lists_in ps).begun ++ p ∷ []) ∷ []; begun = [] }
-lists_end ps p mark =
-    let l = lists_in ps in
-    lists_more ps p ∙ ap (λ (t : Bool). if t then with_last l p else with_next l p) mark
+lists_end ps p mark = lists_more ps p ∙ with_end (lists_in ps) p mark
 
 -- Frames
 

@@ -3,3 +3,5 @@ pub mod PieceFrames
 pub mod Drawing
 pub mod DrawParts
 pub mod DrawSteps
+pub mod CullParts
+pub mod CullSteps

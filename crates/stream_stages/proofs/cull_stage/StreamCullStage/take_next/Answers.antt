@@ -1,0 +1,26 @@
+use Rattle.std.proofs.Common.{◌∙◌, Option, sym, subst}
+use Rattle.stream_stages.specs.declared.sending.Sending.{Sending}
+use Rattle.stream_stages.specs.CullParts.{StreamCullState, StreamCullWork, StreamCullPart}
+use Rattle.stream_stages.proofs.cull_stage.StreamCullStage.take_next.Goals as goal
+
+pub returns-in-Some-clause-part : goal.returns-in-Some-clause-part
+returns-in-Some-clause-part g c = λ sent gone part.
+    let d = c.self.inside in
+    let s : StreamCullState =
+    record { copy = d.copy; ended = d.ended; held = d.held; piece = d.piece; frame = d.frame; walk = d.walk } in
+    let taken = g.T.TakeEnd.taken c.args.from.now in
+    c.take_piece.ensures.part taken sent gone
+    (subst (λ (o : Option Sending). StreamCullPart d.lens d.limit (record s { frame = o }) taken sent gone)
+    (sym c.take.ensures.value ∙ c.in-Some.is)
+    (subst (λ (w : StreamCullWork). StreamCullPart w.lens w.limit w.state taken sent gone) (sym c.self.view_is) part))
+
+pub returns-in-None-clause-part : goal.returns-in-None-clause-part
+returns-in-None-clause-part g c = λ sent gone part.
+    let d = c.self.inside in
+    let s : StreamCullState =
+    record { copy = d.copy; ended = d.ended; held = d.held; piece = d.piece; frame = d.frame; walk = d.walk } in
+    let taken = g.T.TakeEnd.taken c.args.from.now in
+    c.take-in-None.ensures.part sent gone
+    (subst (λ (o : Option Sending). StreamCullPart d.lens d.limit (record s { frame = o }) taken sent gone)
+    (sym c.take.ensures.value ∙ c.in-None.is ∙ sym c.take.ensures.after)
+    (subst (λ (w : StreamCullWork). StreamCullPart w.lens w.limit w.state taken sent gone) (sym c.self.view_is) part))
