@@ -12,7 +12,7 @@ use std::alloc::Global;
 use std::marker::Brand;
 use std::sync::ledger::{Blank, Ledger};
 use std::test::Fail;
-use stream_cull::{Piece, Stats, StreamWalk};
+use stream_stages::{Piece, Stats, StreamWalk};
 use update_lists::Updates;
 
 /// A coordinate that is none.

@@ -5,7 +5,7 @@ use Rattle.std.proofs.lemmas.Bool.{ltb-false, lt-ltb, le-ltb}
 use Rattle.std.proofs.lemmas.List.{length_push, take_all, drop_all, take-append-le, drop-append-le}
 use Rattle.std.proofs.lemmas.List.Sums.{fold-append}
 use Rattle.stage_parts.specs.Loads.{LoadState}
-use Rattle.stream_cull.specs.Cuts.{Cut}
+use Rattle.stream_stages.specs.Cuts.{Cut}
 use Rattle.stream_stages.specs.PieceFrames.{PieceLists, with_piece, lists_in, channels_of, PieceFrame, frames_in, left_in}
 
 -- Lists

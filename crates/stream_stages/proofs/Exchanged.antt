@@ -17,7 +17,7 @@ use Rattle.depth_raster.specs.InPieces.{PieceWork, HasDrawn, joined, glass_in_tu
 use Rattle.stage_parts.specs.Loads.{LoadState, IsOfSize, AreImages, have_one_size, can_swap}
 use Rattle.stage_parts.specs.Pictures.{picture_of_list}
 use Rattle.stage_parts.proofs.Pushes.{get_push}
-use Rattle.stream_cull.specs.Cuts.{Cut}
+use Rattle.stream_stages.specs.Cuts.{Cut}
 use Rattle.stream_stages.specs.PieceFrames.{items_of, CanDrawInTurn}
 use Rattle.stream_stages.specs.declared.drawing.Drawing.{Drawing}
 use Rattle.stream_stages.specs.Drawing.{added, ShowsAll, ChangesOne, Puts, EndsChannel}

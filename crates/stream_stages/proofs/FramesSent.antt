@@ -12,9 +12,9 @@ use Rattle.stage_parts.specs.Loads.{LoadState}
 use Rattle.stage_parts.specs.Packets.{copy_at}
 use Rattle.stage_parts.proofs.Places.{get_length}
 use Rattle.stage_parts.proofs.Pushes.{get_push, copy_front}
-use Rattle.stream_cull.specs.Cuts.{Cut}
-use Rattle.stream_cull.specs.Routes.{Walking}
-use Rattle.stream_cull.specs.Underway.{IsStreamable}
+use Rattle.stream_stages.specs.Cuts.{Cut}
+use Rattle.stream_stages.specs.Routes.{Walking}
+use Rattle.stream_stages.specs.Underway.{IsStreamable}
 use Rattle.stream_stages.specs.declared.sending.Sending.{Sending}
 use Rattle.stream_stages.specs.PieceFrames.{PieceLists, with_piece, channels_of, PieceFrame, frames_in, left_in}
 use Rattle.stream_stages.specs.CullParts.{IsCopyOf, AreAllWithin, CanStream, IsListOf, AreListsOf, AreStreamed, IsSentTo, first_four, AreAllSent, SendsPieces}

@@ -14,7 +14,7 @@ use Rattle.stage_parts.specs.Loads.{LoadState}
 use Rattle.stage_parts.specs.Packets.{has_end, loads_in}
 use Rattle.stage_parts.specs.Parts.{sent_and_held}
 use Rattle.stage_parts.proofs.Pushes.{loads_push, loads_end, has_end_push, passed_bare}
-use Rattle.stream_cull.specs.Cuts.{Cut}
+use Rattle.stream_stages.specs.Cuts.{Cut}
 use Rattle.stream_stages.specs.declared.drawing.Drawing.{Drawing}
 use Rattle.stream_stages.specs.PieceFrames.{PieceLists, lists_in, pieces_of, items_of, CanDrawInTurn, summed, channels_of, PieceFrame, frames_in, left_in, no_numbers}
 use Rattle.stream_stages.specs.Drawing.{added as added_numbers, ShowsAll, ChangesOne, Puts, DrawsMore, EndsChannel, DrawsPiece}

@@ -14,8 +14,8 @@ use Rattle.stage_parts.specs.Loads.{LoadState}
 use Rattle.stage_parts.specs.Packets.{is_end, has_end, loads_in, updates_in}
 use Rattle.stage_parts.specs.Parts.{sent_and_held}
 use Rattle.stage_parts.proofs.Pushes.{loads_push, loads_end, has_end_push, passed_bare, whole_copy, copy_whole, whole_push, copy_push, copy_front}
-use Rattle.stream_cull.specs.Cuts.{Cut}
-use Rattle.stream_cull.specs.Routes.{Walking}
+use Rattle.stream_stages.specs.Cuts.{Cut}
+use Rattle.stream_stages.specs.Routes.{Walking}
 use Rattle.stream_stages.specs.declared.sending.Sending.{Sending}
 use Rattle.stream_stages.specs.PieceFrames.{PieceLists, with_piece, lists_in}
 use Rattle.stream_stages.specs.CullParts.{first_four, with_stood, handed_on, AreAllWithin, IsCopyOf, PassesLoads, StreamCullState, SendsPieces, piece_lists, StreamCullPart}

@@ -12,7 +12,7 @@ use Rattle.draw_list.specs.Lists.{instances_in}
 use Rattle.depth_raster.specs.InPieces.{PieceWork, HasDrawn, joined, glass_in_turn, IsGlassLast}
 use Rattle.depth_raster.proofs.GlassInOrder.{joined_more, turn_more, glass_last}
 use Rattle.stage_parts.specs.Pictures.{sums}
-use Rattle.stream_cull.specs.Cuts.{Cut}
+use Rattle.stream_stages.specs.Cuts.{Cut}
 use Rattle.stream_stages.specs.PieceFrames.{pieces_of, items_of, last_numbers, capped, summed, greatest}
 use Rattle.stream_stages.specs.Drawing.{added, DrawsMore}
 use Rattle.stream_stages.specs.DrawParts.{HasBegun}

@@ -1,3 +1,32 @@
+mod Glass
+mod DrawOrder
+mod SendingOrder
+mod Unnaming
+mod Weaving
+mod Found
+mod Opened
+mod Geodes
+mod LevelStops
+mod Lowering
+mod Visiting
+mod Finding
+mod Pruning
+mod WholeWalk
+mod Sizes
+mod Starting
+mod Laying
+mod Filling
+mod Beginning
+mod Ordering
+mod Outcomes
+mod Stepping
+mod Numbers
+mod RouteLaws
+mod Measure
+mod Passing
+mod Rooms
+mod PassLaws
+mod FillLaws
 pub mod Dealing
 pub mod Exchanged
 pub mod InTurn

@@ -14,11 +14,11 @@ use Rattle.draw_list.specs.Shown.{shown, stats_of}
 use Rattle.cull_walk.specs.Premises.{unnamed}
 use Rattle.cull_walk.specs.Working.{Scene}
 use Rattle.multibuffer.specs.StageCopies.{CopyState, boxes_of}
-use Rattle.stream_cull.specs.Cuts.{Cut, parts_of}
-use Rattle.stream_cull.specs.Pieces.{PieceParts, joined, is_ended, in_sending_order, AreSentOf}
-use Rattle.stream_cull.specs.Routes.{Walking, to_come, scene_of}
-use Rattle.stream_cull.specs.Underway.{IsStreamable, IsUnderway, numbers_of}
-use Rattle.stream_cull.specs.Filled.{IsFilled, IsOneWalk}
+use Rattle.stream_stages.specs.Cuts.{Cut, parts_of}
+use Rattle.stream_stages.specs.Pieces.{PieceParts, joined, is_ended, in_sending_order, AreSentOf}
+use Rattle.stream_stages.specs.Routes.{Walking, to_come, scene_of}
+use Rattle.stream_stages.specs.Underway.{IsStreamable, IsUnderway, numbers_of}
+use Rattle.stream_stages.specs.Filled.{IsFilled, IsOneWalk}
 use Rattle.stream_stages.specs.CullParts.{HaveItems, scene_at, IsSentTo, IsListOf}
 use Rattle.stream_stages.specs.CullSteps.{FillsOne}
 use Rattle.stream_stages.proofs.InTurn.{last_is}

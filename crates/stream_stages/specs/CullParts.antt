@@ -15,10 +15,10 @@ use Rattle.stage_parts.specs.declared.packets.Packet.{Packet}
 use Rattle.stage_parts.specs.Loads.{LoadState}
 use Rattle.stage_parts.specs.Packets.{is_end, has_end, loads_in, copy_at}
 use Rattle.stage_parts.specs.Parts.{sent_and_held, stood}
-use Rattle.stream_cull.specs.Cuts.{Cut, parts_of}
-use Rattle.stream_cull.specs.Pieces.{PieceParts, ArePiecesOf, AreSentOf, in_sending_order}
-use Rattle.stream_cull.specs.Routes.{Walking, to_come, scene_of}
-use Rattle.stream_cull.specs.Underway.{IsUnderway, numbers_of}
+use Rattle.stream_stages.specs.Cuts.{Cut, parts_of}
+use Rattle.stream_stages.specs.Pieces.{PieceParts, ArePiecesOf, AreSentOf, in_sending_order}
+use Rattle.stream_stages.specs.Routes.{Walking, to_come, scene_of}
+use Rattle.stream_stages.specs.Underway.{IsUnderway, numbers_of}
 use Rattle.stream_stages.specs.declared.sending.Sending.{Sending}
 use Rattle.stream_stages.specs.PieceFrames.{PieceLists, lists_in, last_numbers, channels_of, PieceFrame, frames_in, left_in}
 

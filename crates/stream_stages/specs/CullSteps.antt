@@ -8,10 +8,10 @@ use Rattle.draw_list.specs.Lists.{instances_in}
 use Rattle.cull_walk.specs.Working.{Scene}
 use Rattle.multibuffer.specs.StageCopies.{CopyState, HasRightBoxes}
 use Rattle.stage_parts.specs.Loads.{LoadState}
-use Rattle.stream_cull.specs.Cuts.{Cut}
-use Rattle.stream_cull.specs.Routes.{Walking, to_come}
-use Rattle.stream_cull.specs.Underway.{IsUnderway, numbers_of}
-use Rattle.stream_cull.specs.Filled.{IsFilled, IsOneWalk}
+use Rattle.stream_stages.specs.Cuts.{Cut}
+use Rattle.stream_stages.specs.Routes.{Walking, to_come}
+use Rattle.stream_stages.specs.Underway.{IsUnderway, numbers_of}
+use Rattle.stream_stages.specs.Filled.{IsFilled, IsOneWalk}
 use Rattle.stream_stages.specs.declared.sending.Sending.{Sending}
 use Rattle.stream_stages.specs.PieceFrames.{PieceLists, channels_of}
 use Rattle.stream_stages.specs.CullParts.{with_stood, IsCopyOf, AreStreamed, scene_at, IsUpToChannel}

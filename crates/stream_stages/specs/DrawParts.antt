@@ -11,7 +11,7 @@ use Rattle.stage_parts.specs.Loads.{LoadState, IsOfSize, AreImages}
 use Rattle.stage_parts.specs.Packets.{has_end, loads_in}
 use Rattle.stage_parts.specs.Pictures.{picture_of_list}
 use Rattle.stage_parts.specs.Parts.{sent_and_held}
-use Rattle.stream_cull.specs.Cuts.{Cut}
+use Rattle.stream_stages.specs.Cuts.{Cut}
 use Rattle.stream_stages.specs.declared.drawing.Drawing.{Drawing}
 use Rattle.stream_stages.specs.PieceFrames.{PieceLists, lists_in, pieces_of, items_of, CanDrawInTurn, summed, channels_of, PieceFrame, frames_in, left_in}
 use Rattle.stream_stages.specs.Drawing.{ShowsAll}

@@ -10,7 +10,7 @@ use Rattle.draw_list.specs.declared.stats.Stats.{Stats}
 use Rattle.draw_list.specs.Lists.{instances_in}
 use Rattle.depth_raster.specs.InPieces.{PieceWork, HasDrawn, joined, glass_in_turn, IsGlassInOrder}
 use Rattle.stage_parts.specs.Loads.{IsOfSize}
-use Rattle.stream_cull.specs.Cuts.{Cut}
+use Rattle.stream_stages.specs.Cuts.{Cut}
 use Rattle.stream_stages.specs.declared.drawing.Drawing.{Drawing}
 use Rattle.stream_stages.specs.PieceFrames.{capped}
 

@@ -1,3 +1,12 @@
+pub mod Pieces
+pub mod Woven
+pub mod Cuts
+pub mod Stops
+pub mod Routes
+pub mod Sending
+pub mod Going
+pub mod Underway
+pub mod Filled
 pub mod Links
 pub mod PieceFrames
 pub mod Drawing

@@ -6,7 +6,7 @@ use Rattle.draw_list.specs.Lists.{instances_in}
 use Rattle.depth_raster.specs.InPieces.{joined, IsGlassInOrder, IsGlassLast}
 use Rattle.stage_parts.specs.Loads.{LoadState}
 use Rattle.stage_parts.specs.Pictures.{sums}
-use Rattle.stream_cull.specs.Cuts.{Cut}
+use Rattle.stream_stages.specs.Cuts.{Cut}
 
 -- Lists of channels
 

@@ -6,7 +6,7 @@ ghost use Rattle.stage_parts.specs.declared.answers.Did.TheVariants as did;
 ghost use Rattle.stage_parts.specs.declared.packets.Packet.TheVariants as packet;
 ghost use Rattle.stage_parts.specs.Answers.{is_over};
 ghost use Rattle.stage_parts.specs.Packets.{is_end};
-ghost use Rattle.stream_cull.specs.Cuts.{Cut};
+ghost use Rattle.stream_stages.specs.Cuts.{Cut};
 ghost use Rattle.stream_stages.specs.Links.{SawMark, desk_place, end_place, HasNoRoom, HasNoMore, MovesOne, Answers};
 ghost use Rattle.stream_stages.specs.CullParts.{IsAsGiven, StreamCullPart, WaitsToFill, WaitsToSend, WaitsToCull};
 
@@ -21,7 +21,8 @@ use seat_lock::Desk;
 use stage_parts::{Did, Load, Packet, StageError};
 use std::alloc::Global;
 use std::marker::Model;
-use stream_cull::{Piece, StreamWalk};
+use crate::pieces::Piece;
+use crate::streams::StreamWalk;
 
 /// The cull of the streamed draw list: it takes the loads that the application sends, keeps its copy of the scene by their
 /// update lists, and sends them on without draw lists. Then it sends for each channel of the load what is in sight, in the

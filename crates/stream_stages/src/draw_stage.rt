@@ -5,7 +5,7 @@ ghost use Rattle.seat_lock.specs.Log.{Found};
 ghost use Rattle.stage_parts.specs.declared.answers.Did.TheVariants as did;
 ghost use Rattle.stage_parts.specs.declared.packets.Packet.TheVariants as packet;
 ghost use Rattle.stage_parts.specs.Answers.{is_over};
-ghost use Rattle.stream_cull.specs.Cuts.{Cut};
+ghost use Rattle.stream_stages.specs.Cuts.{Cut};
 ghost use Rattle.stream_stages.specs.Links.{SawMark, desk_place, end_place, HasNoRoom, HasNoMore, MovesOne, Answers};
 ghost use Rattle.stream_stages.specs.PieceFrames.{lists_in};
 ghost use Rattle.stream_stages.specs.DrawParts.{IsGivenAsBefore, HasChannels, StreamDrawPart, WaitsToTake, WaitsToMove, WaitsToDraw};
@@ -24,7 +24,7 @@ use stage_parts::{Did, Packet, StageError};
 use std::alloc::Global;
 use std::marker::Model;
 use std::thread::Threads;
-use stream_cull::Piece;
+use crate::pieces::Piece;
 
 /// The draw of the streamed draw list: it takes the loads that the cull sends, and for each channel of a load the pieces up
 /// to the one marked `last`, draws their pictures, gives each piece back, and sends the loads back. Only `new` takes memory.

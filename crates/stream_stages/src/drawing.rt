@@ -11,7 +11,7 @@ use draw_list::Stats;
 use ppm_out::Image;
 use stage_parts::Load;
 use std::thread::Threads;
-use stream_cull::Piece;
+use crate::pieces::Piece;
 
 /// No numbers yet.
 const NO_STATS: Stats = Stats {

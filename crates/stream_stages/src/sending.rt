@@ -12,7 +12,8 @@ use pf_model::{Steps, View};
 use stage_parts::Load;
 use std::marker::Brand;
 use std::sync::ledger::{Blank, Ledger};
-use stream_cull::{Piece, StreamWalk};
+use crate::pieces::Piece;
+use crate::streams::StreamWalk;
 use update_lists::Cut;
 
 /// The most channels that pieces are sent for.

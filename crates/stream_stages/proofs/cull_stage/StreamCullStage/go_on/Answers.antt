@@ -1,5 +1,5 @@
 use Rattle.std.proofs.Common.{◌∙◌, Option, sym, subst}
-use Rattle.stream_cull.specs.Cuts.{Cut}
+use Rattle.stream_stages.specs.Cuts.{Cut}
 use Rattle.stream_stages.specs.CullParts.{StreamCullState, StreamCullWork, StreamCullPart}
 use Rattle.stream_stages.proofs.cull_stage.StreamCullStage.go_on.Goals as goal
 

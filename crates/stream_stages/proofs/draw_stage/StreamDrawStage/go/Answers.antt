@@ -1,5 +1,5 @@
 use Rattle.std.proofs.Common.{◌∙◌, Option, sym, subst}
-use Rattle.stream_cull.specs.Cuts.{Cut}
+use Rattle.stream_stages.specs.Cuts.{Cut}
 use Rattle.stream_stages.specs.DrawParts.{StreamDrawState, StreamDrawWork, StreamDrawPart}
 use Rattle.stream_stages.proofs.draw_stage.StreamDrawStage.go.Goals as goal
 

@@ -1,6 +1,0 @@
-use Rattle.std.proofs.Common.{refl}
-use Rattle.stream_cull.proofs.Sending.{one_after_the_other, all_sent}
-use Rattle.stream_cull.proofs.laws.pieces_one_after_the_other_are_right.Goals as goal
-
-pub returns : goal.returns
-returns c = record { first = λ all. refl; next = one_after_the_other; right = all_sent }

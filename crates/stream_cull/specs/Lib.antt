@@ -1,9 +1,0 @@
-pub mod Pieces
-pub mod Woven
-pub mod Cuts
-pub mod Stops
-pub mod Routes
-pub mod Sending
-pub mod Going
-pub mod Underway
-pub mod Filled

@@ -1,0 +1,53 @@
+use Rattle.pf_model.specs.Graphs.{Look}
+use Rattle.pf_model.specs.Walks.{steps_of_view}
+use Rattle.fx_math.specs.Plain.{Bounds}
+use Rattle.std.proofs.Common.{ℕ, Option}
+use Rattle.cull_walk.specs.Working.{Scene}
+use Rattle.stream_stages.specs.declared.routes.Route.{Route}
+use Rattle.stream_stages.specs.declared.routes.Sight.{Sight}
+use Rattle.stream_stages.specs.Underway.{sight_of, walking_of}
+use Rattle.stream_stages.proofs.FillLaws.{IsEmptied, can_fill, numbers_over, seen_numbers, seen_stats}
+use Rattle.stream_stages.proofs.streams.StreamWalk.fill.Goals as goal
+
+pub returns-clause-numbers : goal.returns-clause-numbers
+returns-clause-numbers g c =
+    let look : Look = g.V.NodeView.look c.args.scene.now in
+    let boxes : ℕ → Option Bounds = g.V.SceneView.boxes c.args.scene.now in
+    let a : Sight = c.self.inside.sight in
+    let r : Route = c.self.inside.route in
+    let emptied : IsEmptied (steps_of_view a.view) c.out.inside.list c.clear.new.self = record {
+      joints = c.clear.ensures.joints;
+      items = c.clear.ensures.items;
+      spans = c.clear.ensures.spans;
+      places = c.clear.ensures.places;
+      tris = c.clear.ensures.tris;
+      joint_room = c.clear.ensures.joint_room;
+      item_room = c.clear.ensures.item_room;
+      tri_room = c.clear.ensures.tri_room;
+    } in
+    seen_numbers look boxes a r c.pass-last.new.route c.args.self.now c.self.view_is
+    (λ under. (c.pass-last.ensures.passes (can_fill (sight_of look boxes a) c.out.inside.limit (walking_of a r) c.out.inside.list c.clear.new.self under c.out.invariant emptied)).numbers)
+
+pub returns-clause-stats : goal.returns-clause-stats
+returns-clause-stats g c =
+    let look : Look = g.V.NodeView.look c.args.scene.now in
+    let boxes : ℕ → Option Bounds = g.V.SceneView.boxes c.args.scene.now in
+    let a : Sight = c.self.inside.sight in
+    let r : Route = c.self.inside.route in
+    let s : Scene = sight_of look boxes a in
+    let emptied : IsEmptied (steps_of_view a.view) c.out.inside.list c.clear.new.self = record {
+      joints = c.clear.ensures.joints;
+      items = c.clear.ensures.items;
+      spans = c.clear.ensures.spans;
+      places = c.clear.ensures.places;
+      tris = c.clear.ensures.tris;
+      joint_room = c.clear.ensures.joint_room;
+      item_room = c.clear.ensures.item_room;
+      tri_room = c.clear.ensures.tri_room;
+    } in
+    seen_stats look boxes a r c.args.self.now c.numbers-stats.result c.pass-last.result c.self.view_is
+    (λ under last.
+    numbers_over s (walking_of a r) (walking_of a c.pass-last.new.route) c.numbers-stats.result
+    (c.pass-last.ensures.passes (can_fill s c.out.inside.limit (walking_of a r) c.out.inside.list c.clear.new.self under c.out.invariant emptied)).numbers
+    (c.pass-last.ensures.over (can_fill s c.out.inside.limit (walking_of a r) c.out.inside.list c.clear.new.self under c.out.invariant emptied) last).1
+    c.numbers-stats.ensures.shown c.numbers-stats.ensures.states c.numbers-stats.ensures.visited)
