@@ -13,7 +13,7 @@ from .rows import TOP, read_rows
 from .test_tools import run
 
 HEAD = "perfly 1\nsize 2 2\nlens 1 1 1073741823\nback 10 20 30\napp\n"
-CRATE_TESTS = TOP / "crates" / "play_fences" / "src" / "tests.rt"
+CRATE_TESTS = TOP / "crates" / "play_tests" / "src" / "fences.rt"
 
 
 def text_of(application, dbase):

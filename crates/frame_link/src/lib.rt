@@ -9,8 +9,6 @@ mod ends;
 mod list_link;
 mod ring_ends;
 mod rings;
-#[cfg(test)]
-mod tests;
 
 pub use ends::{SendEnd, TakeEnd};
 pub use list_link::ListLink;

@@ -61,27 +61,3 @@ fn half_wave(x: u64) -> i32
     let product = x * (HALF_TURN - x);
     (65_536 * (4 * product) / (4_050_000 - product)) as i32
 }
-
-#[cfg(test)]
-mod tests {
-    use super::*;
-
-    #[test]
-    fn sines(rt: HostRuntime) {
-        assert_eq!(rt; sine(0), 0);
-        assert_eq!(rt; sine(1), 116);
-        assert_eq!(rt; sine(300), 32_768);
-        assert_eq!(rt; sine(450), 46_260);
-        assert_eq!(rt; sine(900), 65_536);
-        assert_eq!(rt; sine(-300), -32_768);
-        assert_eq!(rt; sine(2_700), -65_536);
-    }
-
-    #[test]
-    fn cosines(rt: HostRuntime) {
-        assert_eq!(rt; cosine(0), 65_536);
-        assert_eq!(rt; cosine(600), 32_768);
-        assert_eq!(rt; cosine(-900), 0);
-        assert_eq!(rt; cosine(1_800), -65_536);
-    }
-}

@@ -27,19 +27,3 @@ impl Box3 {
         }
     }
 }
-
-#[cfg(test)]
-mod tests {
-    use super::*;
-    use std::test::Fail;
-
-    #[test]
-    fn ends_in_order(rt: HostRuntime) -> Result<(), Fail> {
-        let p = Vec3::new(1, 2, 3).ok_or("range")?;
-        let q = Vec3::new(1, 3, 4).ok_or("range")?;
-        let b = Box3::new(p, q).ok_or("order")?;
-        assert_eq!(rt; b.hi, q);
-        assert_eq!(rt; Box3::new(q, p), None);
-        Ok(())
-    }
-}

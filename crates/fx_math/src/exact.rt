@@ -91,27 +91,3 @@ fn rounded_down(n: i128, d: i128) -> i128
         n / d
     }
 }
-
-#[cfg(test)]
-mod tests {
-    use super::*;
-
-    #[test]
-    fn determinants(rt: HostRuntime) {
-        assert_eq!(rt; det([1, 2, 3], [4, 5, 6], [7, 8, 10]), -3);
-        let most = 2_147_483_648;
-        assert_eq!(rt;
-            det([most, 0, 0], [0, most, 0], [0, 0, -most]),
-            -9_903_520_314_283_042_199_192_993_792
-        );
-    }
-
-    #[test]
-    fn quotients_are_rounded_down(rt: HostRuntime) {
-        assert_eq!(rt; floor_div(7, 2), 3);
-        assert_eq!(rt; floor_div(-7, 2), -4);
-        assert_eq!(rt; floor_div(7, -2), -4);
-        assert_eq!(rt; floor_div(-7, -2), 3);
-        assert_eq!(rt; floor_div(-8, 2), -4);
-    }
-}

@@ -87,31 +87,3 @@ fn around_also(around: Option<Box3>, v: Vec3) -> Box3
         Some(b) => hull(&b, &point),
     }
 }
-
-#[cfg(test)]
-mod tests {
-    use super::*;
-    use std::test::Fail;
-
-    #[test]
-    fn hull_of_two_boxes(rt: HostRuntime) -> Result<(), Fail> {
-        let low = Vec3::new(-1, 2, -3).ok_or("range")?;
-        let middle = Vec3::new(0, 5, 0).ok_or("range")?;
-        let high = Vec3::new(4, 6, 1).ok_or("range")?;
-        let a = Box3::new(low, middle).ok_or("order")?;
-        let b = Box3::new(middle, high).ok_or("order")?;
-        assert_eq!(rt; hull(&b, &a), Box3::new(low, high).ok_or("order")?);
-        Ok(())
-    }
-
-    #[test]
-    fn hull_of_points(rt: HostRuntime) -> Result<(), Fail> {
-        let p = Vec3::new(1, -2, 3).ok_or("range")?;
-        let q = Vec3::new(-1, 2, 3).ok_or("range")?;
-        let around = hull_of(&[p, q]).ok_or("no box")?;
-        assert_eq!(rt; around.lo, Vec3::new(-1, -2, 3).ok_or("range")?);
-        assert_eq!(rt; around.hi, Vec3::new(1, 2, 3).ok_or("range")?);
-        assert_eq!(rt; hull_of(&[]), None);
-        Ok(())
-    }
-}

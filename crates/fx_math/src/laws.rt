@@ -51,17 +51,3 @@ pub fn edge_values_weigh_vertices()
     ensures inside { (lens : Lens) → (px py : ℕ) → (u v w : Point)
         → is_inside (det3 u v w) (edges (ray lens px py) u v w) ≡ true → sum_of (edges (ray lens px py) u v w) ≢ pos 0 }
 {}
-
-#[cfg(test)]
-mod tests {
-    use super::*;
-
-    #[test]
-    fn constants(rt: HostRuntime) {
-        let zero = origin();
-        assert_eq!(rt; (zero.x, zero.y, zero.z), (0, 0, 0));
-        let unit = identity();
-        assert_eq!(rt; unit.a, [[65_536, 0, 0], [0, 65_536, 0], [0, 0, 65_536]]);
-        assert_eq!(rt; unit.t, zero);
-    }
-}

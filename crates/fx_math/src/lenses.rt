@@ -50,23 +50,3 @@ fn are_depths(near: i32, far: i32) -> bool
 {
     near >= 1 && near <= far && far <= MAX_COORDINATE
 }
-
-#[cfg(test)]
-mod tests {
-    use super::*;
-    use std::test::Fail;
-
-    #[test]
-    fn ranges(rt: HostRuntime) -> Result<(), Fail> {
-        let lens = Lens::new(2, 2, 1, 1, 1_073_741_823).ok_or("range")?;
-        assert_eq!(rt;
-            (lens.w, lens.h, lens.f, lens.near, lens.far),
-            (2, 2, 1, 1, 1_073_741_823)
-        );
-        assert_eq!(rt; Lens::new(1_025, 2, 1, 1, 2), None);
-        assert_eq!(rt; Lens::new(2, 0, 1, 1, 2), None);
-        assert_eq!(rt; Lens::new(2, 2, 0, 1, 2), None);
-        assert_eq!(rt; Lens::new(2, 2, 1, 3, 2), None);
-        Ok(())
-    }
-}

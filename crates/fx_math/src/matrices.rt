@@ -54,21 +54,3 @@ fn is_entry(z: i32) -> bool
 {
     -MAX_ENTRY <= z && z <= MAX_ENTRY
 }
-
-#[cfg(test)]
-mod tests {
-    use super::*;
-    use std::test::Fail;
-
-    #[test]
-    fn entries_in_range(rt: HostRuntime) -> Result<(), Fail> {
-        let rows = [[MAX_ENTRY, 0, 0], [0, -MAX_ENTRY, 0], [0, 0, 1]];
-        let m = Affine::new(rows, Vec3::ORIGIN).ok_or("range")?;
-        assert_eq!(rt; m.a, rows);
-        assert_eq!(rt;
-            Affine::new([[0, 0, 0], [0, 0, 0], [0, 1_048_577, 0]], Vec3::ORIGIN),
-            None
-        );
-        Ok(())
-    }
-}

@@ -73,30 +73,3 @@ pub fn shift(t: Vec3) -> Affine
         t,
     }
 }
-
-#[cfg(test)]
-mod tests {
-    use super::*;
-    use crate::moves::apply;
-    use std::test::Fail;
-
-    #[test]
-    fn quarter_turns(rt: HostRuntime) -> Result<(), Fail> {
-        let right = Vec3::new(4_096, 0, 0).ok_or("range")?;
-        let forward = Vec3::new(0, 4_096, 0).ok_or("range")?;
-        let up = Vec3::new(0, 0, 4_096).ok_or("range")?;
-        assert_eq!(rt; apply(&heading(900), right), forward);
-        assert_eq!(rt; apply(&pitch(900), forward), up);
-        assert_eq!(rt; apply(&roll(900), up), right);
-        Ok(())
-    }
-
-    #[test]
-    fn scaled_and_moved(rt: HostRuntime) -> Result<(), Fail> {
-        let v = Vec3::new(1, 2, -3).ok_or("range")?;
-        let doubled = Vec3::new(2, 4, -6).ok_or("range")?;
-        assert_eq!(rt; apply(&scaling(131_072), v), doubled);
-        assert_eq!(rt; apply(&shift(v), v), doubled);
-        Ok(())
-    }
-}

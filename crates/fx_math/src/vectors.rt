@@ -39,17 +39,3 @@ fn is_coordinate(z: i32) -> bool
 {
     -MAX_COORDINATE <= z && z <= MAX_COORDINATE
 }
-
-#[cfg(test)]
-mod tests {
-    use super::*;
-    use std::test::Fail;
-
-    #[test]
-    fn coordinates_in_range(rt: HostRuntime) -> Result<(), Fail> {
-        let v = Vec3::new(-1_073_741_823, 1_073_741_823, 0).ok_or("range")?;
-        assert_eq!(rt; (v.x, v.y, v.z), (-1_073_741_823, 1_073_741_823, 0));
-        assert_eq!(rt; Vec3::new(0, 0, 1_073_741_824), None);
-        Ok(())
-    }
-}

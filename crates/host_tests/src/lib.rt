@@ -1,6 +1,9 @@
-//! Tests of plays on hosts. They stand here and not beside the calls, since a crate with tests is proved twice.
+//! Tests of links, and of plays on hosts. They stand here and not beside the calls, since a crate with tests is proved
+//! twice.
 #![tactic(auto)]
 
+#[cfg(test)]
+mod links;
 #[cfg(test)]
 mod meetings;
 #[cfg(test)]

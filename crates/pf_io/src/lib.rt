@@ -16,6 +16,3 @@ pub use memory::{MemSink, MemSource};
 pub use sink::{Sink, WriteError, write_all};
 pub use source::{MAX_PLAY_BYTES, READ_LIMIT, ReadError, Source, read_all};
 pub use standard::{StdSink, StdSource};
-
-#[cfg(test)]
-mod tests;

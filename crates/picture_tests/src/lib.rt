@@ -1,9 +1,11 @@
-//! Tests of the calls on triangles, draw lists and pictures that no play reaches. They stand here and not beside the calls,
-//! since a crate with tests is proved twice.
+//! Tests of the calls on triangles, images, draw lists and pictures that no play reaches. They stand here and not
+//! beside the calls, since a crate with tests is proved twice.
 #![tactic(auto)]
 
 #[cfg(test)]
 mod faces;
+#[cfg(test)]
+mod images;
 #[cfg(test)]
 mod lists;
 #[cfg(test)]

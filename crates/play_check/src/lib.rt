@@ -7,6 +7,3 @@ mod laws;
 
 pub use check::stuck;
 pub use laws::{callers_that_wait_are_stuck, histories_are_orders, orders_go_no_further};
-
-#[cfg(test)]
-mod tests;

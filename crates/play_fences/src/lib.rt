@@ -6,6 +6,3 @@ mod fences;
 pub mod laws;
 
 pub use fences::{first_free_merge, is_fenced};
-
-#[cfg(test)]
-mod tests;

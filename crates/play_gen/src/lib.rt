@@ -9,6 +9,3 @@ mod texts;
 
 pub use laws::{each_play_can_end, each_text_has_a_reading};
 pub use making::make_play;
-
-#[cfg(test)]
-mod tests;

@@ -1,4 +1,4 @@
-//! Texts that are no plays, and the longest that are.
+//! Texts that are no plays.
 use play_format::{ParseError, Refusal, Why, parse};
 use std::alloc::{AllocError, Global};
 use std::process::Abort;
@@ -199,53 +199,5 @@ fn other_refusals(rt: HostRuntime) -> Result<(), Fail> {
             "{rest}"
         );
     }
-    Ok(())
-}
-
-const TRIANGLE: &[u8] = b"t 0 0 0 0 0 0 0 0 0 0 0 0 0 0 0 0 0 0\n";
-
-/// The text of a header and of so many times a line.
-fn repeated(alloc: Global, line: &[u8], count: u32) -> Result<Vec<u8>, AllocError> {
-    let mut text = Vec::new(alloc);
-    text.extend_from_slice(FIRST.as_bytes())?;
-    for _ in 0..count {
-        text.extend_from_slice(line)?;
-    }
-    Ok(text)
-}
-
-/// The line and the cause of a text's refusal.
-fn told(alloc: Global, text: &[u8]) -> Option<(u32, Why)> {
-    let refusal = refusal(alloc, text)?;
-    Some((refusal.line, refusal.why))
-}
-
-#[test]
-fn too_many_lines_and_bytes(rt: HostRuntime) -> Result<(), Fail> {
-    for (line, count, want) in [
-        ("sync\n", 262_140, (262_145, Why::Count)),
-        ("a", 16_777_217, (0, Why::Length)),
-    ] {
-        let text = repeated(rt.alloc(), line.as_bytes(), count)?;
-        assert_eq!(rt; told(rt.alloc(), text.as_slice()), Some(want));
-    }
-    let most = repeated(rt.alloc(), b"sync\n", 262_139)?;
-    assert!(rt; parse(rt.alloc(), most.as_slice()).is_ok());
-    Ok(())
-}
-
-#[test]
-fn too_many_triangles_in_all(rt: HostRuntime) -> Result<(), Fail> {
-    let mut text = repeated(rt.alloc(), b"", 0)?;
-    for _ in 0..16 {
-        text.extend_from_slice(b"verts 0 4096\n")?;
-        for _ in 0..4096 {
-            text.extend_from_slice(TRIANGLE)?;
-        }
-    }
-    assert!(rt; parse(rt.alloc(), text.as_slice()).is_ok());
-    text.extend_from_slice(b"geode 1 0 1\n")?;
-    let want = Some((65_558, Why::Count));
-    assert_eq!(rt; told(rt.alloc(), text.as_slice()), want);
     Ok(())
 }

@@ -1,8 +1,12 @@
-//! Tests of the calls on plays and reports, of what no play reaches. They stand here and not beside the calls, since a
-//! crate with tests is proved twice.
+//! Tests of the calls on streams, plays and reports, of what no play reaches. They stand here and not beside the calls,
+//! since a crate with tests is proved twice.
 #![tactic(auto)]
 
+#[cfg(test)]
+mod fences;
 #[cfg(test)]
 mod formats;
 #[cfg(test)]
 mod reports;
+#[cfg(test)]
+mod streams;

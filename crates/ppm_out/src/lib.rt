@@ -6,6 +6,3 @@ mod ppm;
 
 pub use image::Image;
 pub use ppm::{append_ppm, append_ppm_reserved, ppm_len};
-
-#[cfg(test)]
-mod tests;

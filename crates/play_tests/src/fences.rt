@@ -1,7 +1,7 @@
-use super::*;
+//! Plays with a free merge and without.
+use play_fences::{first_free_merge, is_fenced};
 use play_format::parse;
 use std::alloc::Global;
-use std::process::Abort;
 use std::test::Fail;
 
 // What the test answers to a text, and its first free merge; none where it is no play.

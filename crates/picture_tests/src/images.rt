@@ -1,0 +1,18 @@
+//! An image, and its bytes where room was made for them.
+use ppm_out::{Image, append_ppm_reserved, ppm_len};
+use std::test::Fail;
+
+#[test]
+fn rows_come_from_the_top(rt: HostRuntime) -> Result<(), Fail> {
+    let mut image = Image::new(rt.alloc(), 3, 2)?;
+    assert_eq!(rt; (image.width(), image.height()), (3, 2));
+    image.set(2, 0, [1, 2, 3]);
+    image.set(0, 1, [4, 5, 6]);
+    assert_eq!(rt; image.get(2, 0), [1, 2, 3]);
+    assert_eq!(rt; image.get(1, 0), [0, 0, 0]);
+    let mut out = Vec::with_capacity(rt.alloc(), ppm_len(3, 2))?;
+    append_ppm_reserved(&mut out, &image);
+    let want = b"P6\n3 2\n255\n\0\0\0\0\0\0\x01\x02\x03\x04\x05\x06\0\0\0\0\0\0";
+    assert_eq!(rt; out.as_slice(), want.as_slice());
+    Ok(())
+}
