@@ -44,11 +44,11 @@ no_frames = []
 abbrev a_frame : LoadState → List (List Cut) → PieceFrame
 a_frame l lists = record { load = l; lists = lists }
 
-abbrev this_frame : LoadState → List (List Cut) → PieceFrame
+abbrev pub this_frame : LoadState → List (List Cut) → PieceFrame
 this_frame l lists = a_frame l (take (channels_of l) lists)
 
 -- the first load has too few lists
-short_frames : (l : LoadState) (loads : List LoadState) (lists : List (List Cut)) → nat_lt (length lists) (channels_of l) ≡ true →
+pub short_frames : (l : LoadState) (loads : List LoadState) (lists : List (List Cut)) → nat_lt (length lists) (channels_of l) ≡ true →
     frames_in (l ∷ loads) lists ≡ []
 short_frames l loads lists e =
     ap (λ (t : Bool). if t then no_frames else this_frame l lists ∷ frames_in loads (drop (channels_of l) lists)) e
@@ -58,7 +58,7 @@ short_left : (l : LoadState) (loads : List LoadState) (lists : List (List Cut)) 
 short_left l loads lists e = ap (λ (t : Bool). if t then lists else left_in loads (drop (channels_of l) lists)) e
 
 -- the first load has its lists
-full_frames : (l : LoadState) (loads : List LoadState) (lists : List (List Cut)) → nat_lt (length lists) (channels_of l) ≡ false →
+pub full_frames : (l : LoadState) (loads : List LoadState) (lists : List (List Cut)) → nat_lt (length lists) (channels_of l) ≡ false →
     frames_in (l ∷ loads) lists ≡ this_frame l lists ∷ frames_in loads (drop (channels_of l) lists)
 full_frames l loads lists e =
     ap (λ (t : Bool). if t then no_frames else this_frame l lists ∷ frames_in loads (drop (channels_of l) lists)) e

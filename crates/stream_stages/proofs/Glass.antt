@@ -63,7 +63,7 @@ put_glass x (y ∷ ys) f g = by (draw_order y x) (put_glass x ys f g.1)
     by true h = (g.0, h)
     by false h = (f, (g.0, g.1))
 
-ordered_glass : (xs : List Instance) → AllByRecursion IsGlass xs → AllByRecursion IsGlass (in_draw_order xs)
+pub ordered_glass : (xs : List Instance) → AllByRecursion IsGlass xs → AllByRecursion IsGlass (in_draw_order xs)
 ordered_glass [] g = tt
 ordered_glass (x ∷ xs) g = put_glass x (in_draw_order xs) g.0 (ordered_glass xs g.1)
 
@@ -106,13 +106,21 @@ glass_of_glass (x ∷ xs) g =
     ap (λ (b : Bool). cond b (unnamed x ∷ filter is_glass (map unnamed xs)) (filter is_glass (map unnamed xs))) (glass_is_not_opaque x.tint g.0)
     ∙ ap (λ (ys : List Instance). unnamed x ∷ ys) (glass_of_glass xs g.1)
 
--- the glass of what is sent is that of what is shown, in the order in which it is drawn
-pub sent_glass : (xs : List Instance) → filter is_glass (map unnamed (in_sending_order xs)) ≡ sorting.sorted is_drawn_before (map unnamed (filter (λ x. not (is_opaque x)) xs))
-sent_glass xs =
+-- the glass of what is sent is what is not opaque of what is shown
+pub glass_sent : (xs : List Instance) → filter is_glass (map unnamed (in_sending_order xs)) ≡ map unnamed (in_draw_order (filter (λ x. not (is_opaque x)) xs))
+glass_sent xs =
     ap (filter is_glass) (map-append unnamed (filter is_opaque xs) (in_draw_order left))
     ∙ filter-append is_glass (map unnamed (filter is_opaque xs)) (map unnamed (in_draw_order left))
     ∙ ap (λ (ys : List Instance). ys ++ filter is_glass (map unnamed (in_draw_order left))) (glass_of_opaque xs)
     ∙ glass_of_glass (in_draw_order left) (ordered_glass left (glass_left xs))
+  where
+    left : List Instance
+    left = filter (λ x. not (is_opaque x)) xs
+
+-- in the order in which it is drawn
+pub sent_glass : (xs : List Instance) → filter is_glass (map unnamed (in_sending_order xs)) ≡ sorting.sorted is_drawn_before (map unnamed (filter (λ x. not (is_opaque x)) xs))
+sent_glass xs =
+    glass_sent xs
     ∙ ap (map unnamed) (orders_alike left (glass_left xs))
     ∙ map-sorted is_drawn_before unnamed left
   where

@@ -31,6 +31,13 @@ pub mod Dealing
 pub mod Exchanged
 pub mod InTurn
 pub mod Going
+mod FullPieces
 pub mod ListsSent
 pub mod FramesSent
 pub mod HandedOn
+pub mod Channels
+mod FrameNumbers
+mod Streamable
+mod DealtFrames
+mod WholeLoads
+pub mod WholeFrames

@@ -19,9 +19,10 @@ use Rattle.stream_stages.specs.Pieces.{PieceParts, joined, is_ended, in_sending_
 use Rattle.stream_stages.specs.Routes.{Walking, to_come, scene_of}
 use Rattle.stream_stages.specs.Underway.{IsStreamable, IsUnderway, numbers_of}
 use Rattle.stream_stages.specs.Filled.{IsFilled, IsOneWalk}
-use Rattle.stream_stages.specs.CullParts.{HaveItems, scene_at, IsSentTo, IsListOf}
+use Rattle.stream_stages.specs.CullParts.{HaveItems, all_to_send, scene_at, IsSentTo, IsListOf}
 use Rattle.stream_stages.specs.CullSteps.{FillsOne}
 use Rattle.stream_stages.proofs.InTurn.{last_is}
+use Rattle.stream_stages.proofs.FullPieces.{full_more, full_here}
 
 all_push : {X : Type 0} (P : X → Type 0) (xs : List X) (x : X) → AllByRecursion P xs → P x → AllByRecursion P (xs ++ x ∷ [])
 all_push P [] x all here = (here, tt)
@@ -76,9 +77,6 @@ some_more copy before after ps old p fills underway some =
 
 -- The walk is begun.
 
-abbrev all_of : Look → ℕ → Viewpoint → Lens → List Instance
-all_of look time v lens = map unnamed (in_sending_order (shown look time v lens))
-
 -- What a walk has of its start.
 pub record StartsAt (time : ℕ) (v : Viewpoint) (lens : Lens) (w : Walking) : Type 0 where
   pub underway : (look : Look) (boxes : ℕ → Option Bounds) → IsStreamable look boxes time → IsUnderway (scene_of look boxes w) w
@@ -94,6 +92,7 @@ none_sent lens limit copy time v w starts can =
       underway = starts.underway (node_at copy.nodes) (boxes_of copy) can;
       few = tt;
       some = tt;
+      full = tt;
       marks = tt;
       sent = sym (starts.whole (node_at copy.nodes) (boxes_of copy) can);
       numbers = starts.numbers (node_at copy.nodes) (boxes_of copy) can;
@@ -117,14 +116,18 @@ pub one_sent : (lens : Lens) (limit : ℕ) (copy : CopyState) (time : ℕ) (v : 
 one_sent lens limit copy time v before after ps old p same fills mark so_far =
     let next = fills.next so_far.underway in
     let scene = sym (same_scene copy before after fills.walk) in
+    let all = all_to_send (node_at copy.nodes) time v lens in
     record {
       underway = subst (λ (s : Scene). IsUnderway s after) scene next.underway;
       few = few_more limit ps p so_far.few (few_here limit copy before after old p same fills);
       some = some_more copy before after ps old p fills so_far.underway so_far.some;
+      full =
+          full_more limit all (to_come (scene_at copy before) before) ps p so_far.sent so_far.full
+          (full_here limit copy before after old p same fills so_far.underway);
       marks = all_push (λ (q : Cut). q.last ≡ false) ps p so_far.marks mark;
       sent =
-          subst (λ (s : Scene). AreSentOf (all_of (node_at copy.nodes) time v lens) (map parts_of (ps ++ p ∷ [])) (to_come s after)) scene
-          (one_more (all_of (node_at copy.nodes) time v lens) (to_come (scene_at copy before) before) (to_come (scene_at copy before) after)
+          subst (λ (s : Scene). AreSentOf all (map parts_of (ps ++ p ∷ [])) (to_come s after)) scene
+          (one_more all (to_come (scene_at copy before) before) (to_come (scene_at copy before) after)
           ps p so_far.sent next.sent);
       numbers = subst (λ (s : Scene). numbers_of s after ≡ stats_of (node_at copy.nodes) time v lens) scene (next.numbers ∙ so_far.numbers);
     }
@@ -136,7 +139,7 @@ pub list_sent : (lens : Lens) (limit : ℕ) (copy : CopyState) (time : ℕ) (v :
 list_sent lens limit copy time v before after ps old p same fills mark so_far =
     let next = fills.next so_far.underway in
     let qs = map parts_of (ps ++ p ∷ []) in
-    let all = all_of (node_at copy.nodes) time v lens in
+    let all = all_to_send (node_at copy.nodes) time v lens in
     let sent : AreSentOf all qs [] =
     one_more all (to_come (scene_at copy before) before) [] ps p so_far.sent
     (next.sent ∙ ap (λ (xs : List Instance). instances_in p.list ++ xs) (next.last mark)) in
@@ -147,5 +150,8 @@ list_sent lens limit copy time v before after ps old p same fills mark so_far =
         items = sym (sent ∙ append-nil (joined qs));
       };
       some = some_more copy before after ps old p fills so_far.underway so_far.some;
+      full =
+          full_more limit all (to_come (scene_at copy before) before) ps p so_far.sent so_far.full
+          (full_here limit copy before after old p same fills so_far.underway);
       numbers = last_is ps p ∙ next.stats mark ∙ so_far.numbers;
     }

@@ -1,11 +1,12 @@
 -- What contracts see of the cull of the stream, and what it keeps.
-use Rattle.std.specs.Prelude.{◌≡◌, ℕ, ◌+◌, ◌<◌, ◌≤◌, Bool, true, false, List, [], ◌∷◌, ◌++◌, map, length, slice_get, Option, Some, None, MatchOption}
+use Rattle.std.specs.Prelude.{◌≡◌, ⊤, ℕ, ◌+◌, ◌<◌, ◌≤◌, Bool, true, false, List, [], ◌∷◌, ◌++◌, map, drop, length, slice_get, Option, Some, None, MatchOption}
 use Rattle.std.specs.List.{AllByRecursion}
 use Rattle.std.specs.Option.{option_to_list}
 use Rattle.fx_math.specs.declared.lenses.Lens.{Lens}
 use Rattle.pf_model.specs.Angles.{Viewpoint}
 use Rattle.pf_model.specs.Graphs.{Look, Nodes, node_at, empty_scene}
 use Rattle.pf_model.specs.Limits.{KeepsLimits, IsWithinLimits}
+use Rattle.pf_model.specs.Walks.{Instance}
 use Rattle.pf_model.specs.Copies.{updated_by}
 use Rattle.draw_list.specs.Shown.{shown, stats_of}
 use Rattle.cull_walk.specs.Premises.{unnamed}
@@ -84,10 +85,31 @@ pub record CanStream (loads : List LoadState) (i : ℕ) (l : LoadState) : Type 0
 abbrev pub HaveItems : List PieceParts → Type 0
 HaveItems ps = AllByRecursion (λ p. p.last ≡ false → 0 < length p.items) ps
 
--- The pieces are right for what is shown for a view, and the last one has the numbers.
+-- the triangles of what is sent next find no room in a piece
+abbrev pub HasNoRoomFor : Cut → (next : List Instance) → Type 0
+HasNoRoomFor p [] = ⊥
+HasNoRoomFor p (x ∷ next) = p.list.kept.spare < length x.tris
+
+-- where the piece takes more items, the triangles of what is sent next find no room in it
+abbrev pub IsFullBefore : (limit : ℕ) → Cut → (next : List Instance) → Type 0
+IsFullBefore limit p next = length p.list.items.items < limit → HasNoRoomFor p next
+
+-- of the pieces of a list, which are a front of all that it sends, each is full, but maybe not the last one
+abbrev pub AreFull : (limit : ℕ) → (all : List Instance) → List Cut → Type 0
+AreFull limit all [] = ⊤
+AreFull limit all (p ∷ ps) =
+    let next = drop (length p.list.items.items) all in
+    (p.last ≡ false → IsFullBefore limit p next) × AreFull limit next ps
+
+-- what the list for a view sends
+abbrev pub all_to_send : Look → (time : ℕ) → Viewpoint → Lens → List Instance
+all_to_send look time v lens = map unnamed (in_sending_order (shown look time v lens))
+
+-- The pieces are right for what is shown for a view, and full, and the last one has the numbers.
 pub record IsListOf (lens : Lens) (limit : ℕ) (look : Look) (time : ℕ) (v : Viewpoint) (ps : List Cut) : Type 0 where
   pub pieces : ArePiecesOf limit (shown look time v lens) (map parts_of ps)
   pub some : HaveItems (map parts_of ps)
+  pub full : AreFull limit (all_to_send look time v lens) ps
   pub numbers : last_numbers ps ≡ stats_of look time v lens
 
 -- each list is right for the view of its channel
@@ -112,9 +134,9 @@ pub record IsSentTo (lens : Lens) (limit : ℕ) (copy : CopyState) (time : ℕ) 
   pub underway : IsUnderway (scene_at copy w) w
   pub few : AllByRecursion (λ p. length p.items ≤ limit) (map parts_of ps)
   pub some : HaveItems (map parts_of ps)
+  pub full : AreFull limit (all_to_send (node_at copy.nodes) time v lens) ps
   pub marks : AllByRecursion (λ p. p.last ≡ false) ps
-  pub sent : AreSentOf (map unnamed (in_sending_order (shown (node_at copy.nodes) time v lens))) (map parts_of ps)
-      (to_come (scene_at copy w) w)
+  pub sent : AreSentOf (all_to_send (node_at copy.nodes) time v lens) (map parts_of ps) (to_come (scene_at copy w) w)
   pub numbers : numbers_of (scene_at copy w) w ≡ stats_of (node_at copy.nodes) time v lens
 
 -- the views of the first four channels, where they are there

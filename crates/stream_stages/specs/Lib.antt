@@ -14,3 +14,4 @@ pub mod DrawParts
 pub mod DrawSteps
 pub mod CullParts
 pub mod CullSteps
+pub mod WholeFrames

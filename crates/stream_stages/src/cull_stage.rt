@@ -11,7 +11,9 @@ ghost use Rattle.stream_stages.specs.Links.{SawMark, desk_place, end_place, HasN
 ghost use Rattle.stream_stages.specs.CullParts.{IsAsGiven, StreamCullPart, WaitsToFill, WaitsToSend, WaitsToCull};
 
 use crate::looks::is_stopped;
+use crate::pieces::Piece;
 use crate::sending::{Sending, begin_channel, fill_piece, take_updates};
+use crate::streams::StreamWalk;
 use frame_link::{SendEnd, TakeEnd};
 use fx_math::Lens;
 use multibuffer::StageCopy;
@@ -21,8 +23,6 @@ use seat_lock::Desk;
 use stage_parts::{Did, Load, Packet, StageError};
 use std::alloc::Global;
 use std::marker::Model;
-use crate::pieces::Piece;
-use crate::streams::StreamWalk;
 
 /// The cull of the streamed draw list: it takes the loads that the application sends, keeps its copy of the scene by their
 /// update lists, and sends them on without draw lists. Then it sends for each channel of the load what is in sight, in the

@@ -13,6 +13,7 @@ ghost use Rattle.stream_stages.specs.DrawSteps.{IsReadyFor};
 
 use crate::drawing::{Drawing, draw_piece};
 use crate::looks::is_stopped;
+use crate::pieces::Piece;
 use depth_raster::PieceRaster;
 use frame_link::{SendEnd, TakeEnd};
 use fx_math::Lens;
@@ -24,7 +25,6 @@ use stage_parts::{Did, Packet, StageError};
 use std::alloc::Global;
 use std::marker::Model;
 use std::thread::Threads;
-use crate::pieces::Piece;
 
 /// The draw of the streamed draw list: it takes the loads that the cull sends, and for each channel of a load the pieces up
 /// to the one marked `last`, draws their pictures, gives each piece back, and sends the loads back. Only `new` takes memory.

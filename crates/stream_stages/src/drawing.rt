@@ -6,12 +6,12 @@ ghost use Rattle.stage_parts.specs.Loads.{IsOfSize};
 ghost use Rattle.stream_stages.specs.PieceFrames.{channels_of, no_numbers};
 ghost use Rattle.stream_stages.specs.Drawing.{added, DrawsPiece, EndsChannel};
 
+use crate::pieces::Piece;
 use depth_raster::PieceRaster;
 use draw_list::Stats;
 use ppm_out::Image;
 use stage_parts::Load;
 use std::thread::Threads;
-use crate::pieces::Piece;
 
 /// No numbers yet.
 const NO_STATS: Stats = Stats {

@@ -12,6 +12,7 @@ ghost use Rattle.cull_walk.specs.Culling.{HaveOnePictureThrough};
 ghost use Rattle.cull_walk.specs.Premises.{unnamed};
 ghost use Rattle.stream_stages.specs.Pieces.{PieceParts, joined, is_ended, in_sending_order, ArePiecesOf, AreSentOf, GlassAddsUp};
 ghost use Rattle.stream_stages.specs.Woven.{woven, IsFarAsGlass};
+ghost use Rattle.stream_stages.specs.WholeFrames.{WholeFramesLaw};
 
 use cull_walk::laws::{
     culling_keeps_the_picture, draw_order_is_one, shown_instances_are_those_in_sight,
@@ -54,3 +55,12 @@ pub fn woven_lists_draw_their_instances()
     ensures shown { (look : Look) → (time : ℕ) → (v : Viewpoint) → (lens : Lens)
         → AllByRecursion IsFarAsGlass (shown look time v lens) }
 {}
+
+/// Where the cull and the draw of a stream keep their parts behind an application whose part is kept, an ordinary cull and
+/// an ordinary draw may have received the first packets that the application sent, and sent what came back to it. So what
+/// is known of an ordinary pipe holds of one whose draw lists are streamed.
+pub fn streamed_frames_are_whole_ones()
+    ensures { WholeFramesLaw }
+{
+    right_pieces_keep_the_picture();
+}

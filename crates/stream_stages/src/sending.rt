@@ -6,14 +6,14 @@ ghost use Rattle.stream_stages.specs.PieceFrames.{PieceLists, with_piece};
 ghost use Rattle.stream_stages.specs.CullParts.{first_four, IsCopyOf, SendsPieces};
 ghost use Rattle.stream_stages.specs.CullSteps.{TakesUpdates, IsReadyToSend, FillsOne};
 
+use crate::pieces::Piece;
+use crate::streams::StreamWalk;
 use fx_math::Lens;
 use multibuffer::StageCopy;
 use pf_model::{Steps, View};
 use stage_parts::Load;
 use std::marker::Brand;
 use std::sync::ledger::{Blank, Ledger};
-use crate::pieces::Piece;
-use crate::streams::StreamWalk;
 use update_lists::Cut;
 
 /// The most channels that pieces are sent for.
