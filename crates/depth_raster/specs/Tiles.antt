@@ -75,6 +75,12 @@ pub record IsCleared (before after : Tile) : Type 0 where
   pub block : after.block ≡ before.block
   pub marks : (q r : ℕ) → q < before.block.width → r < before.block.rows → mark_in before.block after.marks.items q r ≡ nothing
 
+-- the tile has one colour; the marks stay
+pub record IsFilled (colour : List ℕ) (before after : Tile) : Type 0 where
+  pub block : after.block ≡ before.block
+  pub marks : after.marks.items ≡ before.marks.items
+  pub colours : (q r : ℕ) → q < before.block.width → r < before.block.rows → colour_in before.block after.colours.items q r ≡ colour
+
 -- the colours before and after pieces are drawn, at a pixel of a block
 abbrev pub painted_within : Lens → (back : List ℕ) → List Piece → Block → List Mark → (q r : ℕ) → (before after : List ℕ) → Type 0
 painted_within lens back ps b marks q r before after = IsColoured lens (b.left + q) (b.first + r) back ps (mark_in b marks q r) before after

@@ -12,7 +12,7 @@ use crate::glass_tiles::glaze_tile;
 use crate::pieces::Piece;
 use crate::strip::Strip;
 use crate::tile::Tile;
-use crate::work::is_much;
+use crate::work::is_worth_a_thread;
 use fx_math::Lens;
 use std::thread::{Threads, join_mut};
 
@@ -57,7 +57,7 @@ fn glaze_halves<R: Threads + Sync>(
     ensures lower { StripsRelate (ColoursFollow (pieces_glazes lens.now pieces.now)) lower.old lower.new }
 {
     let half = work / 2;
-    if !is_much(work) {
+    if !is_worth_a_thread(work) {
         glaze_strips(rt, half, lens, pieces, upper);
         glaze_strips(rt, half, lens, pieces, lower);
         return;

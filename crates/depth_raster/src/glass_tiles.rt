@@ -39,6 +39,7 @@ fn glaze_face(tile: &mut Tile, lens: &Lens, piece: &Piece, face: &Face)
     if is_hidden(face, &block, limit(tile.top, piece.face.shift)) {
         return;
     }
+    tile.plain = None;
     glaze_colours(&mut tile.colours, &tile.marks, &block, lens, piece, face);
 }
 

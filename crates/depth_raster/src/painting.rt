@@ -1,5 +1,5 @@
 //! The colours of a tile after faces are drawn.
-ghost use Rattle.std.specs.Prelude.{◌≡◌, ℕ, [], ◌+◌, ◌<◌, ◌≤◌, All, IfSome, length, slice_set, slice_index_or};
+ghost use Rattle.std.specs.Prelude.{◌≡◌, ℕ, false, [], ◌+◌, ◌<◌, ◌≤◌, All, Some, IsTrue, IfSome, length, slice_set, slice_index_or};
 ghost use Rattle.fx_math.specs.Limits.{size_limit};
 ghost use Rattle.depth_raster.specs.Blocks.{IsBlockOf, size_of, colour_in};
 ghost use Rattle.depth_raster.specs.Following.{Follows, Relates, SpanRelates};
@@ -7,7 +7,7 @@ ghost use Rattle.depth_raster.specs.Means.{AreMeansAt, filled, shaded_within};
 ghost use Rattle.depth_raster.specs.Mixing.{IsFlat};
 ghost use Rattle.depth_raster.specs.Pieces.{IsPieceOf, settled, kept_colour};
 ghost use Rattle.depth_raster.specs.Runs.{IsRunOf};
-ghost use Rattle.depth_raster.specs.Tiles.{mark_in, painted_within, kept_within, hit_within, HaveRank, IsCleared, IsPainted};
+ghost use Rattle.depth_raster.specs.Tiles.{mark_in, painted_within, kept_within, hit_within, HaveRank, IsCleared, IsFilled, IsPainted};
 
 use crate::blocks::Block;
 use crate::marks::{Mark, NOTHING};
@@ -18,23 +18,63 @@ use crate::tile::Tile;
 use fx_math::Lens;
 use tri_cover::Face;
 
-/// Clears the marks of a tile.
+/// Clears the marks of a tile, unless they are those of a blank one.
 pub(crate) fn clear(tile: &mut Tile)
     ensures { IsCleared tile.old tile.new }
 {
+    if tile.blank {
+        return;
+    }
     tile.marks.fill(Mark::nothing());
+    tile.blank = true;
     tile.top = NOTHING;
     tile.last = None;
 }
 
 /// Gives each pixel of a tile the colour of the piece that is nearest there. What was drawn before keeps its colour, and
-/// where nothing is drawn, the pixel has the background's.
+/// where nothing is drawn, the pixel has the background's: in a blank tile, all of them.
 pub(crate) fn paint(tile: &mut Tile, lens: &Lens, back: [u8; 3], pieces: &[Piece])
     requires block { IsBlockOf lens.now tile.old.block }
     requires pieces { All (IsPieceOf lens.now) pieces.now }
     ensures { IsPainted lens.now back pieces.now tile.old tile.new }
 {
+    if tile.blank {
+        fill(tile, back);
+    } else {
+        paint_marked(tile, lens, back, pieces);
+    }
+}
+
+/// Gives all pixels of a tile one colour, unless they are known to have it.
+fn fill(tile: &mut Tile, colour: [u8; 3])
+    ensures { IsFilled colour tile.old tile.new }
+{
+    if is_plain(tile.plain, colour) {
+        return;
+    }
+    tile.colours.fill(colour);
+    tile.plain = Some(colour);
+}
+
+/// Whether the colour that is known is this one.
+fn is_plain(plain: Option<[u8; 3]>, colour: [u8; 3]) -> bool
+    ensures { IsTrue result → plain ≡ Some colour }
+{
+    match plain {
+        Some(plain) => plain == colour,
+        None => false,
+    }
+}
+
+/// Paints a tile that is not blank.
+fn paint_marked(tile: &mut Tile, lens: &Lens, back: [u8; 3], pieces: &[Piece])
+    requires marked { tile.old.blank ≡ false }
+    requires block { IsBlockOf lens.now tile.old.block }
+    requires pieces { All (IsPieceOf lens.now) pieces.now }
+    ensures { IsPainted lens.now back pieces.now tile.old tile.new }
+{
     let block = tile.block;
+    tile.plain = None;
     paint_rows(&mut tile.colours, &tile.marks, &block, lens, back, pieces);
     settle(&mut tile.marks, &block);
     tile.last = None;

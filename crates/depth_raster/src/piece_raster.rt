@@ -234,7 +234,7 @@ fn end_picture<R: Threads + Sync>(
         → Shows image.new (picture lens.now back xs) }
 {
     draw_rest(rt, glazing, strips, batch, lens, back);
-    assemble_strips(rt, strips, lens);
+    assemble_strips(strips, lens);
     show(image, strips, lens);
     batch.begin();
 }

@@ -107,7 +107,7 @@ fn draw_all<R: Threads + Sync>(
     ensures pixels { Shows image.new (picture lens.now back (instances_in list.now)) }
 {
     draw_strips(rt, strips, batch, lens, list, back);
-    assemble_strips(rt, strips, lens);
+    assemble_strips(strips, lens);
     show(image, strips, lens);
 }
 

@@ -1,5 +1,5 @@
 //! The colours of strips, put into an image.
-ghost use Rattle.std.specs.Prelude.{◌≡◌, ℕ, ◌+◌, ◌*◌, ◌<◌, ◌≤◌, All, length, slice_index_or};
+ghost use Rattle.std.specs.Prelude.{◌≡◌, ℕ, ◌+◌, ◌*◌, ◌<◌, ◌≤◌, length, slice_index_or};
 ghost use Rattle.ppm_out.specs.Pixmap.{SetsRows, pixel};
 ghost use Rattle.depth_raster.specs.Blocks.{size_of, colour_in};
 ghost use Rattle.depth_raster.specs.Following.{Relates};
@@ -10,47 +10,12 @@ ghost use Rattle.depth_raster.specs.declared.strip.Strip.{Strip};
 use crate::blocks::Block;
 use crate::strip::Strip;
 use crate::tile::Tile;
-use crate::work::is_much;
 use fx_math::Lens;
 use ppm_out::Image;
-use std::thread::{Threads, for_each_mut};
-
-/// In how many threads the colours of a wide picture are put together.
-const ASSEMBLERS: usize = 4;
-
-/// Puts the colours of the tiles of each strip together: those of a wide picture in some threads.
-pub(crate) fn assemble_strips<R: Threads + Sync>(rt: &R, strips: &mut [Strip], lens: &Lens)
-    requires strips { AreStrips lens.now strips.old }
-    ensures { (i : ℕ) (d : Strip) → i < length strips.old
-        → IsAssembled (slice_index_or strips.old i d) (slice_index_or strips.new i d) }
-{
-    if is_much(u64::from(lens.w) * u64::from(lens.h)) {
-        assemble_beside(rt, strips);
-    } else {
-        assemble_in_turn(strips);
-    }
-}
-
-/// Puts the colours of the tiles of each strip together in some threads.
-fn assemble_beside<R: Threads + Sync>(rt: &R, strips: &mut [Strip])
-    requires tiles { All IsTiled strips.old }
-    ensures { (i : ℕ) (d : Strip) → i < length strips.old
-        → IsAssembled (slice_index_or strips.old i d) (slice_index_or strips.new i d) }
-{
-    for_each_mut(
-        rt,
-        strips,
-        ASSEMBLERS,
-        &|_i: usize, strip: &mut Strip|
-            requires { IsTiled strip.now }
-            ensures { IsAssembled strip.entry.now strip.exit.now }
-        { assemble(strip) },
-    );
-}
 
 /// Puts the colours of the tiles of one strip after the other together.
-fn assemble_in_turn(strips: &mut [Strip])
-    requires tiles { All IsTiled strips.old }
+pub(crate) fn assemble_strips(strips: &mut [Strip], lens: &Lens)
+    requires strips { AreStrips lens.now strips.old }
     ensures { (i : ℕ) (d : Strip) → i < length strips.old
         → IsAssembled (slice_index_or strips.old i d) (slice_index_or strips.new i d) }
 {

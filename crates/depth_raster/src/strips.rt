@@ -16,7 +16,7 @@ use crate::shares::HEIGHT;
 use crate::slots::Slot;
 use crate::strip::Strip;
 use crate::tile::Tile;
-use crate::work::is_much;
+use crate::work::is_worth_a_thread;
 use fx_math::Lens;
 use std::thread::{Threads, join_mut};
 
@@ -74,7 +74,7 @@ fn draw_halves<R: Threads + Sync>(
     ensures lower { StripsRelate (IsDrawnFrom lens.now back pieces.now is_first) lower.old lower.new }
 {
     let half = work / 2;
-    if !is_much(work) {
+    if !is_worth_a_thread(work) {
         draw_strips(rt, half, is_first, lens, back, pieces, shares, upper);
         draw_strips(rt, half, is_first, lens, back, pieces, shares, lower);
         return;

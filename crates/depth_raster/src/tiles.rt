@@ -80,6 +80,7 @@ fn draw_over(tile: &mut Tile, lens: &Lens, piece: &Piece, face: &Face)
     ensures { MarksFollow (face_over lens.now piece.now.face) tile.old tile.new }
 {
     let block = tile.block;
+    tile.blank = false;
     tile.last = None;
     draw_marks(&mut tile.marks, &block, lens, piece, face);
     tile.top = greatest_within(&tile.marks, tile.top);

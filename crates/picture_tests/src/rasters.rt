@@ -72,16 +72,16 @@ fn shows<R: Abort + Threads + Sync>(
     Ok(())
 }
 
-/// A pane over a red ground, in pictures that are too small for threads and just large enough for them.
+/// Three panes over a red ground of three, in pictures that are too small for threads and just large enough for them.
 #[test]
 fn glass_by_one_thread_and_by_many(rt: HostRuntime) -> Result<(), Fail> {
     let mut list = DrawList::new(rt.alloc());
-    list.reserve(2, 2)?;
-    put(&mut list, 1, &facing(rt.alloc(), 4_096, RED, 1)?, None)?;
+    list.reserve(2, 6)?;
+    put(&mut list, 1, &facing(rt.alloc(), 4_096, RED, 3)?, None)?;
     let tint = Some(Tint { alpha: 128, far: 9 });
-    put(&mut list, 2, &facing(rt.alloc(), 2_048, BLUE, 1)?, tint)?;
-    for size in [(37, 35), (1024, 1023), (1024, 1024)] {
-        shows(&rt, rt.alloc(), &list, size, [127, 0, 128])?;
+    put(&mut list, 2, &facing(rt.alloc(), 2_048, BLUE, 3)?, tint)?;
+    for size in [(37, 35), (1024, 853), (1024, 854)] {
+        shows(&rt, rt.alloc(), &list, size, [31, 0, 223])?;
     }
     Ok(())
 }
