@@ -12,3 +12,5 @@ mod merges;
 mod played;
 #[cfg(test)]
 mod probes;
+#[cfg(test)]
+mod streams;

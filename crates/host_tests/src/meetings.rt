@@ -132,6 +132,7 @@ fn stages_of_different_hosts_meet(rt: HostRuntime) -> Result<(), Fail> {
                     dbase,
                     ahead: 3,
                     probe: None,
+                    stream: None,
                 };
                 let left = play_text(&rt, rt.alloc(), FRAMES_AND_MERGES, setup, gate)?;
                 assert_eq!(rt; left.end, PlayEnd::Done, "{mode:?} {dbase} {pair:?}");

@@ -14,7 +14,8 @@ pub const MERGE_BETWEEN_TWO_FRAMES: &str =
     t -40960 4096 -40960 255 0 0 40960 4096 -40960 255 0 0 0 4096 81920 255 0 0\n\
     badd 1 10\nmerge\n";
 
-const BACKGROUND_AND_RED: &[u8] = b"P6\n2 2\n255\n\x0a\x14\x1e\x0a\x14\x1e\x0a\x14\x1e\x0a\x14\x1e\
+pub const BACKGROUND_AND_RED: &[u8] =
+    b"P6\n2 2\n255\n\x0a\x14\x1e\x0a\x14\x1e\x0a\x14\x1e\x0a\x14\x1e\
     P6\n2 2\n255\n\xff\0\0\xff\0\0\xff\0\0\xff\0\0";
 
 #[test]
@@ -27,6 +28,7 @@ fn merge_between_two_frames(rt: HostRuntime) -> Result<(), Fail> {
                     dbase,
                     ahead,
                     probe: None,
+                    stream: None,
                 };
                 let left = play_text(&rt, rt.alloc(), MERGE_BETWEEN_TWO_FRAMES, setup, FreeGate)?;
                 assert_eq!(rt; left.end, PlayEnd::Done, "{mode:?} {dbase} {ahead}");

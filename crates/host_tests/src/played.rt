@@ -1,5 +1,5 @@
 //! Plays of texts, in every mode.
-ghost use Rattle.std.specs.Prelude.{◌≤◌};
+ghost use Rattle.std.specs.Prelude.{◌≤◌, IfSome};
 
 use mode_hosts::{Mode, PlayEnd, Played, Setup, play_all};
 use nearest_hit::Near;
@@ -46,6 +46,7 @@ pub fn play_text<
 >(rt: &R, alloc: Global, text: &str, setup: Setup, gate: G) -> Result<Streamed, Fail>
     requires some { 1 ≤ setup.ahead }
     requires few { setup.ahead ≤ 4 }
+    requires stream { IfSome setup.stream (λ n. (1 ≤ n) × (n ≤ 4096)) }
 {
     let play = parse(alloc, text.as_bytes())?;
     if stuck(&play).is_some() {

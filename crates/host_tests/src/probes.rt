@@ -38,6 +38,7 @@ fn the_probe_finds_what_was_merged(rt: HostRuntime) -> Result<(), Fail> {
                     dbase,
                     ahead,
                     probe: Some(ahead_of_the_eye()),
+                    stream: None,
                 };
                 let left = play_text(&rt, rt.alloc(), MERGE_BETWEEN_TWO_FRAMES, setup, FreeGate)?;
                 assert_eq!(rt; left.end, PlayEnd::Done, "{mode:?} {dbase} {ahead}");

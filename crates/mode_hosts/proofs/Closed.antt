@@ -18,9 +18,12 @@ desk_found k v w log same is sound found =
     subst (λ (j : ℕ). Found j v.seen log) is there
 
 -- what was received and what is left are together what was sent, so it is a front of it
+pub front_home : {X : Type 0} (sent taken sent' taken' left : List X) → taken' ++ left ≡ sent' → sent' ≡ sent → taken' ≡ taken →
+    taken ≡ take (length taken) sent
+front_home {X} sent taken sent' taken' left all same_sent same_taken =
+    let is : sent ≡ taken ++ left = sym (subst (λ (xs : List X). xs ++ left ≡ sent) same_taken (all ∙ same_sent)) in
+    sym (ap (take (length taken)) is ∙ take-append-le (length taken) taken left (omega arith) ∙ take_all (length taken) taken (omega arith))
+
 pub link_front : (sent taken sent' taken' left : List Packet) → taken' ++ left ≡ sent' → sent' ≡ sent → taken' ≡ taken → LinkPart sent taken
 link_front sent taken sent' taken' left all same_sent same_taken =
-    let is : sent ≡ taken ++ left = sym (subst (λ (xs : List Packet). xs ++ left ≡ sent) same_taken (all ∙ same_sent)) in
-    record {
-      front = sym (ap (take (length taken)) is ∙ take-append-le (length taken) taken left (omega arith) ∙ take_all (length taken) taken (omega arith));
-    }
+    record { front = front_home sent taken sent' taken' left all same_sent same_taken }

@@ -1,11 +1,10 @@
 -- Crews put together.
 use Rattle.std.proofs.Common.{◌≡◌, Bool, true, false, Option, None, Some, IsSome, refl, sym, subst}
 use Rattle.std.specs.Option.{option_map}
-use Rattle.frame_stages.specs.CullWorks.{CullWork}
-use Rattle.frame_stages.specs.Works.{DrawWork}
 use Rattle.mode_hosts.specs.declared.modes.Mode.{Mode}
 use Rattle.mode_hosts.specs.declared.modes.Mode.TheVariants as mode
-use Rattle.mode_hosts.specs.Sites.{Site, DbaseSite, ProbeSite, CrewState, CullGoes, DrawGoes, DbaseGoes, ProbeGoes, IfThere, CrewGoes}
+use Rattle.mode_hosts.specs.Works.{AnyCullWork, AnyDrawWork}
+use Rattle.mode_hosts.specs.Sites.{Site, DbaseSite, ProbeSite, CrewState, AnyCullGoes, AnyDrawGoes, DbaseGoes, ProbeGoes, IfThere, CrewGoes}
 use Rattle.mode_hosts.specs.Crews.{first_of, united, all_of, full_crew, HasAll, divided}
 
 -- the first that is there, and what it is seen as
@@ -23,14 +22,14 @@ first_there G (Some x) b (Some x') b' first second = first
 pub united_goes : (a b a' b' : CrewState) → CrewGoes a a' → CrewGoes b b' → CrewGoes (united a b) (united a' b')
 united_goes a b a' b' first second =
     record {
-      cull = first_there CullGoes a.cull b.cull a'.cull b'.cull first.cull second.cull;
-      draw = first_there DrawGoes a.draw b.draw a'.draw b'.draw first.draw second.draw;
+      cull = first_there AnyCullGoes a.cull b.cull a'.cull b'.cull first.cull second.cull;
+      draw = first_there AnyDrawGoes a.draw b.draw a'.draw b'.draw first.draw second.draw;
       dbase = first_there DbaseGoes a.dbase b.dbase a'.dbase b'.dbase first.dbase second.dbase;
       probe = first_there ProbeGoes a.probe b.probe a'.probe b'.probe first.probe second.probe;
     }
 
 -- the crews of a mode have all stages
-pub divided_all : (m : Mode) (own : Bool) (cull : Site CullWork) (draw : Site DrawWork) (dbase : DbaseSite) (probe : ProbeSite) →
+pub divided_all : (m : Mode) (own : Bool) (cull : Site AnyCullWork) (draw : Site AnyDrawWork) (dbase : DbaseSite) (probe : ProbeSite) →
     all_of (divided m own cull draw dbase probe) ≡ full_crew cull draw dbase probe
 divided_all mode.Appculldraw true cull draw dbase probe = refl
 divided_all mode.Appculldraw false cull draw dbase probe = refl
@@ -46,11 +45,11 @@ some_there G x None there = absurd there
 some_there G x (Some z) there = refl
 
 -- polls leave all stages there
-pub still_full : (cull : Site CullWork) (draw : Site DrawWork) (dbase : DbaseSite) (probe : ProbeSite) (crew : CrewState) →
+pub still_full : (cull : Site AnyCullWork) (draw : Site AnyDrawWork) (dbase : DbaseSite) (probe : ProbeSite) (crew : CrewState) →
     CrewGoes (full_crew cull draw dbase probe) crew → HasAll crew
 still_full cull draw dbase probe crew goes = (
-  some_there CullGoes cull crew.cull goes.cull,
-  some_there DrawGoes draw crew.draw goes.draw,
+  some_there AnyCullGoes cull crew.cull goes.cull,
+  some_there AnyDrawGoes draw crew.draw goes.draw,
   some_there DbaseGoes dbase crew.dbase goes.dbase,
   some_there ProbeGoes probe crew.probe goes.probe,
 )

@@ -12,9 +12,8 @@ use Rattle.stage_parts.specs.States.{Setup}
 use Rattle.stage_parts.specs.Parts.{AppKeeps}
 use Rattle.stage_parts.proofs.Numbers.{own_front}
 use Rattle.frame_stages.specs.AppWorks.{AppWork}
-use Rattle.frame_stages.specs.CullWorks.{CullWork}
-use Rattle.frame_stages.specs.Works.{DrawWork}
-use Rattle.mode_hosts.specs.Sites.{Place, Site, DbaseSite, WaySite, ProbeSite, CrewState, IsSameDesk, AreSameLinks, Rests, CullGoes, DrawGoes, DbaseGoes, WayGoes, ProbeGoes, AppWrote, AppGoes, IfThere, CrewGoes}
+use Rattle.mode_hosts.specs.Works.{AnyCullWork, AnyDrawWork}
+use Rattle.mode_hosts.specs.Sites.{Place, Site, DbaseSite, WaySite, ProbeSite, CrewState, IsSameDesk, AreSameLinks, Rests, AnyCullGoes, AnyDrawGoes, DbaseGoes, WayGoes, ProbeGoes, AppWrote, AppGoes, IfThere, CrewGoes}
 
 -- Desks and links
 
@@ -43,28 +42,32 @@ rests_on p q r first second =
 
 -- The stages of a crew
 
-cull_self : (x : Site CullWork) → CullGoes x x
-cull_self x = record { rests = rests_self x.place; links = links_self x; lens = refl; keeps = λ k. k }
+cull_self : (x : Site AnyCullWork) → AnyCullGoes x x
+cull_self x = record { rests = rests_self x.place; links = links_self x; piece_links = refl; lens = refl; keeps = λ k. k }
 
-cull_on : (x y z : Site CullWork) → CullGoes x y → CullGoes y z → CullGoes x z
+cull_on : (x y z : Site AnyCullWork) → AnyCullGoes x y → AnyCullGoes y z → AnyCullGoes x z
 cull_on x y z first second =
     record {
       rests = rests_on x.place y.place z.place first.rests second.rests;
       links = links_on x y z first.links second.links;
+      piece_links = second.piece_links ∙ first.piece_links;
       lens = second.lens ∙ first.lens;
       keeps = λ k. second.keeps (first.keeps k);
     }
 
-draw_self : (x : Site DrawWork) → DrawGoes x x
-draw_self x = record { rests = rests_self x.place; links = links_self x; given = record { lens = refl; back = refl }; part = λ k. k }
+draw_self : (x : Site AnyDrawWork) → AnyDrawGoes x x
+draw_self x =
+    record { rests = rests_self x.place; links = links_self x; piece_links = refl; lens = refl; back = refl; keeps = λ k. k }
 
-draw_on : (x y z : Site DrawWork) → DrawGoes x y → DrawGoes y z → DrawGoes x z
+draw_on : (x y z : Site AnyDrawWork) → AnyDrawGoes x y → AnyDrawGoes y z → AnyDrawGoes x z
 draw_on x y z first second =
     record {
       rests = rests_on x.place y.place z.place first.rests second.rests;
       links = links_on x y z first.links second.links;
-      given = record { lens = second.given.lens ∙ first.given.lens; back = second.given.back ∙ first.given.back };
-      part = λ k. second.part (first.part k);
+      piece_links = second.piece_links ∙ first.piece_links;
+      lens = second.lens ∙ first.lens;
+      back = second.back ∙ first.back;
+      keeps = λ k. second.keeps (first.keeps k);
     }
 
 dbase_self : (x : DbaseSite) → DbaseGoes x x
@@ -119,8 +122,8 @@ probe_on x y z first second =
 pub crew_self : (x : CrewState) → CrewGoes x x
 crew_self x =
     record {
-      cull = there_self CullGoes x.cull cull_self;
-      draw = there_self DrawGoes x.draw draw_self;
+      cull = there_self AnyCullGoes x.cull cull_self;
+      draw = there_self AnyDrawGoes x.draw draw_self;
       dbase = there_self DbaseGoes x.dbase dbase_self;
       probe = there_self ProbeGoes x.probe probe_self;
     }
@@ -129,8 +132,8 @@ crew_self x =
 pub crew_on : (x y z : CrewState) → CrewGoes x y → CrewGoes y z → CrewGoes x z
 crew_on x y z first second =
     record {
-      cull = there_on CullGoes x.cull y.cull z.cull cull_on first.cull second.cull;
-      draw = there_on DrawGoes x.draw y.draw z.draw draw_on first.draw second.draw;
+      cull = there_on AnyCullGoes x.cull y.cull z.cull cull_on first.cull second.cull;
+      draw = there_on AnyDrawGoes x.draw y.draw z.draw draw_on first.draw second.draw;
       dbase = there_on DbaseGoes x.dbase y.dbase z.dbase dbase_on first.dbase second.dbase;
       probe = there_on ProbeGoes x.probe y.probe z.probe probe_on first.probe second.probe;
     }

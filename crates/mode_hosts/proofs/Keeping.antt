@@ -18,8 +18,10 @@ use Rattle.frame_stages.specs.CullWorks.{CullWork}
 use Rattle.frame_stages.specs.Works.{DrawWork}
 use Rattle.nearest_hit.specs.declared.segment.Segment.{Segment}
 use Rattle.frame_link.specs.Link.{Link}
-use Rattle.mode_hosts.specs.Sites.{Place, Site, DbaseSite, WaySite, ProbeSite, IsSameDesk, Rests, AppWrote, AppGoes, CullGoes, DrawGoes, DbaseGoes, WayGoes, ProbeGoes, IfThere}
-use Rattle.mode_hosts.specs.Gathering.{Sites, IsDesk, AreAtDesks, AreTogether, AppSeatKeeps, CullSeatKeeps, DrawSeatKeeps, DbaseSeatKeeps, SeatsKeep, SeatsGo}
+use Rattle.mode_hosts.specs.Works.{AnyCullWork, AnyDrawWork}
+use Rattle.mode_hosts.specs.Sites.{Place, Site, DbaseSite, WaySite, ProbeSite, IsSameDesk, Rests, AppWrote, AppGoes, CullGoes, DrawGoes, AnyCullGoes, AnyDrawGoes, DbaseGoes, WayGoes, ProbeGoes, IfThere}
+use Rattle.mode_hosts.specs.Gathering.{SitesOf, Sites, IsDesk, AreAtDesks, AreTogether, AppSeatKeeps, CullSeatKeeps, DrawSeatKeeps, DbaseSeatKeeps, SeatsKeep, SeatsGo}
+use Rattle.mode_hosts.specs.AnySeats.{AnySites, AnyCullSeatKeeps, AnyDrawSeatKeeps, AnySeatsKeep, AnySeatsGo}
 use Rattle.mode_hosts.specs.Probes.{AllSites, AreLinked, AreAllTogether, WayKeeps, ProbeSeatKeeps, AllKeep, AllGo}
 
 -- Desks and links
@@ -28,20 +30,22 @@ same_desk : (lock : TableId) (k : ℕ) (old new : Place) → IsSameDesk old new 
 same_desk lock k old new same is =
     record { number = same.number ∙ is.number; lock = ap (λ (x : Stand Entry). x.lock) same.stand ∙ is.lock }
 
-stay_at_desks : (lock : TableId) (old new : Sites) (bytes bytes' : Option (List ℕ)) → SeatsGo old new bytes bytes' → AreAtDesks lock old → AreAtDesks lock new
-stay_at_desks lock old new bytes bytes' go is =
+stay_at_desks : {X Y : Type 0} (lock : TableId) (old new : SitesOf X Y) → IsSameDesk old.app.place new.app.place →
+    IsSameDesk old.cull.place new.cull.place → IsSameDesk old.draw.place new.draw.place → IsSameDesk old.dbase.place new.dbase.place →
+    AreAtDesks lock old → AreAtDesks lock new
+stay_at_desks lock old new app cull draw dbase is =
     record {
-      app = same_desk lock 0 old.app.place new.app.place go.app.desk is.app;
-      cull = same_desk lock 1 old.cull.place new.cull.place go.cull.rests.desk is.cull;
-      draw = same_desk lock 2 old.draw.place new.draw.place go.draw.rests.desk is.draw;
-      dbase = same_desk lock 3 old.dbase.place new.dbase.place go.dbase.desk is.dbase;
-      seats = ap (λ (x : Stand Entry). x.seats) go.app.desk.stand ∙ is.seats;
+      app = same_desk lock 0 old.app.place new.app.place app is.app;
+      cull = same_desk lock 1 old.cull.place new.cull.place cull is.cull;
+      draw = same_desk lock 2 old.draw.place new.draw.place draw is.draw;
+      dbase = same_desk lock 3 old.dbase.place new.dbase.place dbase is.dbase;
+      seats = ap (λ (x : Stand Entry). x.seats) app.stand ∙ is.seats;
     }
 
 pub stay_together : (lock : TableId) (old new : Sites) (bytes bytes' : Option (List ℕ)) → SeatsGo old new bytes bytes' → AreTogether lock old → AreTogether lock new
 stay_together lock old new bytes bytes' go is =
     record {
-      desks = stay_at_desks lock old new bytes bytes' go is.desks;
+      desks = stay_at_desks lock old new go.app.desk go.cull.rests.desk go.draw.rests.desk go.dbase.desk is.desks;
       a = go.cull.links.take_at ∙ (is.a ∙ sym go.app.links.send_at);
       b = go.draw.links.take_at ∙ (is.b ∙ sym go.cull.links.send_at);
       c = go.app.links.take_at ∙ (is.c ∙ sym go.draw.links.send_at);
@@ -59,7 +63,8 @@ pub all_stay_together : (lock : TableId) (old new : AllSites) (bytes bytes' : Op
 all_stay_together lock old new bytes bytes' go is =
     let four = go.four in
     record {
-      desks = stay_at_desks lock old.four new.four bytes bytes' four is.desks;
+      desks =
+          stay_at_desks lock old.four new.four four.app.desk four.cull.rests.desk four.draw.rests.desk four.dbase.desk is.desks;
       probe = same_desk lock 4 old.probe.place new.probe.place go.probe.rests.desk is.probe;
       a =
           subst (λ (l : Link). AreLinked l new.probe.way new.four.cull.take_at) (sym four.app.links.send_at)
@@ -67,6 +72,7 @@ all_stay_together lock old new bytes bytes' go is =
           (still_linked old.four.app.send_at old.four.cull.take_at old.probe.way new.probe.way go.probe.way is.a));
       b = four.draw.links.take_at ∙ (is.b ∙ sym four.cull.links.send_at);
       c = four.app.links.take_at ∙ (is.c ∙ sym four.draw.links.send_at);
+      pieces = four.draw.piece_links ∙ (is.pieces ∙ sym four.cull.piece_links);
     }
 
 -- Seats
@@ -133,6 +139,35 @@ seats_keep g dbase old new a b c go keeps =
       dbase = dbase_keeps dbase g.channels old.dbase new.dbase go.dbase keeps.dbase;
     }
 
+-- the same where draw lists go whole or in pieces
+
+any_cull_keeps : (g : Setup) (old new : Site AnyCullWork) → AnyCullGoes old new → AnyCullSeatKeeps g old → AnyCullSeatKeeps g new
+any_cull_keeps g old new goes keeps =
+    record {
+      lens = goes.lens ∙ keeps.lens;
+      keeps = goes.keeps keeps.keeps;
+      own = still_none old.place new.place goes.rests keeps.own;
+    }
+
+any_draw_keeps : (g : Setup) (old new : Site AnyDrawWork) → AnyDrawGoes old new → AnyDrawSeatKeeps g old → AnyDrawSeatKeeps g new
+any_draw_keeps g old new goes keeps =
+    record {
+      lens = goes.lens ∙ keeps.lens;
+      back = goes.back ∙ keeps.back;
+      keeps = goes.keeps keeps.keeps;
+      own = still_none old.place new.place goes.rests keeps.own;
+    }
+
+any_seats_keep : (g : Setup) (dbase : List BaseLine) (old new : AnySites) (a b c : Option (List ℕ)) → AnySeatsGo old new b c →
+    AnySeatsKeep g dbase old a b → AnySeatsKeep g dbase new a c
+any_seats_keep g dbase old new a b c go keeps =
+    record {
+      app = app_keeps g old.app new.app a b c go.app keeps.app;
+      cull = any_cull_keeps g old.cull new.cull go.cull keeps.cull;
+      draw = any_draw_keeps g old.draw new.draw go.draw keeps.draw;
+      dbase = dbase_keeps dbase g.channels old.dbase new.dbase go.dbase keeps.dbase;
+    }
+
 way_keeps : (probe : Option Segment) (old new : Option WaySite) → IfThere WayGoes old new → IfThere WayKeeps probe old → IfThere WayKeeps probe new
 way_keeps None None None goes keeps = tt
 way_keeps None None (Some new) goes keeps = absurd goes
@@ -153,6 +188,6 @@ pub all_keep : (g : Setup) (dbase : List BaseLine) (probe : Option Segment) (old
     AllKeep g dbase probe old a b → AllKeep g dbase probe new a c
 all_keep g dbase probe old new a b c go keeps =
     record {
-      four = seats_keep g dbase old.four new.four a b c go.four keeps.four;
+      four = any_seats_keep g dbase old.four new.four a b c go.four keeps.four;
       probe = probe_keeps probe old.probe new.probe go.probe keeps.probe;
     }

@@ -3,11 +3,13 @@ pub mod Goes
 pub mod Polls
 pub mod Crews
 pub mod Ends
+pub mod InRange
 pub mod Gathers
 pub mod Keeping
 pub mod Closed
 pub mod Opens
 pub mod Tells
+pub mod Passing
 pub mod Probes
 pub mod Weights
 pub mod Standing

@@ -4,30 +4,32 @@ use Rattle.atomic_table.specs.Seated.{TableId}
 use Rattle.pf_io.proofs.Known.{append_known-nil}
 use Rattle.pf_model.specs.declared.lines.BaseLine.{BaseLine}
 use Rattle.pf_history.specs.Asks.{asked_dbase}
+use Rattle.fx_math.specs.declared.lenses.Lens.{Lens}
+use Rattle.stage_parts.specs.declared.packets.Packet.{Packet}
 use Rattle.stage_parts.specs.Loads.{LoadState}
 use Rattle.stage_parts.specs.States.{Setup}
+use Rattle.stage_parts.specs.Parts.{DrawPart}
 use Rattle.stage_parts.specs.DbaseSteps.{opening_draw}
 use Rattle.stage_parts.proofs.DbaseSteps.{opening_law}
 use Rattle.frame_stages.specs.AppWorks as app
-use Rattle.frame_stages.specs.AppWorks.{AppWork, IsGiven}
-use Rattle.frame_stages.specs.CullWorks.{CullWork, CullKeeps}
-use Rattle.frame_stages.specs.Works.{DrawWork}
+use Rattle.frame_stages.specs.AppWorks.{AppWork}
 use Rattle.frame_stages.specs.DbaseWorks as base
 use Rattle.frame_stages.specs.DbaseWorks.{DbaseHolds}
 use Rattle.nearest_hit.specs.declared.segment.Segment.{Segment}
 use Rattle.seat_lock.specs.Log.{of}
 use Rattle.mode_hosts.specs.Sites.{Place, Site, DbaseSite, ProbeSite, IfThere}
 use Rattle.mode_hosts.specs.Probes.{WayKeeps, ProbeSeatKeeps}
-use Rattle.mode_hosts.specs.Deals.{app_view, cull_view, draw_view, dbase_view, probe_view, stands_at}
-use Rattle.mode_hosts.specs.Gathering.{own_seats, Sites, AppSeatKeeps, CullSeatKeeps, DrawSeatKeeps, DbaseSeatKeeps, SeatsKeep}
+use Rattle.mode_hosts.specs.Works.{KeepsCull, KeepsDraw}
+use Rattle.mode_hosts.specs.Deals.{app_view, cull_view, draw_view, dbase_view, probe_view, stands_at, AreNewWorks}
+use Rattle.mode_hosts.specs.Gathering.{own_seats, AppSeatKeeps, DbaseSeatKeeps}
+use Rattle.mode_hosts.specs.AnySeats.{AnySites, AnyCullSeatKeeps, AnyDrawSeatKeeps, AnySeatsKeep}
 
 -- What the four seats are before the first step.
-pub record AreNew (g : Setup) (lines : List BaseLine) (lock : TableId) (s : Sites) : Type 0 where
+pub record AreNew (g : Setup) (lines : List BaseLine) (lock : TableId) (s : AnySites) : Type 0 where
   pub app_work : s.app.work ≡ app.opening_work g s.app.work.state.spare
   pub loads : length s.app.work.state.spare ≡ g.ahead
-  pub lens : s.cull.work.lens ≡ g.lens
-  pub cull : CullKeeps s.cull.work [] []
-  pub draw : s.draw.work ≡ record { lens = g.lens; back = g.back; state = opening_draw }
+  pub limit : Option ℕ
+  pub works : AreNewWorks g.lens g.back limit s.cull.work s.draw.work
   pub dbase_work : s.dbase.work ≡ base.opening_work lines
   pub holds : DbaseHolds lines g.channels 3 (base.opening_work lines) []
   pub app_place : s.app.place ≡ stands_at lock app_view
@@ -65,7 +67,7 @@ app_opens g dbase lock loads s bytes merges all =
       own = tt;
     }
 
-app_new : (g : Setup) (dbase : List BaseLine) (lock : TableId) (s : Sites) (bytes : Option (List ℕ)) → g.merges ≡ length (asked_dbase dbase) →
+app_new : (g : Setup) (dbase : List BaseLine) (lock : TableId) (s : AnySites) (bytes : Option (List ℕ)) → g.merges ≡ length (asked_dbase dbase) →
     AreNew g dbase lock s → AppSeatKeeps g s.app bytes bytes
 app_new g dbase lock s bytes merges is =
     let path : new_app g lock s.app.work.state.spare s.app ≡ s.app =
@@ -80,73 +82,44 @@ app_new g dbase lock s bytes merges is =
     } in
     subst (λ (x : Site AppWork). AppSeatKeeps g x bytes bytes) path (app_opens g dbase lock s.app.work.state.spare s.app bytes merges is.loads)
 
-abbrev new_cull : TableId → Site CullWork → Site CullWork
-new_cull lock s =
-    record {
-      work = s.work;
-      place = stands_at lock cull_view;
-      take_at = s.take_at;
-      send_at = s.send_at;
-      taken = [];
-      sent = [];
-    }
+-- a desk that has seen nothing has no entries
+none_seen : (p q : Place) → p ≡ q → of q.number q.seen ≡ [] → of p.number p.seen ≡ []
+none_seen p q is none = subst (λ (x : Place). of x.number x.seen ≡ []) (sym is) none
 
-cull_new : (g : Setup) (dbase : List BaseLine) (lock : TableId) (s : Sites) → AreNew g dbase lock s → CullSeatKeeps g s.cull
+cull_new : (g : Setup) (dbase : List BaseLine) (lock : TableId) (s : AnySites) → AreNew g dbase lock s → AnyCullSeatKeeps g s.cull
 cull_new g dbase lock s is =
-    let path : new_cull lock s.cull ≡ s.cull =
-    λ i.
     record {
-      work = s.cull.work;
-      place = (sym is.cull_place) i;
-      take_at = s.cull.take_at;
-      send_at = s.cull.send_at;
-      taken = (sym is.cull_taken) i;
-      sent = (sym is.cull_sent) i;
-    } in
-    subst (CullSeatKeeps g) path (record { lens = is.lens; keeps = is.cull; own = refl })
-
-abbrev new_draw : Setup → TableId → Site DrawWork → Site DrawWork
-new_draw g lock s =
-    record {
-      work = record { lens = g.lens; back = g.back; state = opening_draw };
-      place = stands_at lock draw_view;
-      take_at = s.take_at;
-      send_at = s.send_at;
-      taken = [];
-      sent = [];
+      lens = is.works.cull_given;
+      keeps = subst (λ (ps : List Packet). KeepsCull s.cull.work s.cull.taken ps) (sym is.cull_sent)
+          (subst (λ (ps : List Packet). KeepsCull s.cull.work ps []) (sym is.cull_taken) is.works.cull_keeps);
+      own = none_seen s.cull.place (stands_at lock cull_view) is.cull_place refl;
     }
 
-draw_new : (g : Setup) (dbase : List BaseLine) (lock : TableId) (s : Sites) → g.merges ≡ length (asked_dbase dbase) → AreNew g dbase lock s →
-    DrawSeatKeeps g s.draw
-draw_new g dbase lock s merges is =
-    let old = opening_law g dbase own_seats s.app.work.state.spare merges is.loads in
-    let path : new_draw g lock s.draw ≡ s.draw =
-    λ i.
+draw_new : (g : Setup) (dbase : List BaseLine) (lock : TableId) (s : AnySites) → AreNew g dbase lock s → AnyDrawSeatKeeps g s.draw
+draw_new g dbase lock s is =
     record {
-      work = (sym is.draw) i;
-      place = (sym is.draw_place) i;
-      take_at = s.draw.take_at;
-      send_at = s.draw.send_at;
-      taken = (sym is.draw_taken) i;
-      sent = (sym is.draw_sent) i;
-    } in
-    subst (DrawSeatKeeps g) path (record { lens = refl; back = refl; part = old.draw; own = refl })
+      lens = is.works.draw_given;
+      back = is.works.background;
+      keeps = subst (λ (ps : List Packet). KeepsDraw s.draw.work s.draw.taken ps) (sym is.draw_sent)
+          (subst (λ (ps : List Packet). KeepsDraw s.draw.work ps []) (sym is.draw_taken) is.works.draw_keeps);
+      own = none_seen s.draw.place (stands_at lock draw_view) is.draw_place refl;
+    }
 
 abbrev new_dbase : List BaseLine → TableId → DbaseSite
 new_dbase dbase lock = record { work = base.opening_work dbase; place = stands_at lock dbase_view }
 
-dbase_new : (g : Setup) (dbase : List BaseLine) (lock : TableId) (s : Sites) → AreNew g dbase lock s → DbaseSeatKeeps dbase g.channels s.dbase
+dbase_new : (g : Setup) (dbase : List BaseLine) (lock : TableId) (s : AnySites) → AreNew g dbase lock s → DbaseSeatKeeps dbase g.channels s.dbase
 dbase_new g dbase lock s is =
     let path : new_dbase dbase lock ≡ s.dbase = λ i. record { work = (sym is.dbase_work) i; place = (sym is.dbase_place) i } in
     subst (DbaseSeatKeeps dbase g.channels) path (record { holds = is.holds; own = tt })
 
-pub new_keeps : (g : Setup) (dbase : List BaseLine) (lock : TableId) (s : Sites) (bytes : Option (List ℕ)) → g.merges ≡ length (asked_dbase dbase) →
-    AreNew g dbase lock s → SeatsKeep g dbase s bytes bytes
+pub new_keeps : (g : Setup) (dbase : List BaseLine) (lock : TableId) (s : AnySites) (bytes : Option (List ℕ)) →
+    g.merges ≡ length (asked_dbase dbase) → AreNew g dbase lock s → AnySeatsKeep g dbase s bytes bytes
 new_keeps g dbase lock s bytes merges is =
     record {
       app = app_new g dbase lock s bytes merges is;
       cull = cull_new g dbase lock s is;
-      draw = draw_new g dbase lock s merges is;
+      draw = draw_new g dbase lock s is;
       dbase = dbase_new g dbase lock s is;
     }
 
@@ -154,7 +127,14 @@ new_keeps g dbase lock s bytes merges is =
 pub probe_new : (probe : Option Segment) (lock : TableId) (s : ProbeSite) → IfThere WayKeeps probe s.way → s.place ≡ stands_at lock probe_view →
     ProbeSeatKeeps probe s
 probe_new probe lock s keeps place =
-    record { way = keeps; own = subst (λ (p : Place). of p.number p.seen ≡ []) (sym place) refl }
+    record { way = keeps; own = none_seen s.place (stands_at lock probe_view) place refl }
+
+-- CULL and DRAW
+
+-- DRAW of whole lists before the first step
+pub whole_draw_new : (lens : Lens) (back : List ℕ) → DrawPart lens back opening_draw [] []
+whole_draw_new lens back =
+    (opening_law (record { lines = []; merges = 0; lens = lens; back = back; ahead = 0; channels = 0 }) [] own_seats [] refl refl).draw
 
 -- What was made
 

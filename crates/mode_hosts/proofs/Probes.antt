@@ -1,6 +1,6 @@
 -- The probe: the way from the application to the cull is as one link, and each Frame went past the probe.
-use Rattle.std.proofs.Common.{◌≡◌, ℕ, zero, suc, ◌≤◌, true, false, List, [], length, min, Option, None, Some, IfSome, IfNone, refl, sym, ap, ◌∙◌, subst, arith}
-use Rattle.std.proofs.lemmas.List.{length-map, length-take, take_all}
+use Rattle.std.proofs.Common.{◌≡◌, ℕ, zero, suc, ◌≤◌, true, false, List, [], length, Option, None, Some, IfSome, IfNone, refl, sym, ap, ◌∙◌, subst, arith}
+use Rattle.std.proofs.lemmas.List.{length-map, take_all}
 use Rattle.atomic_table.specs.Seated.{TableId}
 use Rattle.seat_lock.specs.Log.{of}
 use Rattle.seat_lock.proofs.Logs.{of_found}
@@ -16,25 +16,26 @@ use Rattle.play_format.specs.Plays.{Script}
 use Rattle.stage_parts.specs.declared.packets.Packet.{Packet}
 use Rattle.stage_parts.specs.Packets.{loads_in, LinkPart}
 use Rattle.stage_parts.specs.States.{Setup, Seats, PipeState}
-use Rattle.stage_parts.specs.Parts.{sent_and_held}
 use Rattle.stage_parts.specs.Pipes.{PipeFits}
 use Rattle.stage_parts.specs.Laws.{HasEditsInRange}
-use Rattle.stage_parts.proofs.Places.{front_of, each_all}
-use Rattle.stage_parts.proofs.Sent.{sent_load}
+use Rattle.stage_parts.proofs.Places.{each_all}
 use Rattle.stage_parts.proofs.Founds.{frames_are_all}
 use Rattle.stage_parts.proofs.Numbers.{own_by_number}
-use Rattle.stage_parts.proofs.Counting.{held_some, are_many, counting_law}
+use Rattle.stage_parts.proofs.Counting.{are_many, counting_law}
 use Rattle.isect_stage.specs.Asking.{nearest_in_state, nearest_hits}
 use Rattle.isect_stage.specs.Laws.{ApplicationLaw, LinksLaw}
+use Rattle.stream_stages.specs.WholeFrames.{WholeFramesLaw}
 use Rattle.pipe_plays.specs.declared.played.PlayEnd.{PlayEnd}
 use Rattle.pipe_plays.specs.declared.played.PlayEnd.TheVariants as ends
 use Rattle.pipe_plays.specs.Plays.{setup_of, CanRun}
 use Rattle.pipe_plays.specs.Laws.{ShownLaw}
 use Rattle.mode_hosts.specs.Sites.{WaySite, IfThere}
-use Rattle.mode_hosts.specs.Gathering.{own_seats, CameHome, IsPipeOf, pipe_of}
+use Rattle.mode_hosts.specs.Gathering.{own_seats}
+use Rattle.mode_hosts.specs.AnySeats.{pipe_around}
 use Rattle.mode_hosts.specs.Probes.{AllSites, CameOver, AreAllTogether, WayKeeps, AllKeep, AllCameHome, answers_of, has_failed}
 use Rattle.mode_hosts.specs.Plays.{IsProbed}
-use Rattle.mode_hosts.proofs.Gathers.{gathers}
+use Rattle.mode_hosts.proofs.Gathers.{AreHome, have_pipe}
+use Rattle.mode_hosts.proofs.Passing.{loads_below, past_both}
 
 -- The seats that came home
 
@@ -56,42 +57,37 @@ one_link law (Some segment) sent None taken keeps over = absurd keeps
 one_link law (Some segment) sent (Some way) taken keeps over = law way.work sent way.taken way.sent taken over.0 keeps.keeps over.1
 
 pub four_home : LinksLaw → (g : Setup) (lines : List BaseLine) (probe : Option Segment) (lock : TableId) (s : AllSites) (log : Log)
-    (bytes bytes' : Option (List ℕ)) → AreAllTogether lock s → AllKeep g lines probe s bytes bytes' → AllCameHome s log → CameHome s.four log
+    (bytes bytes' : Option (List ℕ)) → AreAllTogether lock s → AllKeep g lines probe s bytes bytes' → AllCameHome s log → AreHome lock s.four log
 four_home law g lines probe lock s log bytes bytes' together keeps home =
     let none : of 4 s.probe.place.seen ≡ [] =
     subst (λ (k : ℕ). of k s.probe.place.seen ≡ []) together.probe.number keeps.probe.own in
     record {
-      legal = home.legal;
-      within = within_four log (of_found 4 s.probe.place.seen log home.probe ∙ none) home.within;
-      app = home.app;
-      cull = home.cull;
-      draw = home.draw;
-      dbase = home.dbase;
-      link_a = one_link law probe s.four.app.sent s.probe.way s.four.cull.taken keeps.probe.way home.link_a;
-      link_b = home.link_b;
-      link_c = home.link_c;
+      desks = together.desks;
+      home = record {
+        legal = home.legal;
+        within = within_four log (of_found 4 s.probe.place.seen log home.probe ∙ none) home.within;
+        app = home.app;
+        cull = home.cull;
+        draw = home.draw;
+        dbase = home.dbase;
+        link_a = one_link law probe s.four.app.sent s.probe.way s.four.cull.taken keeps.probe.way home.link_a;
+        link_b = home.link_b;
+        link_c = home.link_c;
+      };
+      linked = together.pieces;
+      pieces = home.pieces;
     }
 
 -- The answers of a probe
 
--- no more loads were received than were sent or are held
-loads_below : (sent taken : List Packet) (held : Option Packet) → LinkPart sent taken →
-    length (loads_in taken) ≤ length (loads_in (sent_and_held sent held))
-loads_below sent taken held link =
-    let all = loads_in (sent_and_held sent held) in
-    let front = front_of (loads_in taken) all (sent_load sent taken held link) in
-    let short : length (loads_in taken) ≡ min (length (loads_in taken)) (length all) = ap length front ∙ length-take (length (loads_in taken)) all in
-    grind (arith, short)
-
-module _ (g : Setup) (dbase : List BaseLine) (seats : Seats) (p : PipeState) (fits : PipeFits g dbase seats p) where
+module _ (g : Setup) (dbase : List BaseLine) (seats : Seats) (p : PipeState) (fits : PipeFits g dbase seats p) (a_taken : List Packet)
+    (past : length p.c.sent ≤ length (loads_in a_taken)) where
   -- once the application has closed, a load of each Frame came to the cull
-  all_past : p.app.closed ≡ true → p.app.frames ≤ length (loads_in p.a.taken)
+  all_past : p.app.closed ≡ true → p.app.frames ≤ length (loads_in a_taken)
   all_past closed =
       let many = are_many g dbase seats p fits in
       let back = (counting_law g dbase seats p fits).ends.back closed in
-      let some = held_some p.c.sent p.draw.held in
-      let below = loads_below p.b.sent p.b.taken p.cull.held fits.link_b in
-      omega (arith, back, many.c_taken, some, many.c, below, many.b_loads)
+      omega (arith, back, many.c_taken, past)
 
   -- there is a nearest hit, or none, for each Frame
   hits_many : (segment : Segment) → length (nearest_hits g.channels segment p.log) ≡ p.app.frames
@@ -104,16 +100,16 @@ module _ (g : Setup) (dbase : List BaseLine) (seats : Seats) (p : PipeState) (fi
 
   -- so a probe between the application and the cull, to which memory did not run out, has answered for each Frame
   all_answered : ApplicationLaw → HasEditsInRange p.log → p.app.closed ≡ true → (segment : Segment) (way : WaySite) → WayKeeps segment way →
-      CameOver p.a.sent (Some way) p.a.taken → way.work.failed ≡ false → way.work.isect.answers ≡ nearest_hits g.channels segment p.log
+      CameOver p.a.sent (Some way) a_taken → way.work.failed ≡ false → way.work.isect.answers ≡ nearest_hits g.channels segment p.log
   all_answered law fit closed segment way keeps over whole =
       let own = own_by_number seats.app (opening_state g.channels) p.log fits.history.legal fits.history.app_entries in
       let asked = law g seats.app p.app p.log way.work p.a.sent way.taken way.sent fit own fits.app over.0 keeps.keeps whole in
-      let past = all_past closed in
-      let through = loads_below way.sent p.a.taken way.work.held over.1 in
+      let all = all_past closed in
+      let through = loads_below way.sent a_taken way.work.held over.1 in
       let passes = ap (λ (ps : List Packet). length (loads_in ps)) keeps.keeps.passes in
       let many = hits_many way.work.isect.segment in
       asked.front
-      ∙ take_all (length (loads_in way.taken)) (nearest_hits g.channels way.work.isect.segment p.log) (omega (arith, past, through, passes, many))
+      ∙ take_all (length (loads_in way.taken)) (nearest_hits g.channels way.work.isect.segment p.log) (omega (arith, all, through, passes, many))
       ∙ ap (λ (s : Segment). nearest_hits g.channels s p.log) keeps.segment
 
 -- What a play leaves of its probe
@@ -147,23 +143,24 @@ pub record HaveAnswered (s : AllSites) (probes : List (Option Near)) : Type 0 wh
   pub whole : has_failed s.probe.way ≡ false
   pub answers : probes ≡ answers_of s.probe.way
 
-pub probed : ShownLaw → ApplicationLaw → LinksLaw → (play : Script) (ahead : ℕ) (probe : Option Segment) (lock : TableId) (s : AllSites) (end : PlayEnd)
-    (log : Log) (probes : List (Option Near)) (bytes bytes' : Option (List ℕ)) → CanRun play ahead → AreAllTogether lock s →
-    AllKeep (setup_of play ahead) play.dbase probe s bytes bytes' → AllCameHome s log → (end ≡ ends.Done → HaveAnswered s probes) →
-    ((end ≡ ends.Done → ⊥) → probes ≡ []) → IsProbed play.channels probe end log probes
-probed shown law links play ahead probe lock s end log probes bytes bytes' can together keeps home done early =
+pub probed : ShownLaw → WholeFramesLaw → ApplicationLaw → LinksLaw → (play : Script) (ahead : ℕ) (probe : Option Segment) (lock : TableId)
+    (s : AllSites) (end : PlayEnd) (log : Log) (probes : List (Option Near)) (bytes bytes' : Option (List ℕ)) → CanRun play ahead →
+    AreAllTogether lock s → AllKeep (setup_of play ahead) play.dbase probe s bytes bytes' → AllCameHome s log →
+    (end ≡ ends.Done → HaveAnswered s probes) → ((end ≡ ends.Done → ⊥) → probes ≡ []) → IsProbed play.channels probe end log probes
+probed shown whole law links play ahead probe lock s end log probes bytes bytes' can together keeps home done early =
     let g = setup_of play ahead in
     let four = four_home links g play.dbase probe lock s log bytes bytes' together keeps home in
-    let pipe : IsPipeOf g play.dbase s.four log bytes bytes' =
-    gathers g play.dbase lock s.four log bytes bytes' refl together.desks keeps.four four in
-    let p = pipe_of play.dbase s.four log pipe.stream in
+    let pipe = have_pipe whole play ahead lock s.four log bytes bytes' can keeps.four four in
+    let p = pipe_around play.dbase s.four pipe.between log pipe.stream in
     let fit = (shown play ahead own_seats p can pipe.fits).now.in_range in
+    let past = past_both s.four.cull.work s.four.draw.work s.four.cull.taken s.four.cull.sent s.four.draw.taken s.four.draw.sent
+    keeps.four.cull.keeps keeps.four.draw.keeps home.link_b in
     record {
       all = λ is.
           let have = done is in
           let closed = (counting_law g play.dbase own_seats p pipe.fits).ends.app have.app in
           hits_of play.channels log probes s.four.app.sent s.four.cull.taken probe s.probe.way keeps.probe.way home.link_a have.whole have.answers
-          (all_answered g play.dbase own_seats p pipe.fits law fit closed);
+          (all_answered g play.dbase own_seats p pipe.fits s.four.cull.taken past law fit closed);
       none = no_hits probes end probe s.probe.way keeps.probe.way (λ is. (done is).answers) early;
       early = early;
     }

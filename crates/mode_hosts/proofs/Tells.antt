@@ -14,9 +14,11 @@ use Rattle.pipe_plays.specs.Plays.{setup_of, CanRun}
 use Rattle.pipe_plays.specs.Played.{Blames, end_of}
 use Rattle.pipe_plays.specs.Laws.{LeavesLaw}
 use Rattle.pipe_plays.proofs.Ended.{faulted, unfaulted}
-use Rattle.mode_hosts.specs.Gathering.{own_seats, Sites, AreAtDesks, SeatsKeep, CameHome, pipe_of}
+use Rattle.stream_stages.specs.WholeFrames.{WholeFramesLaw}
+use Rattle.mode_hosts.specs.Gathering.{own_seats}
+use Rattle.mode_hosts.specs.AnySeats.{AnySites, AnySeatsKeep, pipe_around}
 use Rattle.mode_hosts.specs.Plays.{IsPlayed, EndBlames}
-use Rattle.mode_hosts.proofs.Gathers.{gathers}
+use Rattle.mode_hosts.proofs.Gathers.{AreHome, have_pipe}
 
 -- The database process at its end
 
@@ -41,16 +43,16 @@ dbase_done lines channels seat w log holds ended =
     all_passed lines w.at (stands.rest ∙ none_left w.rest parts.0)
 
 -- The two stages that make entries have ended.
-pub record HaveEnded (s : Sites) : Type 0 where
+pub record HaveEnded (s : AnySites) : Type 0 where
   pub app : s.app.work.state.ended ≡ true
   pub dbase : has_ended s.dbase.work ≡ true
 
-pub played : LeavesLaw → (play : Script) (ahead : ℕ) (lock : TableId) (s : Sites) (end : PlayEnd) (log : Log) (stats : List Stats)
-    (bytes bytes' : Option (List ℕ)) → CanRun play ahead → AreAtDesks lock s → SeatsKeep (setup_of play ahead) play.dbase s bytes bytes' →
-    CameHome s log → stats ≡ s.app.work.state.stats → (end ≡ ends.Done → HaveEnded s) → IsPlayed play ahead end log stats bytes bytes'
-played law play ahead lock s end log stats bytes bytes' can desks keeps home is ended =
-    let pipe = gathers (setup_of play ahead) play.dbase lock s log bytes bytes' refl desks keeps home in
-    let left = law play ahead own_seats (pipe_of play.dbase s log pipe.stream) bytes bytes' can pipe.fits pipe.wrote in
+pub played : LeavesLaw → WholeFramesLaw → (play : Script) (ahead : ℕ) (lock : TableId) (s : AnySites) (end : PlayEnd) (log : Log)
+    (stats : List Stats) (bytes bytes' : Option (List ℕ)) → CanRun play ahead → AnySeatsKeep (setup_of play ahead) play.dbase s bytes bytes' →
+    AreHome lock s log → stats ≡ s.app.work.state.stats → (end ≡ ends.Done → HaveEnded s) → IsPlayed play ahead end log stats bytes bytes'
+played law whole play ahead lock s end log stats bytes bytes' can keeps home is ended =
+    let pipe = have_pipe whole play ahead lock s log bytes bytes' can keeps home in
+    let left = law play ahead own_seats (pipe_around play.dbase s pipe.between log pipe.stream) bytes bytes' can pipe.fits pipe.wrote in
     subst (λ (ss : List Stats). IsPlayed play ahead end log ss bytes bytes') (sym is)
     (record {
       now = left.now;

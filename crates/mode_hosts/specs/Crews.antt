@@ -2,10 +2,9 @@
 use Rattle.std.specs.Prelude.{Bool, false, if◌then◌else◌, Option, None, Some, IsSome, is_some}
 use Rattle.stage_parts.specs.declared.answers.Did.{Did}
 use Rattle.stage_parts.specs.declared.answers.Did.TheVariants as did
-use Rattle.frame_stages.specs.CullWorks.{CullWork}
-use Rattle.frame_stages.specs.Works.{DrawWork}
 use Rattle.mode_hosts.specs.declared.modes.Mode.{Mode}
 use Rattle.mode_hosts.specs.declared.modes.Mode.TheVariants as mode
+use Rattle.mode_hosts.specs.Works.{AnyCullWork, AnyDrawWork}
 use Rattle.mode_hosts.specs.Sites.{Site, DbaseSite, ProbeSite, CrewState}
 
 -- what the polls of two stages came to: one of them did something, or one has to wait, or both are over
@@ -50,7 +49,7 @@ abbrev pub all_of : CrewsState → CrewState
 all_of crews = united (united crews.caller crews.cull) (united crews.draw (united crews.dbase crews.probe))
 
 -- a crew with all stages
-abbrev pub full_crew : Site CullWork → Site DrawWork → DbaseSite → ProbeSite → CrewState
+abbrev pub full_crew : Site AnyCullWork → Site AnyDrawWork → DbaseSite → ProbeSite → CrewState
 full_crew cull draw dbase probe = record { cull = Some cull; draw = Some draw; dbase = Some dbase; probe = Some probe }
 
 -- the crew has all stages
@@ -66,7 +65,7 @@ abbrev pub unless : {X : Type 0} → Bool → X → Option X
 unless b x = if b then None else Some x
 
 -- a crew of these stages, without the probe
-abbrev pub crew_with : Option (Site CullWork) → Option (Site DrawWork) → Option DbaseSite → CrewState
+abbrev pub crew_with : Option (Site AnyCullWork) → Option (Site AnyDrawWork) → Option DbaseSite → CrewState
 crew_with cull draw dbase = record { cull = cull; draw = draw; dbase = dbase; probe = None }
 
 -- the crew of the probe's desk
@@ -75,7 +74,7 @@ probe_crew probe = record { cull = None; draw = None; dbase = None; probe = Some
 
 -- The crews of a mode: the database process has a host of its own, or is on the caller's thread. The probe has a crew of its
 -- own.
-abbrev pub divided : Mode → (own : Bool) → Site CullWork → Site DrawWork → DbaseSite → ProbeSite → CrewsState
+abbrev pub divided : Mode → (own : Bool) → Site AnyCullWork → Site AnyDrawWork → DbaseSite → ProbeSite → CrewsState
 divided mode.Appculldraw own cull draw dbase probe =
     record {
       caller = crew_with (Some cull) (Some draw) (unless own dbase);

@@ -1,4 +1,4 @@
--- What the seats of a play keep, what comes home of them, and the pipe that this makes.
+-- What the seats of a play keep whose draw lists go whole, what comes home of seats, and the pipe that this makes.
 use Rattle.std.specs.Prelude.{◌≡◌, ℕ, ◌≤◌, List, [], Option, Some}
 use Rattle.std.specs.Io.KnownBytes.{append_known}
 use Rattle.atomic_table.specs.Seated.{TableId}
@@ -20,12 +20,16 @@ use Rattle.mode_hosts.specs.Sites.{Place, Site, DbaseSite, AppWrote, AreApp, Are
 abbrev pub own_seats : Seats
 own_seats = record { app = 0; dbase = 3 }
 
--- The seats of the four stages of a play.
-pub record Sites : Type 0 where
+-- The seats of the four stages of a play, however CULL and DRAW work.
+pub record SitesOf (X Y : Type 0) : Type 0 where
   pub app : Site AppWork
-  pub cull : Site CullWork
-  pub draw : Site DrawWork
+  pub cull : Site X
+  pub draw : Site Y
   pub dbase : DbaseSite
+
+-- where both hand on whole draw lists
+abbrev pub Sites : Type 0
+Sites = SitesOf CullWork DrawWork
 
 -- a desk of this number at this lock
 pub record IsDesk (id : TableId) (k : ℕ) (p : Place) : Type 0 where
@@ -33,7 +37,7 @@ pub record IsDesk (id : TableId) (k : ℕ) (p : Place) : Type 0 where
   pub lock : p.stand.lock ≡ Some id
 
 -- The desks are those of one lock, which has a seat for each, and one for the probe.
-pub record AreAtDesks (lock : TableId) (s : Sites) : Type 0 where
+pub record AreAtDesks {X Y : Type 0} (lock : TableId) (s : SitesOf X Y) : Type 0 where
   pub app : IsDesk lock 0 s.app.place
   pub cull : IsDesk lock 1 s.cull.place
   pub draw : IsDesk lock 2 s.draw.place
@@ -97,7 +101,7 @@ pipe_of lines s log stream =
 
 -- The seats came home: the closed log is legal, has no entries of other numbers than theirs, and goes on from what each desk
 -- has seen with no further entry of its number; and on each link what was received is a front of what was sent.
-pub record CameHome (s : Sites) (log : Log) : Type 0 where
+pub record CameHome {X Y : Type 0} (s : SitesOf X Y) (log : Log) : Type 0 where
   pub legal : (channels : ℕ) → IsLegal channels log
   pub within : (k : ℕ) → 4 ≤ k → of k log ≡ []
   pub app : Found 0 s.app.place.seen log

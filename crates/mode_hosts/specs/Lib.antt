@@ -1,9 +1,11 @@
+pub mod Works
 pub mod Sites
 pub mod Seats
 pub mod Crews
 pub mod Hosts
 pub mod Posts
 pub mod Gathering
+pub mod AnySeats
 pub mod Probes
 pub mod Homes
 pub mod Deals

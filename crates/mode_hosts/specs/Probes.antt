@@ -1,5 +1,5 @@
 -- The probe between the application and the cull, and all seats of a play together.
-use Rattle.std.specs.Prelude.{◌≡◌, ℕ, ◌≤◌, Bool, false, List, [], Option, None, Some}
+use Rattle.std.specs.Prelude.{◌≡◌, ℕ, ◌≤◌, Bool, false, List, [], length, take, Option, None, Some}
 use Rattle.atomic_table.specs.Seated.{TableId}
 use Rattle.seat_lock.specs.Log.{of, Found}
 use Rattle.frame_link.specs.Link.{Link}
@@ -11,12 +11,14 @@ use Rattle.stage_parts.specs.declared.packets.Packet.{Packet}
 use Rattle.stage_parts.specs.Packets.{LinkPart}
 use Rattle.stage_parts.specs.States.{Setup}
 use Rattle.isect_stage.specs.Probing.{ProbeKeeps}
+use Rattle.mode_hosts.specs.Works.{cull_links, draw_links, gone_over, came_over}
 use Rattle.mode_hosts.specs.Sites.{WaySite, ProbeSite, ProbeGoes, IfThere}
-use Rattle.mode_hosts.specs.Gathering.{Sites, IsDesk, AreAtDesks, SeatsKeep, SeatsGo}
+use Rattle.mode_hosts.specs.Gathering.{IsDesk, AreAtDesks}
+use Rattle.mode_hosts.specs.AnySeats.{AnySites, AnySeatsKeep, AnySeatsGo}
 
 -- The seats of a play: those of the four stages, and the probe's.
 pub record AllSites : Type 0 where
-  pub four : Sites
+  pub four : AnySites
   pub probe : ProbeSite
 
 -- the ends of the way from the application to the cull are those of a link, or of two with the probe between them
@@ -30,13 +32,15 @@ CameOver sent None taken = LinkPart sent taken
 CameOver sent (Some way) taken = LinkPart sent way.taken × LinkPart way.sent taken
 
 -- The desks are those of one lock, which has a seat for each, and the ends are those of the links: from APP to CULL, through
--- the probe where there is one; from CULL to DRAW, and from DRAW to APP.
+-- the probe where there is one; from CULL to DRAW, and from DRAW to APP; and of the pieces from CULL to DRAW and back, where
+-- draw lists go in pieces, for both or for neither.
 pub record AreAllTogether (lock : TableId) (s : AllSites) : Type 0 where
   pub desks : AreAtDesks lock s.four
   pub probe : IsDesk lock 4 s.probe.place
   pub a : AreLinked s.four.app.send_at s.probe.way s.four.cull.take_at
   pub b : s.four.draw.take_at ≡ s.four.cull.send_at
   pub c : s.four.app.take_at ≡ s.four.draw.send_at
+  pub pieces : draw_links s.four.draw.work ≡ cull_links s.four.cull.work
 
 -- What the probe of a segment keeps: its part.
 pub record WayKeeps (asked : Segment) (way : WaySite) : Type 0 where
@@ -52,16 +56,17 @@ pub record ProbeSeatKeeps (asked : Option Segment) (s : ProbeSite) : Type 0 wher
 -- What the seats of a play keep, with the bytes of the frame sink before the play and now.
 pub record AllKeep (g : Setup) (lines : List BaseLine) (asked : Option Segment) (s : AllSites)
     (bytes bytes' : Option (List ℕ)) : Type 0 where
-  pub four : SeatsKeep g lines s.four bytes bytes'
+  pub four : AnySeatsKeep g lines s.four bytes bytes'
   pub probe : ProbeSeatKeeps asked s.probe
 
 -- The seats after polls of their stages, with the bytes of the frame sink before and after them.
 pub record AllGo (old new : AllSites) (bytes bytes' : Option (List ℕ)) : Type 0 where
-  pub four : SeatsGo old.four new.four bytes bytes'
+  pub four : AnySeatsGo old.four new.four bytes bytes'
   pub probe : ProbeGoes old.probe new.probe
 
 -- The seats came home: the closed log is legal, has no entries of other numbers than theirs, and goes on from what each desk
--- has seen with no further entry of its number; and on each link what was received is a front of what was sent.
+-- has seen with no further entry of its number; and on each link what was received is a front of what was sent. What came
+-- back of the pieces is not spoken of.
 pub record AllCameHome (s : AllSites) (log : Log) : Type 0 where
   pub legal : (channels : ℕ) → IsLegal channels log
   pub within : (k : ℕ) → 5 ≤ k → of k log ≡ []
@@ -73,6 +78,7 @@ pub record AllCameHome (s : AllSites) (log : Log) : Type 0 where
   pub link_a : CameOver s.four.app.sent s.probe.way s.four.cull.taken
   pub link_b : LinkPart s.four.cull.sent s.four.draw.taken
   pub link_c : LinkPart s.four.draw.sent s.four.app.taken
+  pub pieces : came_over s.four.draw.work ≡ take (length (came_over s.four.draw.work)) (gone_over s.four.cull.work)
 
 -- what the probe answered; nothing where there is none
 abbrev pub answers_of : Option WaySite → List (Option Near)

@@ -19,6 +19,7 @@ use Rattle.frame_stages.specs.CullWorks.{CullWork, CullKeeps}
 use Rattle.frame_stages.specs.Works.{DrawWork, IsGivenAsBefore}
 use Rattle.frame_stages.specs.DbaseWorks.{DbaseWork, DbaseHolds}
 use Rattle.isect_stage.specs.Probing.{ProbeWork, ProbeKeeps}
+use Rattle.mode_hosts.specs.Works.{AnyCullWork, AnyDrawWork, cull_links, draw_links, cull_lens, draw_lens, draw_back, KeepsCull, KeepsDraw}
 
 -- Where a desk stands: its number, the log that it has seen, and what no turn changes.
 pub record Place : Type 0 where
@@ -55,8 +56,8 @@ pub record ProbeSite : Type 0 where
 
 -- What one host polls, of the stages that need no frame sink.
 pub record CrewState : Type 0 where
-  pub cull : Option (Site CullWork)
-  pub draw : Option (Site DrawWork)
+  pub cull : Option (Site AnyCullWork)
+  pub draw : Option (Site AnyDrawWork)
   pub dbase : Option DbaseSite
   pub probe : Option ProbeSite
 
@@ -75,20 +76,37 @@ pub record Rests (old new : Place) : Type 0 where
   pub desk : IsSameDesk old new
   pub found : Found old.number old.seen new.seen
 
--- CULL after polls: it adds no entry, and keeps its part.
+-- CULL of whole lists after polls: it adds no entry, and keeps its part.
 pub record CullGoes (old new : Site CullWork) : Type 0 where
   pub rests : Rests old.place new.place
   pub links : AreSameLinks old new
   pub lens : new.work.lens ≡ old.work.lens
   pub keeps : CullKeeps old.work old.taken old.sent → CullKeeps new.work new.taken new.sent
 
--- DRAW after polls: it adds no entry, and keeps its part.
+-- DRAW of whole lists after polls: it adds no entry, and keeps its part.
 pub record DrawGoes (old new : Site DrawWork) : Type 0 where
   pub rests : Rests old.place new.place
   pub links : AreSameLinks old new
   pub given : IsGivenAsBefore old.work new.work
   pub part : DrawPart old.work.lens old.work.back old.work.state old.taken old.sent →
       DrawPart new.work.lens new.work.back new.work.state new.taken new.sent
+
+-- CULL after polls, of whole lists or in pieces: it adds no entry, and keeps its part; the links of the pieces stay.
+pub record AnyCullGoes (old new : Site AnyCullWork) : Type 0 where
+  pub rests : Rests old.place new.place
+  pub links : AreSameLinks old new
+  pub piece_links : cull_links new.work ≡ cull_links old.work
+  pub lens : cull_lens new.work ≡ cull_lens old.work
+  pub keeps : KeepsCull old.work old.taken old.sent → KeepsCull new.work new.taken new.sent
+
+-- DRAW after polls, of whole lists or in pieces: it adds no entry, and keeps its part; the links of the pieces stay.
+pub record AnyDrawGoes (old new : Site AnyDrawWork) : Type 0 where
+  pub rests : Rests old.place new.place
+  pub links : AreSameLinks old new
+  pub piece_links : draw_links new.work ≡ draw_links old.work
+  pub lens : draw_lens new.work ≡ draw_lens old.work
+  pub back : draw_back new.work ≡ draw_back old.work
+  pub keeps : KeepsDraw old.work old.taken old.sent → KeepsDraw new.work new.taken new.sent
 
 -- the entries are DBASE's
 abbrev pub AreBase : List Entry → Type 0
@@ -145,7 +163,7 @@ pub record ProbeGoes (old new : ProbeSite) : Type 0 where
 
 -- A crew after polls: the same stages, each after polls of its own.
 pub record CrewGoes (old new : CrewState) : Type 0 where
-  pub cull : IfThere CullGoes old.cull new.cull
-  pub draw : IfThere DrawGoes old.draw new.draw
+  pub cull : IfThere AnyCullGoes old.cull new.cull
+  pub draw : IfThere AnyDrawGoes old.draw new.draw
   pub dbase : IfThere DbaseGoes old.dbase new.dbase
   pub probe : IfThere ProbeGoes old.probe new.probe

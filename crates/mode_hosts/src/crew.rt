@@ -1,7 +1,7 @@
 //! What one host polls.
 ghost use Rattle.std.specs.Prelude.{◌≡◌, ◌&&◌, not, is_some};
 ghost use Rattle.std.specs.Option.{option_map};
-ghost use Rattle.mode_hosts.specs.Sites.{CullGoes, DrawGoes, DbaseGoes, ProbeGoes, CrewGoes, IfThere};
+ghost use Rattle.mode_hosts.specs.Sites.{AnyCullGoes, AnyDrawGoes, DbaseGoes, ProbeGoes, CrewGoes, IfThere};
 ghost use Rattle.mode_hosts.specs.Seats.{cull_site, draw_site, dbase_site, probe_site, crew_state};
 ghost use Rattle.mode_hosts.specs.Crews.{together, first_of, united, has_way};
 
@@ -44,7 +44,7 @@ fn came_to(answer: Result<Did, StageError>) -> Did {
 
 /// A poll of the cull, where it is there.
 fn poll_cull<R: Wait, G: Gate>(cull: &mut Option<CullSeat<R>>, gate: &G) -> Did
-    ensures { IfThere CullGoes (option_map cull_site cull.old) (option_map cull_site cull.new) }
+    ensures { IfThere AnyCullGoes (option_map cull_site cull.old) (option_map cull_site cull.new) }
 {
     match cull {
         Some(seat) => came_to(seat.poll(gate)),
@@ -58,7 +58,7 @@ fn poll_draw<R: Threads + Wait + Sync, G: Gate>(
     draw: &mut Option<DrawSeat<R>>,
     gate: &G,
 ) -> Did
-    ensures { IfThere DrawGoes (option_map draw_site draw.old) (option_map draw_site draw.new) }
+    ensures { IfThere AnyDrawGoes (option_map draw_site draw.old) (option_map draw_site draw.new) }
 {
     match draw {
         Some(seat) => came_to(seat.poll(rt, gate)),

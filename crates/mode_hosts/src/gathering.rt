@@ -1,15 +1,17 @@
 //! What the seats leave, once all of them are home.
-ghost use Rattle.std.specs.Prelude.{◌≡◌, ◌<◌, ◌≤◌, ℕ, []};
+ghost use Rattle.std.specs.Prelude.{◌≡◌, ◌<◌, ◌≤◌, ℕ, [], length, take};
 ghost use Rattle.std.specs.Option.{option_map};
 ghost use Rattle.frame_link.specs.Ends.{ring_sent, ring_send_at, ring_taken, ring_take_at};
 ghost use Rattle.seat_lock.specs.Tokens.{lock_id};
 ghost use Rattle.stage_parts.specs.Packets.{LinkPart};
-ghost use Rattle.mode_hosts.specs.Seats.{way_site, probe_site};
+ghost use Rattle.mode_hosts.specs.Works.{cull_links, draw_links, gone_over, came_over};
+ghost use Rattle.mode_hosts.specs.Seats.{any_cull, any_draw, way_site, probe_site};
 ghost use Rattle.mode_hosts.specs.Probes.{AreLinked, AreAllTogether, CameOver, AllCameHome, answers_of};
 ghost use Rattle.mode_hosts.specs.Homes.{all_sites};
 
 use crate::closing::all_home;
 use crate::seats::{AllSeats, AppSeat, CullSeat, DrawSeat, ProbeWay};
+use crate::works::{AnyCull, AnyDraw};
 use draw_list::Stats;
 use frame_link::{RingSend, RingTake, home};
 use frame_stages::Packet;
@@ -19,6 +21,7 @@ use pf_scene::Scene;
 use seat_lock::SeatLock;
 use std::alloc::Global;
 use std::sync::Wait;
+use stream_stages::Piece;
 
 /// What a play leaves: the history, the numbers of the frames that came back, and what the probe answered.
 #[derive(Drop)]
@@ -66,6 +69,28 @@ fn way_home(
     }
 }
 
+/// On a link of pieces whose ends are in one thread again, what was received is a front of what was sent.
+fn cuts_home(gone: &mut RingSend<Piece>, came: &mut RingTake<Piece>)
+    requires { ring_take_at came.old ≡ ring_send_at gone.old }
+    ensures { ring_taken came.old ≡ take (length (ring_taken came.old)) (ring_sent gone.old) }
+{
+    home(gone, came);
+}
+
+/// On the link of the pieces, where there is one, what came to the draw is a front of what the cull sent.
+fn pieces_home(cull: &mut AnyCull, draw: &mut AnyDraw)
+    requires { draw_links (any_draw draw.old) ≡ cull_links (any_cull cull.old) }
+    ensures { came_over (any_draw draw.old) ≡ take (length (came_over (any_draw draw.old))) (gone_over (any_cull cull.old)) }
+{
+    match draw {
+        AnyDraw::Whole(_) => {}
+        AnyDraw::InPieces(draw) => match cull {
+            AnyCull::Whole(_) => unreachable!(),
+            AnyCull::InPieces(cull) => cuts_home(&mut cull.pieces, &mut draw.pieces),
+        },
+    }
+}
+
 /// What the seats of a lock leave, once they are home.
 pub(crate) fn gather<R: Wait, D: Wait + Drop>(
     rt: &R,
@@ -92,13 +117,13 @@ pub(crate) fn gather<R: Wait, D: Wait + Drop>(
         to: mut to_cull,
     } = app;
     let CullSeat {
-        stage: _,
+        stage: mut cull,
         desk: cull_desk,
         from: mut from_app,
         to: mut to_draw,
     } = cull;
     let DrawSeat {
-        stage: _,
+        stage: mut draw,
         desk: draw_desk,
         from: mut from_cull,
         to: mut to_app,
@@ -106,6 +131,7 @@ pub(crate) fn gather<R: Wait, D: Wait + Drop>(
     let answers = way_home(alloc, &mut to_cull, probe.way, &mut from_app);
     link_home(&mut to_draw, &mut from_cull);
     link_home(&mut to_app, &mut from_draw);
+    pieces_home(&mut cull, &mut draw);
     let scene = all_home(
         rt,
         lock,

@@ -23,6 +23,7 @@ use pipe_plays::{PlayEnd, Played, flush_frames};
 use seat_lock::SeatLock;
 use std::alloc::Global;
 use std::sync::Wait;
+use stream_stages::laws::streamed_frames_are_whole_ones;
 
 /// Whether memory ran out for the probe.
 fn has_failed(way: &Option<ProbeWay>) -> bool
@@ -102,6 +103,7 @@ pub(crate) fn leave<R: Wait, D: Wait + Drop, O: Sink>(
     a_pipe_shows_its_history();
     answers_follow_the_application();
     two_links_are_one();
+    streamed_frames_are_whole_ones();
     let app_ended = seats.app.stage.has_ended();
     let dbase_ended = seats.dbase.stage.has_ended();
     let probe_failed = has_failed(&seats.probe.way);

@@ -1,6 +1,7 @@
 //! Plays on threads: the stages of the pipe divided among hosts.
 #![tactic(auto)]
 
+mod beginning;
 mod bell;
 mod caller;
 mod closing;
@@ -16,6 +17,7 @@ mod parts;
 mod playing;
 mod posts;
 mod seats;
+mod works;
 
 pub use modes::{Mode, Setup};
 pub use pipe_plays::{PlayEnd, Played};

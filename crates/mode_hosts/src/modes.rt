@@ -33,6 +33,9 @@ pub struct Setup {
     /// The segment whose nearest hit is asked for in each frame, in eye coordinates of the first channel. The probe has a
     /// thread of its own in every mode.
     pub probe: Option<Segment>,
+    /// The most items of a piece, 1 to 4,096. Where it is there, the cull sends the draw lists of a frame in pieces while it
+    /// is still at work on it; else each with its frame, whole.
+    pub stream: Option<u32>,
 }
 
 /// The crews of a play: of the caller's thread, and of the hosts of the cull, of the draw, of the database process, and of

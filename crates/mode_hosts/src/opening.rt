@@ -1,5 +1,5 @@
 //! The seats of a play, before its first step.
-ghost use Rattle.std.specs.Prelude.{◌≡◌, ◌+◌, ℕ, [], IfOk, List, Option};
+ghost use Rattle.std.specs.Prelude.{◌≡◌, ◌+◌, ◌≤◌, ℕ, [], IfOk, IfSome, List, Option};
 ghost use Rattle.std.specs.Option.{option_map};
 ghost use Rattle.std.specs.Arc.{arc_value};
 ghost use Rattle.seat_lock.specs.Tokens.{lock_id};
@@ -8,16 +8,19 @@ ghost use Rattle.play_format.specs.Plays.{IsPlay};
 ghost use Rattle.pf_scene.specs.Scenes.{IsSmall};
 ghost use Rattle.pipe_plays.specs.Plays.{setup_of};
 ghost use Rattle.nearest_hit.specs.declared.segment.Segment.{Segment};
-ghost use Rattle.mode_hosts.specs.Seats.{way_site};
+ghost use Rattle.mode_hosts.specs.Works.{limit_of};
+ghost use Rattle.mode_hosts.specs.Seats.{any_cull, way_site};
 ghost use Rattle.mode_hosts.specs.Probes.{AreAllTogether, AllKeep};
-ghost use Rattle.mode_hosts.specs.Homes.{all_sites};
+ghost use Rattle.mode_hosts.specs.Homes.{all_sites, seats_of};
 ghost use Rattle.mode_hosts.specs.Deals.{IsNewWay};
 
+use crate::beginning::{Works, new_works};
 use crate::dealing::{Desks, new_desks};
+use crate::modes::Setup;
 use crate::parts::{Parts, all_made};
 use crate::seats::{AllSeats, AppSeat, CullSeat, DbaseSeat, DrawSeat, ProbeSeat, ProbeWay};
 use frame_link::{RingSend, RingTake, ring};
-use frame_stages::{AppStage, CullStage, DbaseStage, DrawStage, Packet};
+use frame_stages::{AppStage, DbaseStage, Packet};
 use isect_stage::ProbeStage;
 use nearest_hit::Segment;
 use pf_io::NoMemory;
@@ -85,80 +88,108 @@ fn new_way(alloc: Global, ahead: u8, probe: Option<Segment>) -> Result<Way, NoMe
     }
 }
 
-/// The seats of a play before its first step, where so many frames may be in flight and this segment is asked for.
+/// The links of a play: from the application to the cull, from there to the draw, and back to the application.
+#[derive(Drop)]
+pub(crate) struct Links {
+    to_cull: Way,
+    to_draw: Ends,
+    back: Ends,
+}
+
+/// The links of a play, through which nothing went, with the probe of this segment where there is one.
+fn new_links(alloc: Global, ahead: u8, probe: Option<Segment>) -> Result<Links, NoMemory>
+    ensures way { IfOk result (λ l. IsNewWay probe l.to_cull.send (option_map way_site l.to_cull.probe) l.to_cull.take) }
+    ensures to_draw { IfOk result (λ l. IsNewRing (ahead + 1) l.to_draw.send l.to_draw.take) }
+    ensures back { IfOk result (λ l. IsNewRing (ahead + 1) l.back.send l.back.take) }
+{
+    let to_cull = new_way(alloc, ahead, probe)?;
+    let to_draw = new_link(alloc, ahead)?;
+    let back = new_link(alloc, ahead)?;
+    Ok(Links {
+        to_cull,
+        to_draw,
+        back,
+    })
+}
+
+/// The parts of a play at their seats.
+fn seated<D>(parts: Parts<AppStage, Works, DbaseStage, Desks<D>, Links>) -> Opened<D>
+    ensures lock { result.lock ≡ parts.desks.lock }
+    ensures seats { result.seats ≡ seats_of parts }
+{
+    let Parts {
+        app,
+        works,
+        dbase,
+        desks,
+        links,
+    } = parts;
+    let Links {
+        to_cull,
+        to_draw,
+        back,
+    } = links;
+    let seats = AllSeats {
+        app: AppSeat {
+            stage: app,
+            desk: desks.app,
+            from: back.take,
+            to: to_cull.send,
+        },
+        cull: CullSeat {
+            stage: works.cull,
+            desk: desks.cull,
+            from: to_cull.take,
+            to: to_draw.send,
+        },
+        draw: DrawSeat {
+            stage: works.draw,
+            desk: desks.draw,
+            from: to_draw.take,
+            to: back.send,
+        },
+        dbase: DbaseSeat {
+            stage: dbase,
+            desk: desks.dbase,
+        },
+        probe: ProbeSeat {
+            desk: desks.probe,
+            way: to_cull.probe,
+        },
+    };
+    Opened {
+        lock: desks.lock,
+        seats,
+    }
+}
+
+/// The seats of a play before its first step, as the setup asks for them.
 pub(crate) fn open<D: Wait + Copy + Drop>(
     rt: D,
     alloc: Global,
     play: Play,
-    ahead: u8,
-    probe: Option<Segment>,
+    setup: &Setup,
 ) -> Result<Opened<D>, NoMemory>
-    requires ahead { IsSmall ahead }
+    requires ahead { IsSmall setup.now.ahead }
+    requires stream { IfSome setup.now.stream (λ n. (1 ≤ n) × (n ≤ 4096)) }
     ensures play { IsPlay play }
     ensures together { IfOk result (λ o. AreAllTogether (lock_id (arc_value o.lock)) (all_sites o.seats)) }
+    ensures limit { IfOk result (λ o. limit_of (any_cull o.seats.cull.stage) ≡ setup.now.stream) }
     ensures keeps { IfOk result (λ o. (bytes : Option (List ℕ))
-        → AllKeep (setup_of play ahead) play.dbase probe (all_sites o.seats) bytes bytes) }
+        → AllKeep (setup_of play setup.now.ahead) play.dbase setup.now.probe (all_sites o.seats) bytes bytes) }
 {
     let lens = play.lens();
     let back = play.back();
     let channels = play.channels();
     let merges = count_merges(play.dbase());
     let (app_lines, dbase_lines) = play.into_lists();
+    let ahead = setup.ahead;
     let parts = all_made(
         AppStage::new(alloc, app_lines, merges, lens, back, ahead, channels),
-        CullStage::new(alloc, lens),
-        DrawStage::new(alloc, lens, back),
+        new_works(alloc, lens, back, setup.stream),
         DbaseStage::new(alloc, dbase_lines),
         new_desks(rt, alloc, ahead, channels),
-        new_way(alloc, ahead, probe),
-        new_link(alloc, ahead),
-        new_link(alloc, ahead),
+        new_links(alloc, ahead, setup.probe),
     )?;
-    let Parts {
-        app,
-        cull,
-        draw,
-        dbase,
-        desks,
-        to_cull,
-        to_draw,
-        back,
-    } = parts;
-    let Desks {
-        lock,
-        app: app_desk,
-        cull: cull_desk,
-        draw: draw_desk,
-        dbase: dbase_desk,
-        probe: probe_desk,
-    } = desks;
-    let seats = AllSeats {
-        app: AppSeat {
-            stage: app,
-            desk: app_desk,
-            from: back.take,
-            to: to_cull.send,
-        },
-        cull: CullSeat {
-            stage: cull,
-            desk: cull_desk,
-            from: to_cull.take,
-            to: to_draw.send,
-        },
-        draw: DrawSeat {
-            stage: draw,
-            desk: draw_desk,
-            from: to_draw.take,
-            to: back.send,
-        },
-        dbase: DbaseSeat {
-            stage: dbase,
-            desk: dbase_desk,
-        },
-        probe: ProbeSeat {
-            desk: probe_desk,
-            way: to_cull.probe,
-        },
-    };
-    Ok(Opened { lock, seats })
+    Ok(seated(parts))
 }

@@ -23,7 +23,6 @@ use crate::hosts::Common;
 use crate::leaving::leave;
 use crate::modes::Setup;
 use crate::opening::{Opened, open};
-use nearest_hit::Segment;
 use pf_history::History;
 use pf_io::{Gate, NoMemory, Sink};
 use pipe_plays::laws::a_play_not_begun_leaves_nothing;
@@ -40,22 +39,22 @@ struct Ready<R, G> {
     common: Arc<Common<G>, Global>,
 }
 
-/// Opens a play, where there is memory for it.
+/// Opens a play as the setup asks for it, where there is memory for it.
 fn get_ready<R: Wait + Copy + Drop, G: Drop>(
     alloc: Global,
     rt: &R,
     play: Play,
-    ahead: u8,
-    probe: Option<Segment>,
+    setup: &Setup,
     gate: G,
 ) -> Result<Ready<R, G>, NoMemory>
-    requires ahead { IsSmall ahead }
+    requires ahead { IsSmall setup.now.ahead }
+    requires stream { IfSome setup.now.stream (λ n. (1 ≤ n) × (n ≤ 4096)) }
     ensures play { IsPlay play }
     ensures together { IfOk result (λ r. AreAllTogether (lock_id (arc_value r.opened.lock)) (all_sites r.opened.seats)) }
     ensures keeps { IfOk result (λ r. (bytes : Option (List ℕ))
-        → AllKeep (setup_of play ahead) play.dbase probe (all_sites r.opened.seats) bytes bytes) }
+        → AllKeep (setup_of play setup.now.ahead) play.dbase setup.now.probe (all_sites r.opened.seats) bytes bytes) }
 {
-    let opened = open(*rt, alloc, play, ahead, probe)?;
+    let opened = open(*rt, alloc, play, setup)?;
     let bell = Bell::new();
     let common = Arc::new(alloc, Common { bell, gate })?;
     Ok(Ready { opened, common })
@@ -64,7 +63,8 @@ fn get_ready<R: Wait + Copy + Drop, G: Drop>(
 /// Plays a play that is not stuck, its stages divided among hosts by the setup, and writes the pictures of its frames to
 /// `frames`, which the caller's thread alone uses; at the end it flushes the sink. A host for which there is no thread is
 /// polled by the caller. The stages pass the gate before each frame and each merge. Where the setup has a segment, a probe
-/// stands between the application and the cull, on a thread of its own, and finds its nearest hit in each frame.
+/// stands between the application and the cull, on a thread of its own, and finds its nearest hit in each frame. Where it has
+/// a limit for pieces, the draw lists go from the cull to the draw in pieces.
 pub fn play_all<
     R: Threads + Wait + Copy + Drop + Send + Sync + 'static,
     O: Sink,
@@ -73,6 +73,7 @@ pub fn play_all<
     requires can_end { IsStuck play.app play.dbase → ⊥ }
     requires some { 1 ≤ setup.now.ahead }
     requires few { setup.now.ahead ≤ 4 }
+    requires stream { IfSome setup.now.stream (λ n. (1 ≤ n) × (n ≤ 4096)) }
 
     // Its history is one of the play.
     ensures legal { IsLegal play.channels result.history.entries }
@@ -106,7 +107,7 @@ pub fn play_all<
     ensures calm { result.end ≢ PlayEnd.FrameFault → Calm (O.faults frames.old) (O.faults frames.new) }
 {
     a_play_not_begun_leaves_nothing();
-    match get_ready(alloc, rt, play, setup.ahead, setup.probe, gate) {
+    match get_ready(alloc, rt, play, setup, gate) {
         Ok(ready) => {
             let Ready { opened, common } = ready;
             let Opened { lock, seats } = opened;

@@ -1,11 +1,12 @@
 //! Each stage at its desk, between its links.
 ghost use Rattle.std.specs.Prelude.{◌≡◌};
 ghost use Rattle.pipe_plays.specs.Played.{Blames};
-ghost use Rattle.mode_hosts.specs.Sites.{AppGoes, CullGoes, DrawGoes, DbaseGoes, Rests, WayGoes, ProbeGoes};
+ghost use Rattle.mode_hosts.specs.Sites.{AppGoes, AnyCullGoes, AnyDrawGoes, DbaseGoes, Rests, WayGoes, ProbeGoes};
 ghost use Rattle.mode_hosts.specs.Seats.{place_of, app_site, cull_site, draw_site, dbase_site, way_site, probe_site};
 
+use crate::works::{AnyCull, AnyDraw};
 use frame_link::{RingSend, RingTake};
-use frame_stages::{AppStage, CullStage, DbaseStage, Did, DrawStage, Packet, StageError};
+use frame_stages::{AppStage, DbaseStage, Did, Packet, StageError};
 use isect_stage::ProbeStage;
 use pf_io::{Gate, Sink};
 use pf_scene::Scene;
@@ -25,7 +26,7 @@ pub(crate) struct AppSeat<R> {
 /// The cull at its desk.
 #[derive(Drop)]
 pub(crate) struct CullSeat<R> {
-    pub(crate) stage: CullStage,
+    pub(crate) stage: AnyCull,
     pub(crate) desk: SeatDesk<Scene, R>,
     pub(crate) from: RingTake<Packet>,
     pub(crate) to: RingSend<Packet>,
@@ -34,7 +35,7 @@ pub(crate) struct CullSeat<R> {
 /// The draw at its desk.
 #[derive(Drop)]
 pub(crate) struct DrawSeat<R> {
-    pub(crate) stage: DrawStage,
+    pub(crate) stage: AnyDraw,
     pub(crate) desk: SeatDesk<Scene, R>,
     pub(crate) from: RingTake<Packet>,
     pub(crate) to: RingSend<Packet>,
@@ -90,7 +91,7 @@ impl<R: Wait> AppSeat<R> {
 impl<R: Wait> CullSeat<R> {
     /// One poll of the cull.
     pub(crate) fn poll<G: Gate>(&mut self, gate: &G) -> Result<Did, StageError>
-        ensures { CullGoes (cull_site self.old) (cull_site self.new) }
+        ensures { AnyCullGoes (cull_site self.old) (cull_site self.new) }
     {
         self.stage
             .poll(&mut self.desk, &mut self.from, &mut self.to, gate)
@@ -104,7 +105,7 @@ impl<R: Wait> DrawSeat<R> {
         rt: &H,
         gate: &G,
     ) -> Result<Did, StageError>
-        ensures { DrawGoes (draw_site self.old) (draw_site self.new) }
+        ensures { AnyDrawGoes (draw_site self.old) (draw_site self.new) }
     {
         self.stage
             .poll(rt, &mut self.desk, &mut self.from, &mut self.to, gate)

@@ -26,4 +26,5 @@ returns-clause-home g c =
       link_a = c.way_home-answers.ensures.home;
       link_b = c.link_home.ensures;
       link_c = c.link_home-2.ensures;
+      pieces = c.pieces_home.ensures;
     })

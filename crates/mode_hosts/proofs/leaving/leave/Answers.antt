@@ -18,8 +18,8 @@ returns-clause-leaves g c = λ play ahead probe bytes can keeps.
     let kept = subst (λ (now : Option (List ℕ)). AllKeep (setup_of play ahead) play.dbase probe s bytes now) (sym came.bytes) keeps in
     let home = four_home c.two_links_are_one.ensures (setup_of play ahead) play.dbase probe lock s log bytes written c.requires kept
     c.gather-gathered.ensures.home in
-    played c.a_play_leaves_its_history.ensures play ahead lock s.four c.of-end.result log c.gather-gathered.result.stats.items bytes written can
-    c.requires.desks kept.four home c.gather-gathered.ensures.stats
+    played c.a_play_leaves_its_history.ensures c.streamed_frames_are_whole_ones.ensures play ahead lock s.four c.of-end.result log
+    c.gather-gathered.result.stats.items bytes written can kept.four home c.gather-gathered.ensures.stats
     (λ done.
     let end = sym c.of-end.ensures ∙ done in
     record {
@@ -32,8 +32,8 @@ returns-clause-probes g c = λ play ahead probe bytes can keeps.
     let s = all_sites c.args.seats in
     let came = c.finish-came.ensures in
     let answers = c.answers_at.ensures in
-    probed c.a_pipe_shows_its_history.ensures c.answers_follow_the_application.ensures c.two_links_are_one.ensures play ahead probe
-    (lock_id c.args.lock.now) s c.of-end.result c.gather-gathered.result.history.entries c.answers_at.result.items bytes
+    probed c.a_pipe_shows_its_history.ensures c.streamed_frames_are_whole_ones.ensures c.answers_follow_the_application.ensures
+    c.two_links_are_one.ensures play ahead probe (lock_id c.args.lock.now) s c.of-end.result c.gather-gathered.result.history.entries c.answers_at.result.items bytes
     (g.O.Sink.written c.args.frames.now) can c.requires keeps c.gather-gathered.ensures.home
     (λ done.
     let end = sym c.of-end.ensures ∙ done in

@@ -1,4 +1,4 @@
-use Rattle.std.proofs.Common.{◌≡◌, false, [], length, None, Some, refl, ap, ◌∙◌, subst}
+use Rattle.std.proofs.Common.{◌≡◌, [], length, Some, refl, ap, ◌∙◌, subst}
 use Rattle.seat_lock.specs.declared.view.View.{View}
 use Rattle.seat_lock.specs.Tokens.{lock_id}
 use Rattle.std.specs.Arc.{arc_value}
@@ -9,7 +9,8 @@ use Rattle.frame_stages.specs.AppWorks as app
 use Rattle.frame_stages.specs.DbaseWorks as base
 use Rattle.frame_stages.specs.DbaseWorks.{DbaseHolds}
 use Rattle.pipe_plays.specs.Plays.{setup_of}
-use Rattle.mode_hosts.specs.Deals.{stands_at}
+use Rattle.mode_hosts.specs.Seats.{any_cull, any_draw}
+use Rattle.mode_hosts.specs.Deals.{stands_at, AreNewWorks}
 use Rattle.mode_hosts.proofs.Opens.{new_keeps, probe_new, of_ok, one_ok}
 use Rattle.mode_hosts.proofs.opening.open.Goals as goal
 
@@ -22,7 +23,9 @@ returns-clause-together g c =
     let draw = of_ok _ made.desks desks.draw in
     let dbase = of_ok _ made.desks desks.dbase in
     let probe = of_ok _ made.desks desks.probe in
-    record {
+    let links = c.new_links.ensures in
+    rw (c.seated.ensures.lock, c.seated.ensures.seats)
+    (record {
       desks = record {
         app = record { number = ap (λ (v : View Entry). v.number) app.1; lock = ap Some app.0 };
         cull = record { number = ap (λ (v : View Entry). v.number) cull.1; lock = ap Some cull.0 };
@@ -31,14 +34,20 @@ returns-clause-together g c =
         seats = ap (λ (v : View Entry). v.seats) app.1;
       };
       probe = record { number = ap (λ (v : View Entry). v.number) probe.1; lock = ap Some probe.0 };
-      a = (of_ok _ made.to_cull c.new_way.ensures).linked;
-      b = (of_ok _ made.to_draw c.new_link.ensures).link;
-      c = (of_ok _ made.back c.new_link-2.ensures).link;
-    }
+      a = (of_ok _ made.links links.way).linked;
+      b = (of_ok _ made.links links.to_draw).link;
+      c = (of_ok _ made.links links.back).link;
+      pieces = (of_ok _ made.works c.new_works.ensures).links;
+    })
+
+pub returns-clause-limit : goal.returns-clause-limit
+returns-clause-limit g c =
+    rw c.seated.ensures.seats ((of_ok _ c.in_ok-parts.ensures.works c.new_works.ensures).limited)
 
 pub returns-clause-keeps : goal.returns-clause-keeps
 returns-clause-keeps g c = λ bytes.
     let play = c.args.play in
+    let ahead = c.args.setup.now.ahead in
     let parts = c.in_ok-parts.parts in
     let made = c.in_ok-parts.ensures in
     let lists = c.into_lists-app_lines.ensures in
@@ -51,41 +60,42 @@ returns-clause-keeps g c = λ bytes.
       merges = c.count_merges-merges.result;
       lens = c.lens-lens.result;
       back = c.back-back.result;
-      ahead = c.args.ahead;
+      ahead = ahead;
       channels = c.channels-channels.result;
-    } ≡ setup_of play c.args.ahead =
-    λ i. record { lines = lists.app i; merges = merges i; lens = lens i; back = colour i; ahead = c.args.ahead; channels = channels i } in
+    } ≡ setup_of play ahead =
+    λ i. record { lines = lists.app i; merges = merges i; lens = lens i; back = colour i; ahead = ahead; channels = channels i } in
     let desks = c.new_desks.ensures in
     let app_desk = of_ok _ made.desks desks.app in
     let cull_desk = of_ok _ made.desks desks.cull in
     let draw_desk = of_ok _ made.desks desks.draw in
     let dbase_desk = of_ok _ made.desks desks.dbase in
     let probe_desk = of_ok _ made.desks desks.probe in
-    let a = of_ok _ made.to_cull c.new_way.ensures in
-    let b = of_ok _ made.to_draw c.new_link.ensures in
-    let d = of_ok _ made.back c.new_link-2.ensures in
+    let links = c.new_links.ensures in
+    let a = of_ok _ made.links links.way in
+    let b = of_ok _ made.links links.to_draw in
+    let d = of_ok _ made.links links.back in
+    let works : AreNewWorks play.lens play.back c.args.setup.now.stream (any_cull parts.works.cull) (any_draw parts.works.draw) =
+    rw (lens, colour) at (of_ok _ made.works c.new_works.ensures) in
     let lock = lock_id (arc_value parts.desks.lock) in
-    let four = new_keeps (setup_of play c.args.ahead) play.dbase lock _ bytes refl (record {
-      app_work = of_ok _ made.app c.new.ensures.opens ∙ ap (λ (g : Setup). app.opening_work g parts.app.state.spare) given;
-      loads = of_ok _ made.app c.new.ensures.loads;
-      lens = of_ok _ made.cull c.new-2.ensures.lens ∙ lens;
-      cull = of_ok _ made.cull c.new-2.ensures.keeps;
-      draw = of_ok _ made.draw c.new-3.ensures
-          ∙ (λ i. record { lens = lens i; back = colour i; state = record { ended = false; held = None } });
-      dbase_work = one_ok made.dbase c.new-4.ensures.made ∙ ap base.opening_work lists.dbase;
-      holds = subst (λ lines. DbaseHolds lines play.channels 3 (base.opening_work lines) []) lists.dbase (c.new-4.ensures.holds play.channels 3);
-      app_place = λ i. stands_at (app_desk.0 i) (app_desk.1 i);
-      cull_place = λ i. stands_at (cull_desk.0 i) (cull_desk.1 i);
-      draw_place = λ i. stands_at (draw_desk.0 i) (draw_desk.1 i);
-      dbase_place = λ i. stands_at (dbase_desk.0 i) (dbase_desk.1 i);
-      app_sent = a.sent;
-      app_taken = d.taken;
-      cull_sent = b.sent;
-      cull_taken = a.taken;
-      draw_sent = d.sent;
-      draw_taken = b.taken;
-    }) in
-    record {
-      four = four;
-      probe = probe_new c.args.probe lock _ a.keeps (λ i. stands_at (probe_desk.0 i) (probe_desk.1 i));
-    }
+    rw c.seated.ensures.seats
+    (record {
+      four = new_keeps (setup_of play ahead) play.dbase lock _ bytes refl (record {
+        app_work = of_ok _ made.app c.new.ensures.opens ∙ ap (λ (g : Setup). app.opening_work g parts.app.state.spare) given;
+        loads = of_ok _ made.app c.new.ensures.loads;
+        limit = c.args.setup.now.stream;
+        works = works;
+        dbase_work = one_ok made.dbase c.new-2.ensures.made ∙ ap base.opening_work lists.dbase;
+        holds = subst (λ lines. DbaseHolds lines play.channels 3 (base.opening_work lines) []) lists.dbase (c.new-2.ensures.holds play.channels 3);
+        app_place = λ i. stands_at (app_desk.0 i) (app_desk.1 i);
+        cull_place = λ i. stands_at (cull_desk.0 i) (cull_desk.1 i);
+        draw_place = λ i. stands_at (draw_desk.0 i) (draw_desk.1 i);
+        dbase_place = λ i. stands_at (dbase_desk.0 i) (dbase_desk.1 i);
+        app_sent = a.sent;
+        app_taken = d.taken;
+        cull_sent = b.sent;
+        cull_taken = a.taken;
+        draw_sent = d.sent;
+        draw_taken = b.taken;
+      });
+      probe = probe_new c.args.setup.now.probe lock _ a.keeps (λ i. stands_at (probe_desk.0 i) (probe_desk.1 i));
+    })
