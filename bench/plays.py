@@ -180,6 +180,29 @@ def block(random, b):
     return lines
 
 
+def signs(frames=480):
+    """A flight over a plain of 3,840 signs of one triangle each, in pictures of 80x60: the cull has much to do.
+    Nodes: 1 group, 15 fields (groups), 240 rows (DCS) and 3,840 geodes: 4,096."""
+    random = Random(31)
+    lines = ["perfly 1", "size 80 60", f"lens 80 {UNIT} {2000 * UNIT}", "back 120 170 230", "app", "group 1", "add 0 1"]
+    for field in range(15):
+        lines += [f"group {2 + field}", f"add 1 {2 + field}"]
+        for row in range(16):
+            node = 100 + 16 * field + row
+            lines += [f"dcs {node}", f"add {2 + field} {node}",
+                      f"trans {node} {(field % 5 * 200 - 500) * UNIT} {(field // 5 * 200 + row * 12) * UNIT} 0"]
+            for k in range(16):
+                sign, x, h = 1000 + 16 * (16 * field + row) + k, k * 12 * UNIT, (2 + random(5)) * UNIT
+                colour = tuple(60 + random(190) for _ in range(3))
+                corners = ((x, 0, 0), (x + 4 * UNIT, UNIT, 0), (x + 2 * UNIT, 0, h))
+                geode(lines, sign, random(16), [triangle(*(corner + colour for corner in corners))])
+                lines.append(f"add {node} {sign}")
+    for k in range(frames):
+        x, y, heading = (k % 96 - 48) * 4 * UNIT, (k % 160 - 80) * UNIT, k % 64 * 10 - 320
+        lines += [f"view {x} {y} {30 * UNIT} {heading} -80 0", "frame"]
+    return lines
+
+
 def fill(frames=30):
     """Twenty geodes of ten triangles each, every one about as large as the picture, at mixed depths."""
     random = Random(7)
@@ -305,7 +328,8 @@ def instances(size=1024):
     return lines + ["frame"]
 
 
-PLAYS = {play.__name__: play for play in (flight, city, town, fill, edits, empty, merges, children, waiting, large, instances)}
+PLAYS = {play.__name__: play for play in (flight, city, town, signs, fill, edits, empty, merges, children, waiting, large,
+                                          instances)}
 
 
 def main():

@@ -1,15 +1,17 @@
 # Completion for perfly and fly in bash: source this file, or copy it to where bash-completion looks for one (README.md).
 
 # The words of perfly, and those that fly adds.
-_perfly_words="--mode --dbase --ahead --make --probe"
+_perfly_words="--mode --dbase --ahead --make --probe --stream"
 _fly_words="--jobs --quick --help --version"
 
-# The values that may follow a word; of --jobs, as many as there are processors. Those of --probe only its user knows.
+# The values that may follow a word; of --jobs, as many as there are processors, and of --stream some of those that may. Those of
+# --probe only its user knows.
 _perfly_values() {
     case $1 in
         --mode) echo appculldraw app_culldraw appcull_draw app_cull_draw ;;
         --ahead) echo {1..4} ;;
         --make) echo {1..256} ;;
+        --stream) echo 1 4 16 64 256 1024 4096 ;;
         --jobs) seq -s ' ' "$(nproc 2> /dev/null || echo 4)" ;;
     esac
 }

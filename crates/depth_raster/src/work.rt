@@ -38,7 +38,11 @@ pub(crate) fn work_of(pieces: &[Piece]) -> u64 {
     for piece in pieces {
         work = work.saturating_add(PIECE_WORK).saturating_add(area(piece));
     }
-    if work < MUCH_WORK { 0 } else { work.min(MOST_WORK) }
+    if work < MUCH_WORK {
+        0
+    } else {
+        work.min(MOST_WORK)
+    }
 }
 
 /// The number of pixels in the box of a piece.

@@ -10,7 +10,7 @@ use Rattle.nearest_hit.specs.declared.segment.Segment.{Segment}
 use Rattle.program_words.specs.declared.words.Mode.{Mode}
 use Rattle.program_words.specs.declared.words.Words.{Words}
 use Rattle.program_words.specs.Usage.{usage}
-use Rattle.program_words.specs.Meaning.{number_in, mode_of, dbase_of, ahead_of, make_of, probe_of, words_of, meaning_of_values, meaning_of_words}
+use Rattle.program_words.specs.Meaning.{number_in, mode_of, dbase_of, ahead_of, make_of, probe_of, stream_of, words_of, meaning_of_values, meaning_of_words}
 
 abbrev Judged : ℕ → Bool → Bool → Bool → Option ℕ
 Judged n a b c = cond (a && (not b && not c)) (Some n) None
@@ -32,14 +32,16 @@ in_range low high text n e =
         (omega (arith, ltb-false m low q, same), omega (arith, ltb-false high m r, same))
 
 -- what the ahead and the number to make of such words come from
-parts : (mode : Option Mode) (dbase : Bool) (ahead : Option ℕ) (make : Option (Option ℕ)) (probe : Option (Option Segment)) (w : Words) →
-    words_of mode dbase ahead make probe ≡ Some w → (ahead ≡ Some w.ahead) × (make ≡ Some w.make)
-parts None dbase ahead make probe w e = absurd cc
-parts (Some m) dbase None make probe w e = absurd cc
-parts (Some m) dbase (Some a) None probe w e = absurd cc
-parts (Some m) dbase (Some a) (Some k) None w e = absurd cc
-parts (Some m) dbase (Some a) (Some k) (Some p) w e =
-    let read : Words = record { mode = m; dbase = dbase; ahead = a; make = k; probe = p } in
+parts : (mode : Option Mode) (dbase : Bool) (ahead : Option ℕ) (make : Option (Option ℕ)) (probe : Option (Option Segment))
+    (stream : Option (Option ℕ)) (w : Words) →
+    words_of mode dbase ahead make probe stream ≡ Some w → (ahead ≡ Some w.ahead) × (make ≡ Some w.make)
+parts None dbase ahead make probe stream w e = absurd cc
+parts (Some m) dbase None make probe stream w e = absurd cc
+parts (Some m) dbase (Some a) None probe stream w e = absurd cc
+parts (Some m) dbase (Some a) (Some k) None stream w e = absurd cc
+parts (Some m) dbase (Some a) (Some k) (Some p) None w e = absurd cc
+parts (Some m) dbase (Some a) (Some k) (Some p) (Some s) w e =
+    let read : Words = record { mode = m; dbase = dbase; ahead = a; make = k; probe = p; stream = s } in
     let is : Some read ≡ Some w = e in
     let same : read ≡ w = cc in
     (ap (λ (v : Words). Some v.ahead) same, ap (λ (v : Words). Some v.make) same)
@@ -66,6 +68,7 @@ abbrev AreInRange : Words → Type 0
 AreInRange w = (1 ≤ w.ahead) × (w.ahead ≤ 4) × IfSome w.make (λ n. 1 ≤ n) × IfSome w.make (λ n. n ≤ 256)
 
 of_words : (words : List Text) (w : Words) → meaning_of_words words ≡ Some w → AreInRange w
+unfolding meaning_of_words
 of_words words w e = by (list_any (λ t. bytes_eq t (codes "--")) words) (length (fault_of usage words) == 0) e
   where
     rows : List Row
@@ -77,7 +80,7 @@ of_words words w e = by (list_any (λ t. bytes_eq t (codes "--")) words) (length
     by false true j =
         let is = parts (mode_of (first_of (codes "mode") rows)) (dbase_of (first_of (codes "dbase") rows))
         (ahead_of (first_of (codes "ahead") rows)) (make_of (first_of (codes "make") rows))
-        (probe_of (first_of (codes "probe") rows)) w j in
+        (probe_of (first_of (codes "probe") rows)) (stream_of (first_of (codes "stream") rows)) w j in
         let ahead = of_ahead (first_of (codes "ahead") rows) w.ahead is.0 in
         let make = to_make (first_of (codes "make") rows) w.make is.1 in
         (ahead.0, ahead.1, make.0, make.1)

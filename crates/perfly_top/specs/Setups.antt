@@ -16,13 +16,14 @@ host_mode mode.AppcullDraw = host.AppcullDraw
 host_mode mode.AppCullDraw = host.AppCullDraw
 
 abbrev pub setup_of : Words → Setup
-setup_of words = record { mode = host_mode words.mode; dbase = words.dbase; ahead = words.ahead; probe = words.probe }
+setup_of words =
+    record { mode = host_mode words.mode; dbase = words.dbase; ahead = words.ahead; probe = words.probe; stream = words.stream }
 
 -- one thread has all stages
 abbrev pub has_one : Mode → Bool
 has_one mode.Appculldraw = true
 has_one _ = false
 
--- no stage has a thread of its own
+-- no stage has a thread of its own, and draw lists are sent whole
 abbrev pub is_on_one_thread : Words → Bool
-is_on_one_thread words = has_one words.mode && (not words.dbase && not (is_some words.probe))
+is_on_one_thread words = has_one words.mode && (not words.dbase && (not (is_some words.probe) && not (is_some words.stream)))

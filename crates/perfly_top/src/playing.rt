@@ -1,5 +1,5 @@
 //! A play that is played, and what is told of it.
-ghost use Rattle.std.specs.Prelude.{◌≡◌, ◌≤◌, ◌++◌, true, Some, IfOk, OnOk, IsSome};
+ghost use Rattle.std.specs.Prelude.{◌≡◌, ◌≤◌, ◌++◌, true, Some, IfOk, OnOk, IsSome, IfSome};
 ghost use Rattle.play_check.specs.Stuck.{IsStuck};
 ghost use Rattle.perfly_top.specs.Program.{stream_of, account, told, IsSummed};
 ghost use Rattle.perfly_top.specs.Sums.{sum_of_bytes};
@@ -35,6 +35,7 @@ fn play_by<
     requires can_end { IsStuck play.app play.dbase → ⊥ }
     requires some { 1 ≤ words.ahead }
     requires few { words.ahead ≤ 4 }
+    requires stream { IfSome words.stream (λ n. (1 ≤ n) × (n ≤ 4096)) }
     ensures run { IsRun play words.ahead result.end result.history.entries result.stats.items
         (O.written frames.old) (O.written frames.new) }
     ensures answers { result.end ≡ PlayEnd.Done → HasAnswers words play result.probes.items result.history.entries }
@@ -61,6 +62,7 @@ fn held_run<
     requires can_end { IsStuck play.app play.dbase → ⊥ }
     requires some { 1 ≤ words.ahead }
     requires few { words.ahead ≤ 4 }
+    requires stream { IfSome words.stream (λ n. (1 ≤ n) × (n ≤ 4096)) }
     ensures same { H.loan result.1 ≡ H.loan held }
     ensures run { IsRun play words.ahead result.0.played.end result.0.played.history.entries result.0.played.stats.items
         (H.bytes held) (H.bytes result.1) }
@@ -95,6 +97,7 @@ fn summed_run<
     requires can_end { IsStuck play.app play.dbase → ⊥ }
     requires some { 1 ≤ words.ahead }
     requires few { words.ahead ≤ 4 }
+    requires stream { IfSome words.stream (λ n. (1 ≤ n) × (n ≤ 4096)) }
     ensures run { IsRun play words.ahead result.played.end result.played.history.entries result.played.stats.items
         (O.written frames.old) (O.written frames.new) }
     ensures answers { result.played.end ≡ PlayEnd.Done
@@ -120,6 +123,7 @@ pub(crate) fn run_of<
     requires can_end { IsStuck play.app play.dbase → ⊥ }
     requires some { 1 ≤ words.ahead }
     requires few { words.ahead ≤ 4 }
+    requires stream { IfSome words.stream (λ n. (1 ≤ n) × (n ≤ 4096)) }
     ensures run { IsRun play words.ahead result.played.end result.played.history.entries result.played.stats.items
         (O.written frames.old) (O.written frames.new) }
     ensures answers { result.played.end ≡ PlayEnd.Done

@@ -31,6 +31,7 @@ fn right_words(alloc: Global, words: &[String]) -> Result<Words, Stop>
     ensures few { IfOk result (λ w. w.ahead ≤ 4) }
     ensures low { IfOk result (λ w. IfSome w.make (λ n. 1 ≤ n)) }
     ensures high { IfOk result (λ w. IfSome w.make (λ n. n ≤ 256)) }
+    ensures stream { IfOk result (λ w. IfSome w.stream (λ n. (1 ≤ n) × (n ≤ 4096))) }
     ensures wrong { IfErr result (λ s. ((s ≡ stop.Words) × (meaning_of_words (map string_bytes words.now) ≡ None))
         ⊎ (s ≡ stop.NoMemory)) }
 {
@@ -48,6 +49,7 @@ pub(crate) fn prepared<I: Source>(
     ensures can_end { IfOk result (λ t. ¬ IsStuck t.play.app t.play.dbase) }
     ensures some { IfOk result (λ t. 1 ≤ t.words.ahead) }
     ensures few { IfOk result (λ t. t.words.ahead ≤ 4) }
+    ensures stream { IfOk result (λ t. IfSome t.words.stream (λ n. (1 ≤ n) × (n ≤ 4096))) }
     ensures why { IfErr result (λ s. IsWhy (meaning_of_words (map string_bytes words.now)) (I.left input.old) (I.left input.new) s) }
     ensures unread { (w : Words) (n : ℕ) → meaning_of_words (map string_bytes words.now) ≡ Some w → w.make ≡ Some n
         → I.left input.new ≡ I.left input.old }

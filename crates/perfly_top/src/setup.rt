@@ -26,6 +26,7 @@ pub(crate) fn setup_of(words: Words) -> Setup
         dbase: words.dbase,
         ahead: words.ahead,
         probe: words.probe,
+        stream: words.stream,
     }
 }
 
@@ -33,5 +34,8 @@ pub(crate) fn setup_of(words: Words) -> Setup
 pub(crate) fn is_on_one_thread(words: Words) -> bool
     ensures { result ≡ is_on_one_thread words }
 {
-    words.mode == Mode::Appculldraw && !words.dbase && words.probe.is_none()
+    words.mode == Mode::Appculldraw
+        && !words.dbase
+        && words.probe.is_none()
+        && words.stream.is_none()
 }

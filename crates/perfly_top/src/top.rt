@@ -35,6 +35,7 @@ fn played<
     requires can_end { ¬ IsStuck task.play.app task.play.dbase }
     requires some { 1 ≤ task.words.ahead }
     requires few { task.words.ahead ≤ 4 }
+    requires stream { IfSome task.words.stream (λ n. (1 ≤ n) × (n ≤ 4096)) }
     ensures one_of { (result.status ≡ DONE) ⊎ (result.status ≡ FRAME_FAULT) ⊎ (result.status ≡ REPORT_FAULT)
         ⊎ (result.status ≡ NO_MEMORY) }
     ensures part { IsPart task.words task.play result.history.entries (O.written frames.old) (O.written frames.new) }

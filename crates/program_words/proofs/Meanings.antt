@@ -14,6 +14,7 @@ has_dashes words = list_any (λ w. bytes_eq w (codes "--")) words
 -- words with `--` mean nothing
 pub dashes_mean_nothing : {X : Type 0} (f : X → Text) (words : List X) → list_any (λ w. bytes_eq (f w) (codes "--")) words ≡ true →
     meaning_of_words (map f words) ≡ None
+unfolding meaning_of_words
 dashes_mean_nothing f words e =
     let is : has_dashes (map f words) ≡ true = rw (← list_any-map (λ w. bytes_eq w (codes "--")) f words) e in
     rw is refl
@@ -21,6 +22,7 @@ dashes_mean_nothing f words e =
 -- words that clap refuses mean nothing
 pub refused_mean_nothing : {X : Type 0} (f : X → Text) (words : List X) → list_any (λ w. bytes_eq (f w) (codes "--")) words ≡ false →
     (length (fault_of usage (map f words)) == 0) ≡ false → meaning_of_words (map f words) ≡ None
+unfolding meaning_of_words
 refused_mean_nothing f words e fault =
     let is : has_dashes (map f words) ≡ false = rw (← list_any-map (λ w. bytes_eq w (codes "--")) f words) e in
     rw (is, fault) refl
@@ -29,6 +31,7 @@ refused_mean_nothing f words e fault =
 pub values_mean : {X : Type 0} (f : X → Text) (words : List X) → list_any (λ w. bytes_eq (f w) (codes "--")) words ≡ false →
     (length (fault_of usage (map f words)) == 0) ≡ true →
     meaning_of_words (map f words) ≡ meaning_of_values (matches_of usage (map f words))
+unfolding meaning_of_words
 values_mean f words e fault =
     let is : has_dashes (map f words) ≡ false = rw (← list_any-map (λ w. bytes_eq w (codes "--")) f words) e in
     rw (is, fault) refl

@@ -47,21 +47,25 @@ make_of given = given_or None (λ text. option_map Some (number_in 1 256 text)) 
 abbrev pub probe_of : Option Text → Option (Option Segment)
 probe_of given = given_or None (λ text. option_map Some (segment_in text)) given
 
+-- the number of items that a piece of a draw list has at most, where draw lists are sent in pieces
+abbrev pub stream_of : Option Text → Option (Option ℕ)
+stream_of given = given_or None (λ text. option_map Some (number_in 1 4096 text)) given
+
 -- all of them, where each is right
-abbrev pub words_of : Option Mode → Bool → Option ℕ → Option (Option ℕ) → Option (Option Segment) → Option Words
-words_of (Some mode) dbase (Some ahead) (Some make) (Some probe) =
-    Some (record { mode = mode; dbase = dbase; ahead = ahead; make = make; probe = probe })
-words_of _ _ _ _ _ = None
+abbrev pub words_of : Option Mode → Bool → Option ℕ → Option (Option ℕ) → Option (Option Segment) → Option (Option ℕ) → Option Words
+words_of (Some mode) dbase (Some ahead) (Some make) (Some probe) (Some stream) =
+    Some (record { mode = mode; dbase = dbase; ahead = ahead; make = make; probe = probe; stream = stream })
+words_of _ _ _ _ _ _ = None
 
 -- what the values of the options mean
 abbrev pub meaning_of_values : List Row → Option Words
 meaning_of_values rows =
     words_of (mode_of (first_of (codes "mode") rows)) (dbase_of (first_of (codes "dbase") rows))
     (ahead_of (first_of (codes "ahead") rows)) (make_of (first_of (codes "make") rows))
-    (probe_of (first_of (codes "probe") rows))
+    (probe_of (first_of (codes "probe") rows)) (stream_of (first_of (codes "stream") rows))
 
 -- The meaning of words: there is one where none is `--`, clap has matches for them, and the values are right.
-abbrev pub meaning_of_words : List Text → Option Words
+unfoldable pub meaning_of_words : List Text → Option Words
 meaning_of_words words =
     if list_any (λ w. bytes_eq w (codes "--")) words then None
     else (if length (fault_of usage words) == 0 then meaning_of_values (matches_of usage words) else None)

@@ -1,4 +1,4 @@
--- The usage `[--mode m] [--dbase] [--ahead n] [--make n] [--probe s]`, as a simple command of clap.
+-- The usage `[--mode m] [--dbase] [--ahead n] [--make n] [--probe s] [--stream n]`, as a simple command of clap.
 use Rattle.std.specs.Prelude.{true, Some, codes}
 use Rattle.clap.specs.Words.{App, Rule, Text, new_app, new_rule, with_rule}
 use Rattle.clap.specs.Simple.{on_top}
@@ -24,6 +24,8 @@ playing =
     with_rule (with_rule (with_rule bare (option_rule (codes "mode"))) (flag_rule (codes "dbase")))
     (option_rule (codes "ahead"))
 
--- and those that say what is played, and what is told of it
+-- and those that say what is played, what is told of it, and in what pieces draw lists are sent
 abbrev pub usage : App
-usage = with_rule (with_rule playing (option_rule (codes "make"))) (option_rule (codes "probe"))
+usage =
+    with_rule (with_rule (with_rule playing (option_rule (codes "make"))) (option_rule (codes "probe")))
+    (option_rule (codes "stream"))

@@ -42,11 +42,12 @@ fn playing<'a>(alloc: Global) -> Result<Command<'a>, AllocError>
         .arg(option(alloc, "ahead"))
 }
 
-/// `perfly [--mode m] [--dbase] [--ahead n] [--make n] [--probe s]`
+/// `perfly [--mode m] [--dbase] [--ahead n] [--make n] [--probe s] [--stream n]`
 pub(crate) fn usage<'a>(alloc: Global) -> Result<Command<'a>, AllocError>
     ensures { IfOk result (λ c. app_of c ≡ usage) }
 {
     playing(alloc)?
         .arg(option(alloc, "make"))?
-        .arg(option(alloc, "probe"))
+        .arg(option(alloc, "probe"))?
+        .arg(option(alloc, "stream"))
 }

@@ -1,5 +1,5 @@
 //! Words read with clap.
-ghost use Rattle.std.specs.Prelude.{◌≡◌, ◌≢◌, ◌==◌, true, false, length, map, codes, Some, None, Err, IfOk, MatchResult, option_map};
+ghost use Rattle.std.specs.Prelude.{◌≡◌, ◌≢◌, ◌≤◌, ◌==◌, true, false, length, map, codes, Some, None, Err, IfOk, IfSome, MatchResult, option_map};
 ghost use Rattle.std.specs.List.{list_any};
 ghost use Rattle.std.specs.Str.{bytes_eq};
 ghost use Rattle.std.specs.String.{string_bytes};
@@ -11,7 +11,7 @@ ghost use Rattle.program_words.specs.declared.words.WordsError.TheVariants as er
 
 use crate::command::usage;
 use crate::probe::probe_of;
-use crate::values::{ahead_of, dbase_of, make_of, mode_of};
+use crate::values::{ahead_of, dbase_of, make_of, mode_of, stream_of};
 use crate::words::{Words, WordsError};
 use clap::error::ErrorKind;
 use clap::{ArgMatches, Error};
@@ -60,29 +60,34 @@ fn value<'a>(matches: &ArgMatches<'a>, name: &str) -> Option<&'a str>
 
 /// What the values of the options mean.
 fn meaning(matches: &ArgMatches) -> Option<Words>
-    ensures { result ≡ meaning_of_values (rows_of (found_of matches.now)) }
+    ensures value { result ≡ meaning_of_values (rows_of (found_of matches.now)) }
+    ensures stream { IfSome result (λ w. IfSome w.stream (λ n. (1 ≤ n) × (n ≤ 4096))) }
 {
     let mode = mode_of(value(matches, "mode"))?;
     let dbase = dbase_of(value(matches, "dbase"));
     let ahead = ahead_of(value(matches, "ahead"))?;
     let make = make_of(value(matches, "make"))?;
     let probe = probe_of(value(matches, "probe"))?;
+    let stream = stream_of(value(matches, "stream"))?;
     Some(Words {
         mode,
         dbase,
         ahead,
         make,
         probe,
+        stream,
     })
 }
 
 /// Reads the words behind the program's name: `[--mode m] [--dbase] [--ahead 1..4] [--make 1..256]
-/// [--probe x0,y0,z0,x1,y1,z1]`, where `m` is `appculldraw`, `app_culldraw`, `appcull_draw` or `app_cull_draw`, and the
-/// others are coordinates; each at most once, in any order, its value as the next word or after `=`. A value that is the
-/// next word does not begin with `-`. It is `Err(Wrong)` only where they have no meaning.
+/// [--probe x0,y0,z0,x1,y1,z1] [--stream 1..4096]`, where `m` is `appculldraw`, `app_culldraw`, `appcull_draw` or
+/// `app_cull_draw`, and the others are coordinates; each at most once, in any order, its value as the next word or after `=`.
+/// A value that is the next word does not begin with `-`. It is `Err(Wrong)` only where they have no meaning.
+#[tactic(auto, unfolding(crate::specs::Meaning::meaning_of_words))]
 pub fn read_words(alloc: Global, words: &[String]) -> Result<Words, WordsError>
     ensures right { IfOk result (λ w. meaning_of_words (map string_bytes words.now) ≡ Some w) }
     ensures wrong { result ≡ Err error.Wrong → meaning_of_words (map string_bytes words.now) ≡ None }
+    ensures stream { IfOk result (λ w. IfSome w.stream (λ n. (1 ≤ n) × (n ≤ 4096))) }
 {
     if has_dashes(words) {
         return Err(WordsError::Wrong);

@@ -1,7 +1,7 @@
 //! The values of the options.
-ghost use Rattle.std.specs.Prelude.{◌≡◌, codes, decimal, option_map};
+ghost use Rattle.std.specs.Prelude.{◌≡◌, ◌≤◌, codes, decimal, IfSome, option_map};
 ghost use Rattle.std.specs.Str.{bytes_eq};
-ghost use Rattle.program_words.specs.Meaning.{number_in, mode_named, mode_of, dbase_of, ahead_of, make_of};
+ghost use Rattle.program_words.specs.Meaning.{number_in, mode_named, mode_of, dbase_of, ahead_of, make_of, stream_of};
 
 use crate::words::Mode;
 use itoa::Buffer;
@@ -15,7 +15,8 @@ fn is_written(number: u16, text: &str) -> bool
 
 /// The number from `low` to `high` that is written like this.
 fn number_in(low: u16, high: u16, text: &str) -> Option<u16>
-    ensures { result ≡ number_in low high text.now }
+    ensures value { result ≡ number_in low high text.now }
+    ensures within { IfSome result (λ n. (low ≤ n) × (n ≤ high)) }
 {
     let number: u16 = text.parse().ok()?;
     if number < low || high < number || !is_written(number, text) {
@@ -71,5 +72,16 @@ pub(crate) fn make_of(given: Option<&str>) -> Option<Option<u16>>
     match given {
         None => Some(None),
         Some(text) => number_in(1, 256, text).map(Some),
+    }
+}
+
+/// How many items a piece of a draw list has at most, where draw lists are sent in pieces.
+pub(crate) fn stream_of(given: Option<&str>) -> Option<Option<u32>>
+    ensures value { result ≡ stream_of (option_map (λ text. text.now) given.entry) }
+    ensures within { IfSome result (λ r. IfSome r (λ n. (1 ≤ n) × (n ≤ 4096))) }
+{
+    match given {
+        None => Some(None),
+        Some(text) => number_in(1, 4096, text).map(|items| Some(u32::from(items))),
     }
 }

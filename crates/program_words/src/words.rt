@@ -27,6 +27,8 @@ pub struct Words {
     pub make: Option<u16>,
     /// The segment whose nearest hit is asked for in each frame, where one is, in eye coordinates of the first channel.
     pub probe: Option<Segment>,
+    /// How many items a piece of a draw list has at most, 1 to 4,096, where draw lists are sent in pieces.
+    pub stream: Option<u32>,
 }
 
 /// Why words say nothing.

@@ -10,5 +10,5 @@ returns-then-has_dashes-clause-wrong c = λ _. dashes_mean_nothing string_bytes 
 pub returns-clause-right : goal.returns-clause-right
 returns-clause-right c =
     let values = values_mean string_bytes c.args.words.now (sym c.has_dashes.ensures ∙ c.if-has_dashes.false) c.in_ok-matches.ensures.0 in
-    let meant = c.meaning.ensures ∙ ap meaning_of_values c.in_ok-matches.ensures.1 ∙ sym values in
+    let meant = c.meaning.ensures.value ∙ ap meaning_of_values c.in_ok-matches.ensures.1 ∙ sym values in
     search rules

@@ -6,8 +6,8 @@ use Rattle.program_words.proofs.Numbers.{number_found, number_none, parse_found}
 use Rattle.program_words.proofs.values.number_in.Goals as goal
 use Rattle.program_words.proofs.values.number_in.Goals.{then-number-low-via-then-number-low, then-number-low-via-else-number-low+then-high-number, then-number-low-via-else-number-low+else-high-number+then-not-is_written}
 
-pub returns-in_err-number : goal.returns-in_err-number
-returns-in_err-number c =
+pub returns-in_err-number-clause-value : goal.returns-in_err-number-clause-value
+returns-in_err-number-clause-value c =
     let parsed : ParsesUnsigned 16 10 c.args.text.now c.parse.result = search rules in
     let none : c.ok.result ≡ None = c.in_err-number.was in
     c.from_residual.ensures ∙ sym (number_none c.args.low c.args.high c.args.text.now (λ n e a b.
@@ -15,8 +15,8 @@ returns-in_err-number c =
     let some : c.ok.result ≡ Some n = search rules in
     absurd cc))
 
-pub returns-then-number-low : goal.returns-then-number-low
-returns-then-number-low c =
+pub returns-then-number-low-clause-value : goal.returns-then-number-low-clause-value
+returns-then-number-low-clause-value c =
     let parsed : ParsesUnsigned 16 10 c.args.text.now c.parse.result = search rules in
     let read : c.parse.result ≡ Ok c.in_ok-number.number = search rules in
     sym (number_none c.args.low c.args.high c.args.text.now (λ n e a b.
@@ -28,8 +28,8 @@ returns-then-number-low c =
       | then-number-low-via-else-number-low+else-high-number+then-not-is_written w ↦ absurd (let yes = (bytes_eq-Decides (decimal n) c.args.text.now).1 (sym e) in let no = w.is_written.ensures in let is = w.if-not-is_written.true in cc)
     ]))
 
-pub returns : goal.returns
-returns c =
+pub returns-clause-value : goal.returns-clause-value
+returns-clause-value c =
     let n = c.in_ok-number.number in
     let written : c.args.text.now ≡ decimal n = sym ((bytes_eq-Decides (decimal n) c.args.text.now).0 (sym c.is_written.ensures ∙ c.if-not-is_written.false)) in
     sym (number_found c.args.low c.args.high n c.args.text.now (omega (arith, c.if-high-number.false, c.ranges.high.fits)) written (omega (arith, c.if-number-low.false)) (omega (arith, c.if-high-number.false)))
