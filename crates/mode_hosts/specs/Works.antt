@@ -82,4 +82,5 @@ KeepsCull (PiecesCull c) taken sent = StreamCullPart c.work.lens c.work.limit c.
 -- what DRAW keeps: its part, in pieces behind some that were on the link back before
 abbrev pub KeepsDraw : AnyDrawWork → (taken sent : List Packet) → Type 0
 KeepsDraw (WholeDraw w) taken sent = DrawPart w.lens w.back w.state taken sent
-KeepsDraw (PiecesDraw d) taken sent = (first : List Cut) × StreamDrawPart d.work.lens d.work.back first d.work.state taken sent d.came d.given
+KeepsDraw (PiecesDraw d) taken sent =
+    (first : List Cut) × StreamDrawPart d.work.lens d.work.back first d.work.state taken sent d.came d.given
