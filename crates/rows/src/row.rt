@@ -76,6 +76,7 @@ impl Row {
             "#" => {}
             "row" => self.name.push_str(value)?,
             "words" => self.set_words(alloc, value)?,
+            "word" => self.words.push(String::from_str(alloc, value)?)?,
             "play" => self.play.push_str(value)?,
             "line" => self.set_line(value)?,
             "repeat" => self.repeat = Some(repeat_of(value)?),
