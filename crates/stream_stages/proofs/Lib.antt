@@ -35,6 +35,7 @@ mod FullPieces
 pub mod ListsSent
 pub mod FramesSent
 pub mod HandedOn
+pub mod Turns
 pub mod Channels
 mod FrameNumbers
 mod Streamable

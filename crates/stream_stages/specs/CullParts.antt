@@ -1,6 +1,6 @@
 -- What contracts see of the cull of the stream, and what it keeps.
-use Rattle.std.specs.Prelude.{◌≡◌, ⊤, ℕ, ◌+◌, ◌<◌, ◌≤◌, Bool, true, false, List, [], ◌∷◌, ◌++◌, map, drop, length, slice_get, Option, Some, None, MatchOption}
-use Rattle.std.specs.List.{AllByRecursion}
+use Rattle.std.specs.Prelude.{◌≡◌, ⊤, ℕ, ◌+◌, ◌<◌, ◌≤◌, Bool, true, false, List, [], ◌∷◌, ◌++◌, map, drop, length, slice_get, nat_eq, Option, Some, None, MatchOption}
+use Rattle.std.specs.List.{AllByRecursion, filter}
 use Rattle.std.specs.Option.{option_to_list}
 use Rattle.fx_math.specs.declared.lenses.Lens.{Lens}
 use Rattle.pf_model.specs.Angles.{Viewpoint}
@@ -21,6 +21,7 @@ use Rattle.stream_stages.specs.Pieces.{PieceParts, ArePiecesOf, AreSentOf, in_se
 use Rattle.stream_stages.specs.Routes.{Walking, to_come, scene_of}
 use Rattle.stream_stages.specs.Underway.{IsUnderway, numbers_of}
 use Rattle.stream_stages.specs.declared.sending.Sending.{Sending}
+use Rattle.stream_stages.specs.Links.{Streamed, OnlyTakes, OnlySends, OnlyReceives, OnlyGives}
 use Rattle.stream_stages.specs.PieceFrames.{PieceLists, lists_in, last_numbers, channels_of, PieceFrame, frames_in, left_in}
 
 -- What contracts see
@@ -188,6 +189,12 @@ pub record StreamCullPart (lens : Lens) (limit : ℕ) (c : StreamCullState) (tak
   pub pieces : SendsPieces lens limit c.copy c.frame c.walk (loads_in taken) (piece_lists gone c.piece)
   pub at_end : has_end taken ≡ true → c.frame ≡ None
 
+-- The pieces that CULL sent and holds to send are those that came back for its number of items, one for one, and no others:
+-- they take as many items.
+abbrev pub RefillsPieces : (limit : ℕ) → (piece : Option Cut) → (came gone : List Cut) → Type 0
+RefillsPieces limit piece came gone =
+    map (λ p. p.limit) (gone ++ option_to_list piece) ≡ filter (nat_eq limit) (map (λ p. p.limit) came)
+
 -- Waits
 
 -- Why CULL has to wait where it holds nothing: a frame is under way, and no piece came back; or no packet came.
@@ -201,3 +208,19 @@ WaitsToSend c no_room no_piece dry = MatchOption c.piece (WaitsToFill c no_piece
 -- why CULL has to wait: it holds a packet, and its link is full; or as above
 abbrev pub WaitsToCull : StreamCullState → (full no_room no_piece dry : Type 0) → Type 0
 WaitsToCull c full no_room no_piece dry = MatchOption c.held (WaitsToSend c no_room no_piece dry) (λ _. full)
+
+-- Turns
+
+-- Where CULL holds nothing: while a frame is under way it only receives a piece, and else only takes a packet.
+abbrev pub TakesInTurn : (before after : Streamed StreamCullState) → Type 0
+TakesInTurn before after = WaitsToFill before.state (OnlyReceives before after) (OnlyTakes before after)
+
+-- where it holds no packet: it only sends the piece that it holds; or as above
+abbrev pub MovesInTurn : (before after : Streamed StreamCullState) → Type 0
+MovesInTurn before after =
+    WaitsToSend before.state (OnlyGives before after) (OnlyReceives before after) (OnlyTakes before after)
+
+-- it only sends the packet that it holds; or as above
+abbrev pub CullsInTurn : (before after : Streamed StreamCullState) → Type 0
+CullsInTurn before after =
+    WaitsToCull before.state (OnlySends before after) (OnlyGives before after) (OnlyReceives before after) (OnlyTakes before after)

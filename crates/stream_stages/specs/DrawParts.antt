@@ -13,6 +13,7 @@ use Rattle.stage_parts.specs.Pictures.{picture_of_list}
 use Rattle.stage_parts.specs.Parts.{sent_and_held}
 use Rattle.stream_stages.specs.Cuts.{Cut}
 use Rattle.stream_stages.specs.declared.drawing.Drawing.{Drawing}
+use Rattle.stream_stages.specs.Links.{Streamed, OnlyTakes, OnlySends, OnlyReceives, OnlyGives}
 use Rattle.stream_stages.specs.PieceFrames.{PieceLists, lists_in, pieces_of, items_of, CanDrawInTurn, summed, channels_of, PieceFrame, frames_in, left_in}
 use Rattle.stream_stages.specs.Drawing.{ShowsAll}
 
@@ -115,3 +116,19 @@ WaitsToMove d full no_piece dry = MatchOption d.held (WaitsToTake d no_piece dry
 -- why DRAW has to wait: it holds a piece, and the link back is full; or as above
 abbrev pub WaitsToDraw : StreamDrawState → (no_room_back full no_piece dry : Type 0) → Type 0
 WaitsToDraw d no_room_back full no_piece dry = MatchOption d.spent (WaitsToMove d full no_piece dry) (λ _. no_room_back)
+
+-- Turns
+
+-- Where DRAW holds nothing: while a frame is under way it only receives a piece, and else only takes a packet.
+abbrev pub TakesInTurn : (before after : Streamed StreamDrawState) → Type 0
+TakesInTurn before after = WaitsToTake before.state (OnlyReceives before after) (OnlyTakes before after)
+
+-- where it holds no piece: it only sends the packet that it holds; or as above
+abbrev pub MovesInTurn : (before after : Streamed StreamDrawState) → Type 0
+MovesInTurn before after =
+    WaitsToMove before.state (OnlySends before after) (OnlyReceives before after) (OnlyTakes before after)
+
+-- it only gives back the piece that it holds; or as above
+abbrev pub DrawsInTurn : (before after : Streamed StreamDrawState) → Type 0
+DrawsInTurn before after =
+    WaitsToDraw before.state (OnlyGives before after) (OnlySends before after) (OnlyReceives before after) (OnlyTakes before after)

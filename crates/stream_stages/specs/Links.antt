@@ -67,6 +67,20 @@ abbrev pub MovesOne : {X : Type 0} → Bool → (before after : Streamed X) → 
 MovesOne true before after wait = crossed after ≡ crossed before + 1
 MovesOne false before after wait = (after ≡ before) × wait
 
+-- From one moment to the next, but for the stage itself nothing changed but the packets received, the packets sent, the pieces
+-- received, or the pieces sent.
+abbrev pub OnlyTakes : {X : Type 0} → (before after : Streamed X) → Type 0
+OnlyTakes before after = after ≡ record before { state = after.state; taken = after.taken }
+
+abbrev pub OnlySends : {X : Type 0} → (before after : Streamed X) → Type 0
+OnlySends before after = after ≡ record before { state = after.state; sent = after.sent }
+
+abbrev pub OnlyReceives : {X : Type 0} → (before after : Streamed X) → Type 0
+OnlyReceives before after = after ≡ record before { state = after.state; came = after.came }
+
+abbrev pub OnlyGives : {X : Type 0} → (before after : Streamed X) → Type 0
+OnlyGives before after = after ≡ record before { state = after.state; gone = after.gone }
+
 -- What the answer of a stage says: it received or sent one packet or piece; it changed nothing, and has to wait; it is
 -- over, and changed nothing. An error never comes.
 abbrev pub Answers : {X : Type 0} → Result Did StageError → (before after : Streamed X) → (wait : Type 0) → Type 0

@@ -8,7 +8,8 @@ ghost use Rattle.stage_parts.specs.Answers.{is_over};
 ghost use Rattle.stage_parts.specs.Packets.{is_end};
 ghost use Rattle.stream_stages.specs.Cuts.{Cut};
 ghost use Rattle.stream_stages.specs.Links.{SawMark, desk_place, end_place, HasNoRoom, HasNoMore, MovesOne, Answers};
-ghost use Rattle.stream_stages.specs.CullParts.{IsAsGiven, StreamCullPart, WaitsToFill, WaitsToSend, WaitsToCull};
+ghost use Rattle.stream_stages.specs.CullParts.{IsAsGiven, StreamCullPart, RefillsPieces, WaitsToFill, WaitsToSend, WaitsToCull};
+ghost use Rattle.stream_stages.specs.CullParts.{TakesInTurn, MovesInTurn, CullsInTurn};
 
 use crate::looks::is_stopped;
 use crate::pieces::Piece;
@@ -78,6 +79,7 @@ impl StreamCullStage {
         ensures piece { IfOk result (λ c. c.state.piece ≡ None) }
         ensures frame { IfOk result (λ c. c.state.frame ≡ None) }
         ensures part { IfOk result (λ c. StreamCullPart c.lens c.limit c.state [] [] []) }
+        ensures own { IfOk result (λ c. RefillsPieces c.limit c.state.piece [] []) }
     {
         Ok(StreamCullStage {
             lens,
@@ -99,6 +101,7 @@ impl StreamCullStage {
         ensures part { (taken : List Packet) → (gone : List Cut)
             → StreamCullPart self.old.lens self.old.limit (record self.old.state { held = Some packet }) taken (S.sent to.old) gone
             → StreamCullPart self.new.lens self.new.limit self.new.state taken (S.sent to.new) gone }
+        ensures piece { self.new.state.piece ≡ self.old.state.piece }
         ensures sent { result ≡ true → length (S.sent to.new) ≡ length (S.sent to.old) + 1 }
         ensures still { result ≡ false → self.new.state ≡ record self.old.state { held = Some packet } }
         ensures unsent { result ≡ false → S.sent to.new ≡ S.sent to.old }
@@ -126,6 +129,8 @@ impl StreamCullStage {
         ensures part { (taken sent : List Packet)
             → StreamCullPart self.old.lens self.old.limit (record self.old.state { piece = Some piece }) taken sent (P.sent pieces.old)
             → StreamCullPart self.new.lens self.new.limit self.new.state taken sent (P.sent pieces.new) }
+        ensures own { (came : List Cut) → RefillsPieces self.old.limit (Some piece) came (P.sent pieces.old)
+            → RefillsPieces self.new.limit self.new.state.piece came (P.sent pieces.new) }
         ensures sent { result ≡ true → length (P.sent pieces.new) ≡ length (P.sent pieces.old) + 1 }
         ensures still { result ≡ false → self.new.state ≡ record self.old.state { piece = Some piece } }
         ensures unsent { result ≡ false → P.sent pieces.new ≡ P.sent pieces.old }
@@ -151,6 +156,8 @@ impl StreamCullStage {
         ensures part { (taken sent : List Packet) → (gone : List Cut)
             → StreamCullPart self.old.lens self.old.limit (record self.old.state { frame = Some frame }) taken sent gone
             → StreamCullPart self.new.lens self.new.limit self.new.state taken sent gone }
+        ensures own { (came came' gone : List Cut) → came' ≡ came ++ piece ∷ [] → RefillsPieces self.old.limit None came gone
+            → RefillsPieces self.new.limit self.new.state.piece came' gone }
     {
         let mut piece = piece;
         self.frame = fill_piece(&self.copy, &mut self.walk, &self.lens, frame, &mut piece);
@@ -166,6 +173,8 @@ impl StreamCullStage {
         ensures part { (taken sent : List Packet) → (gone : List Cut)
             → StreamCullPart self.old.lens self.old.limit (record self.old.state { frame = Some frame }) taken sent gone
             → StreamCullPart self.new.lens self.new.limit self.new.state taken sent gone }
+        ensures own { (gone : List Cut) → RefillsPieces self.old.limit None (B.taken back.old) gone
+            → RefillsPieces self.new.limit self.new.state.piece (B.taken back.new) gone }
         ensures came { result ≡ true → length (B.taken back.new) ≡ length (B.taken back.old) + 1 }
         ensures still { result ≡ false → self.new.state ≡ record self.old.state { frame = Some frame } }
         ensures none { result ≡ false → B.taken back.new ≡ B.taken back.old }
@@ -198,6 +207,7 @@ impl StreamCullStage {
         ensures part { (taken sent : List Packet) → (gone : List Cut)
             → StreamCullPart self.old.lens self.old.limit self.old.state taken sent gone
             → StreamCullPart self.new.lens self.new.limit self.new.state (taken ++ packet.Frame load ∷ []) sent gone }
+        ensures piece { self.new.state.piece ≡ self.old.state.piece }
     {
         let mut load = load;
         take_updates(&mut self.copy, &mut load);
@@ -214,6 +224,7 @@ impl StreamCullStage {
         ensures part { (sent : List Packet) → (gone : List Cut)
             → StreamCullPart self.old.lens self.old.limit self.old.state (T.taken from.old) sent gone
             → StreamCullPart self.new.lens self.new.limit self.new.state (T.taken from.new) sent gone }
+        ensures piece { self.new.state.piece ≡ self.old.state.piece }
         ensures came { result ≡ true → length (T.taken from.new) ≡ length (T.taken from.old) + 1 }
         ensures still { result ≡ false → self.new.state ≡ self.old.state }
         ensures none { result ≡ false → T.taken from.new ≡ T.taken from.old }
@@ -249,11 +260,16 @@ impl StreamCullStage {
         ensures part { (sent : List Packet) → (gone : List Cut)
             → StreamCullPart self.old.lens self.old.limit self.old.state (T.taken from.old) sent gone
             → StreamCullPart self.new.lens self.new.limit self.new.state (T.taken from.new) sent gone }
+        ensures own { (gone : List Cut) → RefillsPieces self.old.limit None (B.taken back.old) gone
+            → RefillsPieces self.new.limit self.new.state.piece (B.taken back.new) gone }
         ensures moves { (sent : List Packet) → (gone : List Cut) → MovesOne result
             (record { state = self.old.state; taken = T.taken from.old; sent = sent; came = B.taken back.old; gone = gone })
             (record { state = self.new.state; taken = T.taken from.new; sent = sent; came = B.taken back.new; gone = gone })
             (WaitsToFill self.old.state (HasNoMore (B.told_sent back.old) (B.taken back.old))
             (HasNoMore (T.told_sent from.old) (T.taken from.old))) }
+        ensures turn { (sent : List Packet) → (gone : List Cut) → TakesInTurn
+            (record { state = self.old.state; taken = T.taken from.old; sent = sent; came = B.taken back.old; gone = gone })
+            (record { state = self.new.state; taken = T.taken from.new; sent = sent; came = B.taken back.new; gone = gone }) }
         ensures from { end_place (T.take_at from.new) (T.take_room from.new) (T.told_sent from.new)
             ≡ end_place (T.take_at from.old) (T.take_room from.old) (T.told_sent from.old) }
         ensures back { end_place (B.take_at back.new) (B.take_room back.new) (B.told_sent back.new)
@@ -279,11 +295,16 @@ impl StreamCullStage {
         ensures part { (sent : List Packet)
             → StreamCullPart self.old.lens self.old.limit self.old.state (T.taken from.old) sent (P.sent pieces.old)
             → StreamCullPart self.new.lens self.new.limit self.new.state (T.taken from.new) sent (P.sent pieces.new) }
+        ensures own { RefillsPieces self.old.limit self.old.state.piece (B.taken back.old) (P.sent pieces.old)
+            → RefillsPieces self.new.limit self.new.state.piece (B.taken back.new) (P.sent pieces.new) }
         ensures moves { (sent : List Packet) → MovesOne result
             (record { state = self.old.state; taken = T.taken from.old; sent = sent; came = B.taken back.old; gone = P.sent pieces.old })
             (record { state = self.new.state; taken = T.taken from.new; sent = sent; came = B.taken back.new; gone = P.sent pieces.new })
             (WaitsToSend self.old.state (HasNoRoom (P.room pieces.old) (P.told_taken pieces.old) (P.sent pieces.old))
             (HasNoMore (B.told_sent back.old) (B.taken back.old)) (HasNoMore (T.told_sent from.old) (T.taken from.old))) }
+        ensures turn { (sent : List Packet) → MovesInTurn
+            (record { state = self.old.state; taken = T.taken from.old; sent = sent; came = B.taken back.old; gone = P.sent pieces.old })
+            (record { state = self.new.state; taken = T.taken from.new; sent = sent; came = B.taken back.new; gone = P.sent pieces.new }) }
         ensures from { end_place (T.take_at from.new) (T.take_room from.new) (T.told_sent from.new)
             ≡ end_place (T.take_at from.old) (T.take_room from.old) (T.told_sent from.old) }
         ensures pieces { end_place (P.send_at pieces.new) (P.room pieces.new) (P.told_taken pieces.new)
@@ -310,6 +331,8 @@ impl StreamCullStage {
         ensures given { IsAsGiven self.old self.new }
         ensures part { StreamCullPart self.old.lens self.old.limit self.old.state (T.taken from.old) (S.sent to.old) (P.sent pieces.old)
             → StreamCullPart self.new.lens self.new.limit self.new.state (T.taken from.new) (S.sent to.new) (P.sent pieces.new) }
+        ensures own { RefillsPieces self.old.limit self.old.state.piece (B.taken back.old) (P.sent pieces.old)
+            → RefillsPieces self.new.limit self.new.state.piece (B.taken back.new) (P.sent pieces.new) }
         ensures moves { MovesOne result
             (record {
               state = self.old.state;
@@ -328,6 +351,21 @@ impl StreamCullStage {
             (WaitsToCull self.old.state (HasNoRoom (S.room to.old) (S.told_taken to.old) (S.sent to.old))
             (HasNoRoom (P.room pieces.old) (P.told_taken pieces.old) (P.sent pieces.old))
             (HasNoMore (B.told_sent back.old) (B.taken back.old)) (HasNoMore (T.told_sent from.old) (T.taken from.old))) }
+        ensures turn { CullsInTurn
+            (record {
+              state = self.old.state;
+              taken = T.taken from.old;
+              sent = S.sent to.old;
+              came = B.taken back.old;
+              gone = P.sent pieces.old;
+            })
+            (record {
+              state = self.new.state;
+              taken = T.taken from.new;
+              sent = S.sent to.new;
+              came = B.taken back.new;
+              gone = P.sent pieces.new;
+            }) }
         ensures from { end_place (T.take_at from.new) (T.take_room from.new) (T.told_sent from.new)
             ≡ end_place (T.take_at from.old) (T.take_room from.old) (T.told_sent from.old) }
         ensures to { end_place (S.send_at to.new) (S.room to.new) (S.told_taken to.new)
@@ -379,6 +417,28 @@ impl StreamCullStage {
         ensures given { IsAsGiven self.old self.new }
         ensures part { StreamCullPart self.old.lens self.old.limit self.old.state (T.taken from.old) (S.sent to.old) (P.sent pieces.old)
             → StreamCullPart self.new.lens self.new.limit self.new.state (T.taken from.new) (S.sent to.new) (P.sent pieces.new) }
+
+        // The pieces that it sends are those that came back to it, one for one; it drops only those of another number of items.
+        ensures own { RefillsPieces self.old.limit self.old.state.piece (B.taken back.old) (P.sent pieces.old)
+            → RefillsPieces self.new.limit self.new.state.piece (B.taken back.new) (P.sent pieces.new) }
+
+        // It sends the packet that it holds first, then the piece, and takes a packet only where it holds nothing and no frame is
+        // under way.
+        ensures turn { CullsInTurn
+            (record {
+              state = self.old.state;
+              taken = T.taken from.old;
+              sent = S.sent to.old;
+              came = B.taken back.old;
+              gone = P.sent pieces.old;
+            })
+            (record {
+              state = self.new.state;
+              taken = T.taken from.new;
+              sent = S.sent to.new;
+              came = B.taken back.new;
+              gone = P.sent pieces.new;
+            }) }
 
         // What its answer says. It is over exactly where the End was passed on or this look found the stop mark.
         ensures answer { Answers result

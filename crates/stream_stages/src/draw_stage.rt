@@ -9,6 +9,7 @@ ghost use Rattle.stream_stages.specs.Cuts.{Cut};
 ghost use Rattle.stream_stages.specs.Links.{SawMark, desk_place, end_place, HasNoRoom, HasNoMore, MovesOne, Answers};
 ghost use Rattle.stream_stages.specs.PieceFrames.{lists_in};
 ghost use Rattle.stream_stages.specs.DrawParts.{IsGivenAsBefore, HasChannels, StreamDrawPart, WaitsToTake, WaitsToMove, WaitsToDraw};
+ghost use Rattle.stream_stages.specs.DrawParts.{TakesInTurn, MovesInTurn, DrawsInTurn};
 ghost use Rattle.stream_stages.specs.DrawSteps.{IsReadyFor};
 
 use crate::drawing::{Drawing, draw_piece};
@@ -234,6 +235,9 @@ impl StreamDrawStage {
             (record { state = self.new.state; taken = T.taken from.new; sent = sent; came = P.taken pieces.new; gone = gone })
             (WaitsToTake self.old.state (HasNoMore (P.told_sent pieces.old) (P.taken pieces.old))
             (HasNoMore (T.told_sent from.old) (T.taken from.old))) }
+        ensures turn { (gone : List Cut) → (sent : List Packet) → TakesInTurn
+            (record { state = self.old.state; taken = T.taken from.old; sent = sent; came = P.taken pieces.old; gone = gone })
+            (record { state = self.new.state; taken = T.taken from.new; sent = sent; came = P.taken pieces.new; gone = gone }) }
         ensures from { end_place (T.take_at from.new) (T.take_room from.new) (T.told_sent from.new)
             ≡ end_place (T.take_at from.old) (T.take_room from.old) (T.told_sent from.old) }
         ensures pieces { end_place (P.take_at pieces.new) (P.take_room pieces.new) (P.told_sent pieces.new)
@@ -265,6 +269,9 @@ impl StreamDrawStage {
             (record { state = self.new.state; taken = T.taken from.new; sent = S.sent to.new; came = P.taken pieces.new; gone = gone })
             (WaitsToMove self.old.state (HasNoRoom (S.room to.old) (S.told_taken to.old) (S.sent to.old))
             (HasNoMore (P.told_sent pieces.old) (P.taken pieces.old)) (HasNoMore (T.told_sent from.old) (T.taken from.old))) }
+        ensures turn { (gone : List Cut) → MovesInTurn
+            (record { state = self.old.state; taken = T.taken from.old; sent = S.sent to.old; came = P.taken pieces.old; gone = gone })
+            (record { state = self.new.state; taken = T.taken from.new; sent = S.sent to.new; came = P.taken pieces.new; gone = gone }) }
         ensures from { end_place (T.take_at from.new) (T.take_room from.new) (T.told_sent from.new)
             ≡ end_place (T.take_at from.old) (T.take_room from.old) (T.told_sent from.old) }
         ensures to { end_place (S.send_at to.new) (S.room to.new) (S.told_taken to.new)
@@ -311,6 +318,21 @@ impl StreamDrawStage {
             (WaitsToDraw self.old.state (HasNoRoom (B.room back.old) (B.told_taken back.old) (B.sent back.old))
             (HasNoRoom (S.room to.old) (S.told_taken to.old) (S.sent to.old))
             (HasNoMore (P.told_sent pieces.old) (P.taken pieces.old)) (HasNoMore (T.told_sent from.old) (T.taken from.old))) }
+        ensures turn { DrawsInTurn
+            (record {
+              state = self.old.state;
+              taken = T.taken from.old;
+              sent = S.sent to.old;
+              came = P.taken pieces.old;
+              gone = B.sent back.old;
+            })
+            (record {
+              state = self.new.state;
+              taken = T.taken from.new;
+              sent = S.sent to.new;
+              came = P.taken pieces.new;
+              gone = B.sent back.new;
+            }) }
         ensures from { end_place (T.take_at from.new) (T.take_room from.new) (T.told_sent from.new)
             ≡ end_place (T.take_at from.old) (T.take_room from.old) (T.told_sent from.old) }
         ensures to { end_place (S.send_at to.new) (S.room to.new) (S.told_taken to.new)
@@ -360,6 +382,24 @@ impl StreamDrawStage {
             (B.sent back.old)
             → StreamDrawPart self.new.lens self.new.back first self.new.state (T.taken from.new) (S.sent to.new) (P.taken pieces.new)
             (B.sent back.new) }
+
+        // It gives the piece back that it holds first, then it sends the packet, and takes a packet only where it holds nothing
+        // and no frame is under way.
+        ensures turn { DrawsInTurn
+            (record {
+              state = self.old.state;
+              taken = T.taken from.old;
+              sent = S.sent to.old;
+              came = P.taken pieces.old;
+              gone = B.sent back.old;
+            })
+            (record {
+              state = self.new.state;
+              taken = T.taken from.new;
+              sent = S.sent to.new;
+              came = P.taken pieces.new;
+              gone = B.sent back.new;
+            }) }
 
         // What its answer says. It is over exactly where the End was taken or this look found the stop mark.
         ensures answer { Answers result
