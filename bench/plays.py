@@ -130,20 +130,21 @@ def city(frames=60):
     return lines
 
 
-def town(frames=60):
+def town(frames=60, width=320, faces=15):
     """A flight over a town of 8 x 8 blocks. At each frame the application makes 2,000 edits, which move 1,000 cars; and DBASE
     merges a block of 32 houses at the far end of the town and takes one out at the near end, which the application deletes.
     The application waits for each merge behind the frame that it awaits, so the pictures are the same every time.
+    A house has so many triangles, and a car as many, but ten at most.
     Nodes: 2 groups, 8 streets, 8 kinds of cars, 1,000 DCS, 64 blocks (DCS) and 2,048 geodes, and up to two blocks more."""
     random = Random(1991)
-    lines = ["perfly 1", "size 320 240", f"lens 320 {UNIT} {1500 * UNIT}", "back 120 170 230", "app", "group 1", "add 0 1",
-             "group 2", "add 0 2"]
-    blocks = [block(random, b) for b in range(64 + frames)]
+    lines = ["perfly 1", f"size {width} {width * 3 // 4}", f"lens {width} {UNIT} {1500 * UNIT}", "back 120 170 230", "app",
+             "group 1", "add 0 1", "group 2", "add 0 2"]
+    blocks = [block(random, b, faces) for b in range(64 + frames)]
     for b in range(64):
         lines += blocks[b] + [f"add 1 {first_of(b)}"]
     for street in range(8):
         lines += [f"group {10 + street}", f"add 2 {10 + street}"]
-        geode(lines, 20 + street, 20 + street, house(random, -UNIT, -2 * UNIT, 2 * UNIT, 4 * UNIT, 2 * UNIT)[:10])
+        geode(lines, 20 + street, 20 + street, house(random, -UNIT, -2 * UNIT, 2 * UNIT, 4 * UNIT, 2 * UNIT)[:min(10, faces)])
         for car in range(street, 1000, 8):
             lines += [f"dcs {100 + car}", f"add {10 + street} {100 + car}", f"add {100 + car} {20 + street}"]
     starts = [random(8000) for _ in range(1000)]
@@ -168,16 +169,22 @@ def first_of(b):
     return 2000 + 33 * b
 
 
-def block(random, b):
-    """The lines that make block b of the town: 32 houses below a DCS. The blocks stand in rows of eight."""
+def block(random, b, faces):
+    """The lines that make block b of the town: 32 houses of so many triangles below a DCS. The blocks stand in rows of eight."""
     node = first_of(b)
     lines = [f"dcs {node}", f"trans {node} {(b % 8 - 4) * 100 * UNIT} {b // 8 * 100 * UNIT} 0"]
     for k in range(32):
         w, d = (5 + random(4)) * UNIT, (9 + random(8)) * UNIT
         geode(lines, node + 1 + k, random(16),
-              house(random, (10 + k % 8 * 10) * UNIT, (9 + k // 8 * 21) * UNIT, w, d, (4 + random(26)) * UNIT))
+              house(random, (10 + k % 8 * 10) * UNIT, (9 + k // 8 * 21) * UNIT, w, d, (4 + random(26)) * UNIT)[:faces])
         lines.append(f"add {node} {node + 1 + k}")
     return lines
+
+
+def traffic(frames=110):
+    """The town drawn small, with two triangles a house and a car: the application, the cull and the draw have about as much
+    to do."""
+    return town(frames, 80, 2)
 
 
 def signs(frames=480):
@@ -328,8 +335,8 @@ def instances(size=1024):
     return lines + ["frame"]
 
 
-PLAYS = {play.__name__: play for play in (flight, city, town, signs, fill, edits, empty, merges, children, waiting, large,
-                                          instances)}
+PLAYS = {play.__name__: play for play in (flight, city, town, traffic, signs, fill, edits, empty, merges, children, waiting,
+                                          large, instances)}
 
 
 def main():
