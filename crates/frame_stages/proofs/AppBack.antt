@@ -1,14 +1,15 @@
 -- How the application goes on as packets come back and are sent, and as it passes a wait.
-use Rattle.std.proofs.Common.{◌≡◌, inl, inr, ℕ, ◌+◌, ◌<◌, ◌≤◌, max, Bool, true, false, ◌||◌, List, [], ◌∷◌, ◌++◌, drop, take, length, Option, Some, None, Result, Ok, Err, refl, sym, ap, ◌∙◌, subst, arith}
-use Rattle.std.proofs.lemmas.List.{length_push}
+use Rattle.std.proofs.Common.{◌≡◌, inl, inr, ℕ, ◌+◌, ◌<◌, ◌≤◌, max, Bool, true, false, not, ◌||◌, List, [], ◌∷◌, ◌++◌, drop, take, length, Option, Some, None, Result, Ok, Err, refl, sym, ap, ◌∙◌, subst, arith}
+use Rattle.std.proofs.lemmas.List.{length_push, append-nil}
 use Rattle.seat_lock.proofs.Logs.{of_found, found-self}
+use Rattle.pf_model.specs.declared.lines.AppStep.{AppStep}
 use Rattle.pf_model.specs.declared.lines.AppStep.TheVariants as app
 use Rattle.pf_history.specs.Logs.{Log}
 use Rattle.pf_scene.specs.Scenes.{SceneState}
 use Rattle.stage_parts.specs.declared.packets.Packet.{Packet}
 use Rattle.stage_parts.specs.Packets.{is_end, bytes_in}
 use Rattle.stage_parts.specs.States.{AppState}
-use Rattle.stage_parts.specs.Parts.{AppKeeps, cut_short}
+use Rattle.stage_parts.specs.Parts.{sent_and_held, AppKeeps, cut_short}
 use Rattle.stage_parts.proofs.AppSteps.{app_law}
 use Rattle.stage_parts.specs.declared.answers.Did.{Did}
 use Rattle.stage_parts.specs.declared.answers.Did.TheVariants as did
@@ -16,7 +17,7 @@ use Rattle.stage_parts.specs.declared.answers.StageError.{StageError}
 use Rattle.stage_parts.specs.declared.answers.StageError.TheVariants as error
 use Rattle.frame_stages.specs.declared.application.Application.{Application}
 use Rattle.stage_parts.specs.Answers.{IsFull, IsDry}
-use Rattle.frame_stages.specs.Scripts.{next_step}
+use Rattle.frame_stages.specs.Scripts.{next_step, SyncIsNext, is_sync_due}
 use Rattle.frame_stages.specs.Flights.{FlightState, SinkSide, CameBack, CameShort}
 use Rattle.frame_stages.specs.AppTurns.{Marks}
 use Rattle.frame_stages.specs.AppWorks.{AppWork, work_of, holds_end, holding, merges_in}
@@ -27,13 +28,22 @@ use Rattle.frame_stages.proofs.AppHome.{home_found, home_same, home_back}
 use Rattle.frame_stages.proofs.AppAsks.{asked_at, asked_next, given_passed}
 use Rattle.frame_stages.proofs.AppPolled.{kept_on, idle}
 
+-- a Sync is due that is to be made next, and at the end of the section
+pub sync_due : (asked synced : Bool) (step : Option AppStep) → SyncIsNext asked synced step → is_sync_due step synced ≡ true
+sync_due true synced step next = ap (λ (s : Option AppStep). is_sync_due s synced) next
+sync_due false synced step next = ap (λ (s : Option AppStep). is_sync_due s synced) next.0 ∙ ap not next.1
+
+pub end_due : (synced : Bool) (step : Option AppStep) → step ≡ None → is_sync_due step synced ≡ true
+end_due synced step none = ap (λ (s : Option AppStep). is_sync_due s synced) none
+
 -- a packet came back, and its picture was wholly written
 pub came_back : (k : ℕ) (a : Application) (f : FlightState) (packet : Packet) (seen : Log) (told : Option SceneState) (taken taken' : List Packet)
     (told_sent : Option (List Packet)) (sink sink' : SinkSide) (ends : Ends) → taken' ≡ taken ++ packet ∷ [] →
+    a.held ≡ None → is_sync_due (next_step a.script.rest) a.synced ≡ true →
     a.flight.written < a.flight.frames → a.flight.fault ≡ None → CameBack packet a.flight f sink sink' →
     Polled k (Ok did.Did) (work_of a) (work_of (record a { flight = f }))
     (around seen told (with_back taken told_sent sink ends)) (around seen told (with_back taken' told_sent sink' ends))
-came_back k a f packet seen told taken taken' told_sent sink sink' ends took away whole came =
+came_back k a f packet seen told taken taken' told_sent sink sink' ends took bare due away whole came =
     subst (λ (v : FlightState). Polled k (Ok did.Did) (work_of a) (work_of (record a { flight = v }))
     (around seen told (with_back taken told_sent sink ends)) (around seen told (with_back taken' told_sent sink' ends))) (sym came.state)
     (record {
@@ -77,17 +87,20 @@ came_back k a f packet seen told taken taken' told_sent sink sink' ends took awa
             (came.wrote ∙ ap (λ (b : Option (List ℕ)). record sink { bytes = b }) (sym (ap (λ (s : SinkSide). s.bytes) came.wrote)));
         many = ap length took ∙ length_push taken packet;
         written = refl;
+        bare = bare;
+        due = due;
       }));
     })
 
 -- a packet came back, and a fault cut its picture short
 pub came_short : (k : ℕ) (a : Application) (f : FlightState) (packet : Packet) (seen seen' : Log) (told told' : Option SceneState)
     (taken taken' : List Packet) (told_sent : Option (List Packet)) (sink sink' : SinkSide) (ends : Ends) → taken' ≡ taken ++ packet ∷ [] →
+    a.held ≡ None → is_sync_due (next_step a.script.rest) a.synced ≡ true →
     a.flight.written < a.flight.frames → a.flight.fault ≡ None → CameShort packet a.flight f sink sink' → Marks k seen told seen' told' →
     (HoldsCopies told → HoldsCopies told') →
     Polled k (Err error.FrameFault) (work_of a) (work_of (record a { flight = f }))
     (around seen told (with_back taken told_sent sink ends)) (around seen' told' (with_back taken' told_sent sink' ends))
-came_short k a f packet seen seen' told told' taken taken' told_sent sink sink' ends took away whole came marks counted =
+came_short k a f packet seen seen' told told' taken taken' told_sent sink sink' ends took bare due away whole came marks counted =
     subst (λ (v : FlightState). Polled k (Err error.FrameFault) (work_of a) (work_of (record a { flight = v }))
     (around seen told (with_back taken told_sent sink ends)) (around seen' told' (with_back taken' told_sent sink' ends))) (sym came.state)
     (record {
@@ -134,6 +147,8 @@ came_short k a f packet seen seen' told told' taken taken' told_sent sink sink' 
         rose = came.rose;
         last = came.last;
         fault = refl;
+        bare = bare;
+        due = due;
       };
     })
 
@@ -170,7 +185,14 @@ was_sent k a packet last seen told sent sent' room told_taken ends bare going la
       waited = λ enough. enough;
       whole = λ ok. refl;
       adds = record { found = seen; goes_on = found-self k seen; adds = inl refl };
-      answer = inl (record { at = refl; own = refl; told = refl; ends = refl; many = ap length pushed ∙ length_push sent packet });
+      answer = inl (record {
+        at = refl;
+        own = refl;
+        told = refl;
+        ends = refl;
+        many = ap length pushed ∙ length_push sent packet;
+        all = ap (λ (h : Option Packet). sent_and_held sent' h) bare ∙ append-nil sent' ∙ pushed;
+      });
     }
   where
     ended : (a.ended || is_end packet) ≡ last
@@ -195,11 +217,11 @@ was_not_sent k a packet packet' seen told sent sent' room told_taken ends back s
     (found-self k seen) (ap (λ (p : Packet). work_of (record a { held = Some p })) back) refl full)
 
 -- a wait was passed
-pub passes_wait : (k wanted : ℕ) (w : AppWork) (seen : Log) (told : Option SceneState) (ends : Ends) → w.state.closed ≡ false →
+pub passes_wait : (k wanted : ℕ) (w : AppWork) (seen : Log) (told : Option SceneState) (ends : Ends) → w.state.held ≡ None → w.state.closed ≡ false →
     next_step w.rest ≡ Some (app.Wait wanted) → wanted ≤ merges_in seen → w.state.need ≤ merges_in seen →
     Polled k (Ok did.Did) w (record w { rest = drop 1 w.rest; state = record w.state { at = w.state.at + 1; need = max w.state.need wanted } })
     (around seen told ends) (around seen told ends)
-passes_wait k wanted w seen told ends going next here before =
+passes_wait k wanted w seen told ends bare going next here before =
     let enough : max w.state.need wanted ≤ merges_in seen = omega (arith, here, before) in
     record {
       given = λ g given. given_passed g w after (app.Wait wanted) given next refl refl;
@@ -213,7 +235,7 @@ passes_wait k wanted w seen told ends going next here before =
       waited = λ old. enough;
       whole = λ ok. refl;
       adds = record { found = seen; goes_on = found-self k seen; adds = inl refl };
-      answer = inr (inr (inl (record { at = refl; need = enough; own = refl; told = refl; ends = refl })));
+      answer = inr (inr (inl (record { at = refl; need = enough; own = refl; told = refl; ends = refl; bare = bare })));
     }
   where
     after : AppWork

@@ -1,9 +1,9 @@
 -- How the application goes on by its turns.
-use Rattle.std.proofs.Common.{◌≡◌, ℕ, zero, suc, ◌+◌, ◌<◌, ◌≤◌, Bool, true, false, List, [], ◌∷◌, map, drop, length, Some, None, refl, sym, ap, ◌∙◌, subst, arith}
+use Rattle.std.proofs.Common.{◌≡◌, ℕ, zero, suc, ◌+◌, ◌<◌, ◌≤◌, Bool, true, false, List, [], ◌∷◌, map, drop, length, Option, Some, None, refl, sym, ap, ◌∙◌, subst, arith}
 use Rattle.std.proofs.lemmas.List.{length_push, length-map, length-set, length-replicate}
 use Rattle.std.proofs.lemmas.Option.{same_Some, slice_get_within}
 use Rattle.std.specs.List.{All}
-use Rattle.std.specs.Prelude.{slice_get, slice_index_or}
+use Rattle.std.specs.Prelude.{if◌then◌else◌, slice_get, slice_index_or}
 use Rattle.fx_math.specs.declared.lenses.Lens.{Lens}
 use Rattle.pf_model.specs.declared.edits.Edit.{Edit}
 use Rattle.pf_model.specs.Angles.{Viewpoint, home_view}
@@ -32,7 +32,7 @@ use Rattle.stage_parts.specs.Parts.{AppKeeps}
 use Rattle.stage_parts.specs.Steps.{next_frame}
 use Rattle.stage_parts.specs.AppSteps.{IsOwnTurn}
 use Rattle.stage_parts.proofs.AppSteps.{app_law}
-use Rattle.frame_stages.specs.Scripts.{next_step, SyncIsNext}
+use Rattle.frame_stages.specs.Scripts.{next_step, SyncIsNext, own_lines}
 use Rattle.frame_stages.specs.Flights.{HaveFirst, IsFitFor}
 use Rattle.frame_stages.specs.AppWorks.{AppWork, IsGiven, merges_in, with_load}
 use Rattle.frame_stages.specs.AppAnswers.{Ends}
@@ -56,6 +56,11 @@ past w = record w { rest = drop 1 w.rest; state = record w.state { at = w.state.
 given_past : (g : Setup) (w : AppWork) (step : AppStep) → IsGiven g w → next_step w.rest ≡ Some step → IsGiven g (past w)
 given_past g w step given next = given_passed g w (past w) step given next refl refl
 
+-- how many lines the next entry passes, by the next step
+lines_of : (w : AppWork) (step : Option AppStep) → next_step w.rest ≡ step →
+    own_lines (next_step w.rest) w.state.synced ≡ own_lines step w.state.synced
+lines_of w step next = ap (λ (s : Option AppStep). own_lines s w.state.synced) next
+
 -- an edit is made
 pub edit_goes : (k : ℕ) (e : Edit) (ends : Ends) (w : AppWork) (found : Shared) → w.state.closed ≡ false →
     next_step w.rest ≡ Some (app.Edit e) → w.state.need ≤ merges_in found.log → GoesOnBy k (command.Edit e) ends w (past w) found
@@ -64,6 +69,7 @@ edit_goes k e ends w found going next enough =
       app = refl;
       retires = tt;
       at = omega arith;
+      line = let lines : own_lines (next_step w.rest) w.state.synced ≡ 1 = lines_of w (Some (app.Edit e)) next in omega (arith, lines);
       need = refl;
       fault = refl;
       given = λ g given. given_past g w (app.Edit e) given next;
@@ -89,6 +95,7 @@ view_goes k channel v ends w found going next enough =
       app = refl;
       retires = tt;
       at = omega arith;
+      line = let lines : own_lines (next_step w.rest) w.state.synced ≡ 1 = lines_of w (Some (app.View channel v)) next in omega (arith, lines);
       need = refl;
       fault = refl;
       given = λ g given. given_past g w (app.View channel v) given next;
@@ -123,6 +130,7 @@ sync_goes true k ends w found going whole next enough room =
       app = refl;
       retires = refl;
       at = omega arith;
+      line = let lines : own_lines (next_step w.rest) w.state.synced ≡ 1 = lines_of w (Some app.Sync) next in omega (arith, lines);
       need = refl;
       fault = refl;
       given = λ g given. given_passed g w (synced_work true w) app.Sync given next refl refl;
@@ -146,6 +154,7 @@ sync_goes false k ends w found going whole next enough room =
       app = refl;
       retires = refl;
       at = omega arith;
+      line = let lines : own_lines (next_step w.rest) w.state.synced ≡ 0 = lines_of w (Some app.Frame) next.0 ∙ ap (λ t. if t then 1 else 0) next.1 in omega (arith, lines);
       need = refl;
       fault = refl;
       given = given_same;
@@ -189,6 +198,7 @@ close_goes k ends w found going whole bare next enough back room all =
       app = refl;
       retires = refl;
       at = omega arith;
+      line = let lines : own_lines (next_step w.rest) w.state.synced ≡ 0 = lines_of w None next in omega (arith, lines);
       need = refl;
       fault = refl;
       given = λ g given.
@@ -323,6 +333,7 @@ frame_goes k old load load' ends w found going bare synced next enough fit may c
       app = refl;
       retires = tt;
       at = omega arith;
+      line = let lines : own_lines (next_step w.rest) w.state.synced ≡ 1 = lines_of w (Some app.Frame) next ∙ ap (λ t. if t then 1 else 0) synced in omega (arith, lines);
       need = refl;
       fault = refl;
       given = given_begun;

@@ -1,5 +1,5 @@
 -- What the outcomes of a step say of a poll.
-use Rattle.std.proofs.Common.{◌≡◌, inl, inr, ℕ, ◌+◌, ◌≤◌, List, [], ◌∷◌, ◌++◌, length, Option, Some, None, Result, Ok, Err, refl, sym, ap, ◌∙◌, subst, arith}
+use Rattle.std.proofs.Common.{◌≡◌, inl, inr, ℕ, ◌+◌, ◌<◌, ◌≤◌, true, List, [], ◌∷◌, ◌++◌, length, Option, Some, None, Result, Ok, Err, refl, sym, ap, ◌∙◌, subst, arith}
 use Rattle.std.proofs.lemmas.List.{append-nil}
 use Rattle.std.specs.Io.KnownBytes.{append_known}
 use Rattle.seat_lock.specs.Log.{of, Found}
@@ -17,10 +17,12 @@ use Rattle.stage_parts.specs.States.{Setup, AppState}
 use Rattle.stage_parts.specs.Frames.{AreOwnFrames, RetiresJust}
 use Rattle.stage_parts.specs.Parts.{AppKeeps}
 use Rattle.stage_parts.proofs.Numbers.{own_front}
+use Rattle.stage_parts.specs.Answers.{IsDry}
 use Rattle.stage_parts.specs.declared.answers.Did.{Did}
 use Rattle.stage_parts.specs.declared.answers.Did.TheVariants as did
 use Rattle.stage_parts.specs.declared.answers.StageError.{StageError}
 use Rattle.stage_parts.specs.declared.answers.StageError.TheVariants as error
+use Rattle.frame_stages.specs.Scripts.{next_step, is_sync_due, own_lines}
 use Rattle.frame_stages.specs.AppTurns.{Tells, Made, Wanting, IsMarked, Marks}
 use Rattle.frame_stages.specs.AppWorks.{AppWork, IsGiven, merges_in}
 use Rattle.frame_stages.specs.Copies.{HoldsCopies, IsHomeRight, HasHome}
@@ -102,10 +104,10 @@ respare g k a log ends stream spare many keeps =
     }
 
 -- there was no memory, and the mark is set
-pub out : (k : ℕ) (w w' : AppWork) (seen seen' : Log) (told told' : Option SceneState) (ends : Ends) →
+pub out : (k : ℕ) (w w' : AppWork) (seen seen' : Log) (told told' : Option SceneState) (ends : Ends) → w.state.held ≡ None →
     Marks k seen told seen' told' → (HoldsCopies told → IsHomeRight w told → HoldsCopies told') → IsRespared w w' →
     Polled k (Err error.NoMemory) w w' (around seen told ends) (around seen' told' ends)
-out k w w' seen seen' told told' ends marks counted as_before =
+out k w w' seen seen' told told' ends bare marks counted as_before =
     subst (λ (v : AppWork). Polled k (Err error.NoMemory) w v (around seen told ends) (around seen' told' ends)) (sym as_before.same)
     (record {
       given = λ g given. record {
@@ -128,7 +130,7 @@ out k w w' seen seen' told told' ends marks counted as_before =
       waited = λ enough. let more = merges_found k seen seen' marks.goes_on in omega (arith, enough, more);
       whole = λ ok. refl;
       adds = record { found = seen'; goes_on = marks.goes_on; adds = inl refl };
-      answer = record { at = refl; own = of_found k seen seen' marks.goes_on; told = marks.tells; ends = refl };
+      answer = record { at = refl; own = of_found k seen seen' marks.goes_on; told = marks.tells; ends = refl; bare = bare };
     })
 
 marked_later : (k : ℕ) (told told' told'' : Option SceneState) → Tells (λ old new. new ≡ seated k old) told told' →
@@ -163,6 +165,7 @@ pub record GoesOnBy (k : ℕ) (c : Command) (ends : Ends) (w w' : AppWork) (foun
   pub app : caller_of c ≡ App
   pub retires : RetiresJust w'.state.written c
   pub at : w.state.at ≤ w'.state.at
+  pub line : w'.state.at ≡ w.state.at + own_lines (next_step w.rest) w.state.synced
   pub need : w'.state.need ≡ w.state.need
   pub fault : w'.state.fault ≡ w.state.fault
   pub given : (g : Setup) → IsGiven g w → IsGiven g w'
@@ -185,9 +188,11 @@ longer k c app old new is =
 
 -- an entry was made
 pub by_entry : (k : ℕ) (c : Command) (May : Shared → Type 0) (w w' : AppWork) (seen seen' : Log) (told told' : Option SceneState) (ends : Ends)
-    (m : Made k c May seen told seen' told') → (HoldsCopies told → IsHomeRight w told → HoldsCopies told') → GoesOnBy k c ends w w' m.found →
+    (m : Made k c May seen told seen' told') → w.state.held ≡ None →
+    (is_sync_due (next_step w.rest) w.state.synced ≡ true → w.state.written < w.state.frames → IsDry ends.told_sent ends.taken) →
+    (HoldsCopies told → IsHomeRight w told → HoldsCopies told') → GoesOnBy k c ends w w' m.found →
     Polled k (Ok did.Did) w w' (around seen told ends) (around seen' told' ends)
-by_entry k c May w w' seen seen' told told' ends m counted by =
+by_entry k c May w w' seen seen' told told' ends m bare back counted by =
     let log = m.found.log in
     let e = own_entry m.found.channels log k c in
     record {
@@ -214,27 +219,58 @@ by_entry k c May w w' seen seen' told told' ends m counted by =
         own = ap (λ (l : Log). length (of k l)) m.adds ∙ one_more k log e.1 ∙ ap (λ (es : List Entry). length es + 1) (of_found k seen log m.goes_on);
         told = tells_as (λ old new. new ≡ entered c (seated k old)) (IsLonger k) told told' (longer k c by.app) m.tells;
         ends = refl;
+        bare = bare;
+        line = by.line;
+        back = back;
       })));
     }
 
 looked_answer : (r : Result Did StageError) (k : ℕ) (w w' : AppWork) (first seen : Log) (told : Option SceneState) (ends : Ends) (after : Around) →
     of k seen ≡ of k first → AppAnswers r k w w' (around seen told ends) after → AppAnswers r k w w' (around first told ends) after
 looked_answer (Ok did.Did) k w w' first seen told ends after own (inl s) =
-    inl (record { at = s.at; own = s.own ∙ own; told = s.told; ends = s.ends; many = s.many })
+    inl (record { at = s.at; own = s.own ∙ own; told = s.told; ends = s.ends; many = s.many; all = s.all })
 looked_answer (Ok did.Did) k w w' first seen told ends after own (inr (inl s)) =
-    inr (inl (record { at = s.at; own = s.own ∙ own; told = s.told; ends = s.ends; many = s.many; written = s.written }))
+    inr (inl (record {
+      at = s.at;
+      own = s.own ∙ own;
+      told = s.told;
+      ends = s.ends;
+      many = s.many;
+      written = s.written;
+      bare = s.bare;
+      due = s.due;
+    }))
 looked_answer (Ok did.Did) k w w' first seen told ends after own (inr (inr (inl s))) =
-    inr (inr (inl (record { at = s.at; need = s.need; own = s.own ∙ own; told = s.told; ends = s.ends })))
+    inr (inr (inl (record { at = s.at; need = s.need; own = s.own ∙ own; told = s.told; ends = s.ends; bare = s.bare })))
 looked_answer (Ok did.Did) k w w' first seen told ends after own (inr (inr (inr s))) =
-    inr (inr (inr (record { at = s.at; own = s.own ∙ ap (λ (es : List Entry). length es + 1) own; told = s.told; ends = s.ends })))
+    inr (inr (inr (record {
+      at = s.at;
+      own = s.own ∙ ap (λ (es : List Entry). length es + 1) own;
+      told = s.told;
+      ends = s.ends;
+      bare = s.bare;
+      line = s.line;
+      back = s.back;
+    })))
 looked_answer (Ok did.NotYet) k w w' first seen told ends after own (s, waits) =
     (record { work = s.work; own = s.own ∙ own; told = s.told; ends = s.ends }, waits)
 looked_answer (Ok did.Over) k w w' first seen told ends after own s =
     record { work = s.work; own = s.own ∙ own; told = s.told; ends = s.ends }
 looked_answer (Err error.FrameFault) k w w' first seen told ends after own s =
-    record { at = s.at; own = s.own ∙ own; told = s.told; many = s.many; ends = s.ends; rose = s.rose; last = s.last; fault = s.fault }
+    record {
+      at = s.at;
+      own = s.own ∙ own;
+      told = s.told;
+      many = s.many;
+      ends = s.ends;
+      rose = s.rose;
+      last = s.last;
+      fault = s.fault;
+      bare = s.bare;
+      due = s.due;
+    }
 looked_answer (Err error.NoMemory) k w w' first seen told ends after own s =
-    record { at = s.at; own = s.own ∙ own; told = s.told; ends = s.ends }
+    record { at = s.at; own = s.own ∙ own; told = s.told; ends = s.ends; bare = s.bare }
 
 adds_later : (k written : ℕ) (first seen seen' : Log) → Found k first seen → AppAdds k written seen seen' → AppAdds k written first seen'
 adds_later k written first seen seen' found adds =

@@ -1,5 +1,5 @@
 -- The steps of the application, outcome by outcome.
-use Rattle.std.proofs.Common.{◌≡◌, ◌⊎◌, inl, inr, ℕ, ◌+◌, ◌<◌, ◌≤◌, max, Bool, true, false, ◌||◌, List, [], ◌∷◌, ◌++◌, length, Option, Some, None, Ok, Err, refl, sym, ap, ◌∙◌, subst, arith}
+use Rattle.std.proofs.Common.{◌≡◌, ◌⊎◌, inl, inr, ℕ, ◌+◌, ◌<◌, ◌≤◌, max, Bool, true, false, not, ◌||◌, List, [], ◌∷◌, ◌++◌, length, Option, Some, None, Ok, Err, refl, sym, ap, ◌∙◌, subst, arith}
 use Rattle.std.proofs.lemmas.List.{length_push}
 use Rattle.std.specs.Prelude.{MatchOption}
 use Rattle.seat_lock.specs.Log.{Found}
@@ -20,7 +20,7 @@ use Rattle.stage_parts.specs.declared.answers.Did.TheVariants as did
 use Rattle.stage_parts.specs.declared.answers.StageError.TheVariants as error
 use Rattle.frame_stages.specs.declared.application.Application.{Application}
 use Rattle.stage_parts.specs.Answers.{IsFull, IsDry}
-use Rattle.frame_stages.specs.Scripts.{ScriptState, next_step, passed, SyncIsNext, synced_script}
+use Rattle.frame_stages.specs.Scripts.{ScriptState, next_step, is_sync_due, passed, SyncIsNext, synced_script}
 use Rattle.frame_stages.specs.Flights.{FlightState, IsFitFor, begun}
 use Rattle.frame_stages.specs.AppTurns.{Bars, Made, Barred, Wanting, Marks, Begun}
 use Rattle.frame_stages.specs.AppWorks.{AppWork, work_of, holds_end, holding, with_load, merges_in}
@@ -78,12 +78,19 @@ barred k w w' May seen seen' told told' ends step bare next same b waits =
     (step_waits w seen' told ends step bare next (waits b.bars))
 
 -- a step that found no memory
-pub wanting : (k : ℕ) (w w' : AppWork) (seen seen' seen'' : Log) (told told' told'' : Option SceneState) (ends : Ends) → w' ≡ w →
+pub wanting : (k : ℕ) (w w' : AppWork) (seen seen' seen'' : Log) (told told' told'' : Option SceneState) (ends : Ends) → w.state.held ≡ None →
+    w' ≡ w →
     Wanting k seen told seen' told' → Marks k seen' told' seen'' told'' → (HoldsCopies told → IsHomeRight w told → HoldsCopies told'') →
     Polled k (Err error.NoMemory) w w' (around seen told ends) (around seen'' told'' ends)
-wanting k w w' seen seen' seen'' told told' told'' ends same want marks counted =
-    out k w w' seen seen'' told told'' ends (marks_later k seen seen' seen'' told told' told'' want marks) counted
+wanting k w w' seen seen' seen'' told told' told'' ends bare same want marks counted =
+    out k w w' seen seen'' told told'' ends bare (marks_later k seen seen' seen'' told told' told'' want marks) counted
     (subst (λ (v : AppWork). IsRespared w v) (sym same) (record { same = refl; many = refl }))
+
+-- before this step no Sync is due
+none_due : (step : AppStep) (synced : Bool) (next : Option AppStep) → next ≡ Some step → is_sync_due (Some step) synced ≡ false →
+    is_sync_due next synced ≡ true → ⊥
+none_due step synced next is none due =
+    let same : is_sync_due next synced ≡ is_sync_due (Some step) synced = ap (λ (s : Option AppStep). is_sync_due s synced) is in cc
 
 -- an edit was made
 pub edited : (k : ℕ) (a : Application) (script : ScriptState) (e : Edit) (seen seen' : Log) (told told' : Option SceneState) (ends : Ends) →
@@ -92,7 +99,8 @@ pub edited : (k : ℕ) (a : Application) (script : ScriptState) (e : Edit) (seen
     Polled k (Ok did.Did) (work_of a) (work_of (record a { script = script })) (around seen told ends) (around seen' told' ends)
 edited k a script e seen seen' told told' ends bare going next enough is m counted =
     subst (λ (s : ScriptState). Polled k (Ok did.Did) (work_of a) (work_of (record a { script = s })) (around seen told ends) (around seen' told' ends)) (sym is)
-    (by_entry k (command.Edit e) (λ s. MayEdit s e) (work_of a) (past (work_of a)) seen seen' told told' ends m (λ holds right. counted holds)
+    (by_entry k (command.Edit e) (λ s. MayEdit s e) (work_of a) (past (work_of a)) seen seen' told told' ends m bare
+    (λ due away. absurd (none_due (app.Edit e) a.synced (next_step a.script.rest) next refl due)) (λ holds right. counted holds)
     (edit_goes k e ends (work_of a) m.found (not_closed a bare going) next (later k a.script.need seen m.found.log m.goes_on enough)))
 
 -- a view was set
@@ -102,7 +110,8 @@ pub viewed : (k : ℕ) (a : Application) (script : ScriptState) (channel : ℕ) 
     Polled k (Ok did.Did) (work_of a) (work_of (record a { script = script })) (around seen told ends) (around seen' told' ends)
 viewed k a script channel v seen seen' told told' ends bare going next enough is m counted =
     subst (λ (s : ScriptState). Polled k (Ok did.Did) (work_of a) (work_of (record a { script = s })) (around seen told ends) (around seen' told' ends)) (sym is)
-    (by_entry k (command.View channel v) (λ s. MayView s channel v) (work_of a) (past (work_of a)) seen seen' told told' ends m (λ holds right. counted holds)
+    (by_entry k (command.View channel v) (λ s. MayView s channel v) (work_of a) (past (work_of a)) seen seen' told told' ends m bare
+    (λ due away. absurd (none_due (app.View channel v) a.synced (next_step a.script.rest) next refl due)) (λ holds right. counted holds)
     (view_goes k channel v ends (work_of a) m.found (not_closed a bare going) next (later k a.script.need seen m.found.log m.goes_on enough)))
 
 -- the lists were given back
@@ -118,17 +127,18 @@ unsent a f same stay =
 
 -- a Sync was made
 pub synced : (asked : Bool) (k : ℕ) (a a' : Application) (f : FlightState) (seen seen' : Log) (told told' : Option SceneState) (ends : Ends) →
+    (a.flight.written < a.flight.frames → IsDry ends.told_sent ends.taken) →
     a.held ≡ None → a.ended ≡ false → a.flight.fault ≡ None → SyncIsNext asked a.synced (next_step a.script.rest) → a.script.need ≤ merges_in seen →
     a.flight.frames < a.flight.written + a.flight.ahead → f ≡ record a.flight { home = f.home } → f.home ≡ [] →
     a' ≡ record a { flight = f; script = synced_script asked a.script; synced = true } →
     Made k (command.Sync a.flight.written) (λ s. MaySync s a.flight.written) seen told seen' told' →
     (AreHomeward a.flight.written told a.flight.home → HoldsCopies told → HoldsCopies told') →
     Polled k (Ok did.Did) (work_of a) (work_of a') (around seen told ends) (around seen' told' ends)
-synced asked k a a' f seen seen' told told' ends bare going whole next enough room same none is m counted =
+synced asked k a a' f seen seen' told told' ends back bare going whole next enough room same none is m counted =
     subst (λ (v : AppWork). Polled k (Ok did.Did) (work_of a) v (around seen told ends) (around seen' told' ends))
     (sym (ap work_of is ∙ ap (λ (v : FlightState). work_of (record a { flight = v; script = synced_script asked a.script; synced = true }))
     (emptied a f same none) ∙ work asked))
-    (by_entry k (command.Sync a.flight.written) (λ s. MaySync s a.flight.written) (work_of a) (synced_work asked (work_of a)) seen seen' told told' ends m
+    (by_entry k (command.Sync a.flight.written) (λ s. MaySync s a.flight.written) (work_of a) (synced_work asked (work_of a)) seen seen' told told' ends m bare (λ due. back)
     (λ holds right. counted (right whole) holds)
     (sync_goes asked k ends (work_of a) m.found (not_closed a bare going) whole next (later k a.script.need seen m.found.log m.goes_on enough) room))
   where
@@ -151,7 +161,8 @@ pub closed : (k : ℕ) (a : Application) (f : FlightState) (seen seen' : Log) (t
     Polled k (Ok did.Did) (work_of a) (work_of (record a { flight = f; held = Some End })) (around seen told ends) (around seen' told' ends)
 closed k a f seen seen' told told' ends bare going whole next enough back room all same none m counted =
     subst (λ (v : AppWork). Polled k (Ok did.Did) (work_of a) v (around seen told ends) (around seen' told' ends)) (sym work)
-    (by_entry k (command.Sync a.flight.written) (λ s. MaySync s a.flight.written) (work_of a) (closed_work (work_of a)) seen seen' told told' ends m
+    (by_entry k (command.Sync a.flight.written) (λ s. MaySync s a.flight.written) (work_of a) (closed_work (work_of a)) seen seen' told told' ends m bare
+    (λ due away. absurd (omega (arith, back, away)))
     (λ holds right. counted (right whole) holds)
     (close_goes k ends (work_of a) m.found (not_closed a bare going) whole bare next (later k a.script.need seen m.found.log m.goes_on enough) back room
     (later k a.merges seen m.found.log m.goes_on all)))
@@ -172,7 +183,8 @@ frame_begun k ahead a a' old load load' seen seen' told told' ends bare going is
     let m = b.made in
     subst (λ (v : AppWork). Polled k (Ok did.Did) (with_load old (work_of a)) v (around seen told ends) (around seen' told' ends)) (sym work)
     (by_entry k command.Frame (λ s. MayFrame s ahead (length load.lists)) (with_load old (work_of a)) (begun_work load' (work_of a))
-    seen seen' told told' ends m (λ holds right. counted holds)
+    seen seen' told told' ends m bare
+    (λ due away. absurd (none_due app.Frame a.synced (next_step a.script.rest) next (ap not is_synced) due)) (λ holds right. counted holds)
     (frame_goes k old load load' ends (work_of a) m.found (not_closed a bare going) bare is_synced next
     (later k a.script.need seen m.found.log m.goes_on enough) fit
     (subst (λ n. MayFrame m.found n (length load.lists)) same m.may) b.cut b.room b.lists b.same))
@@ -273,4 +285,4 @@ pub waited : (k wanted : ℕ) (a : Application) (script : ScriptState) (seen : L
     Polled k (Ok did.Did) (work_of a) (work_of (record a { script = script })) (around seen told ends) (around seen told ends)
 waited k wanted a script seen told ends bare going next here before is =
     subst (λ (s : ScriptState). Polled k (Ok did.Did) (work_of a) (work_of (record a { script = s })) (around seen told ends) (around seen told ends)) (sym is)
-    (passes_wait k wanted (work_of a) seen told ends (not_closed a bare going) next here before)
+    (passes_wait k wanted (work_of a) seen told ends bare (not_closed a bare going) next here before)

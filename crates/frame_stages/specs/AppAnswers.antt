@@ -13,14 +13,14 @@ use Rattle.pf_scene.specs.Acts.{MayEdit, MayView, MaySync, MayFrame}
 use Rattle.stage_parts.specs.declared.packets.Packet.{Packet}
 use Rattle.stage_parts.specs.States.{Setup, AppState}
 use Rattle.stage_parts.specs.Frames.{AreOwnFrames, RetiresJust}
-use Rattle.stage_parts.specs.Parts.{AppKeeps}
+use Rattle.stage_parts.specs.Parts.{sent_and_held, AppKeeps}
 use Rattle.stage_parts.specs.declared.answers.Did.{Did}
 use Rattle.stage_parts.specs.declared.answers.Did.TheVariants as did
 use Rattle.stage_parts.specs.declared.answers.StageError.{StageError}
 use Rattle.stage_parts.specs.declared.answers.StageError.TheVariants as error
 use Rattle.stage_parts.specs.Answers.{IsFull, IsDry}
 use Rattle.frame_stages.specs.Flights.{FlightState, SinkSide}
-use Rattle.frame_stages.specs.Scripts.{next_step}
+use Rattle.frame_stages.specs.Scripts.{next_step, is_sync_due, own_lines}
 use Rattle.frame_stages.specs.AppTurns.{Tells, Bars, IsMarked}
 use Rattle.frame_stages.specs.AppWorks.{AppWork, IsGiven, merges_in}
 use Rattle.frame_stages.specs.Copies.{HoldsCopies, IsHomeRight, HasHome}
@@ -56,7 +56,7 @@ with_back taken told sink ends = record ends { taken = taken; told_sent = told; 
 abbrev pub IsBackFrom : FlightState → Ends → Type 0
 IsBackFrom f ends = f.written < f.frames → IsDry ends.told_sent ends.taken
 
--- What an answer says
+-- What an answer says. What is held goes first: all but sending it is done only where none is held.
 
 -- Nothing changed.
 pub record IsIdle (k : ℕ) (old new : AppWork) (before after : Around) : Type 0 where
@@ -65,15 +65,16 @@ pub record IsIdle (k : ℕ) (old new : AppWork) (before after : Around) : Type 0
   pub told : after.told ≡ before.told
   pub ends : after.ends ≡ before.ends
 
--- A packet was sent.
+-- The packet that was held was sent.
 pub record Sends (k : ℕ) (old new : AppWork) (before after : Around) : Type 0 where
   pub at : new.state.at ≡ old.state.at
   pub own : of k after.seen ≡ of k before.seen
   pub told : after.told ≡ before.told
   pub ends : after.ends ≡ record before.ends { sent = after.ends.sent }
   pub many : length after.ends.sent ≡ length before.ends.sent + 1
+  pub all : sent_and_held after.ends.sent new.state.held ≡ sent_and_held before.ends.sent old.state.held
 
--- A packet was taken back, and its picture was wholly written.
+-- Before a Sync a packet was taken back, and its picture was wholly written.
 pub record TakesBack (k : ℕ) (old new : AppWork) (before after : Around) : Type 0 where
   pub at : new.state.at ≡ old.state.at
   pub own : of k after.seen ≡ of k before.seen
@@ -82,6 +83,8 @@ pub record TakesBack (k : ℕ) (old new : AppWork) (before after : Around) : Typ
       ≡ record before.ends { taken = after.ends.taken; sink = record before.ends.sink { bytes = after.ends.sink.bytes } }
   pub many : length after.ends.taken ≡ length before.ends.taken + 1
   pub written : new.state.written ≡ old.state.written + 1
+  pub bare : old.state.held ≡ None
+  pub due : is_sync_due (next_step old.rest) old.state.synced ≡ true
 
 -- A wait was passed, for so many merges as stand in the log.
 pub record PassesWait (k : ℕ) (old new : AppWork) (before after : Around) : Type 0 where
@@ -90,6 +93,7 @@ pub record PassesWait (k : ℕ) (old new : AppWork) (before after : Around) : Ty
   pub own : of k after.seen ≡ of k before.seen
   pub told : after.told ≡ before.told
   pub ends : after.ends ≡ before.ends
+  pub bare : old.state.held ≡ None
 
 -- The log of the scene has one entry more, the application's under the number k, and else what is shared is as before,
 -- the seat aside.
@@ -101,14 +105,18 @@ pub record IsLonger (k : ℕ) (old new : Shared) : Type 0 where
   pub ahead : new.ahead ≡ old.ahead
   pub channels : new.channels ≡ old.channels
 
--- An entry was made.
+-- An entry was made, and its line was passed, where it has one. Before a Sync nothing was left to take back.
 pub record MakesEntry (k : ℕ) (old new : AppWork) (before after : Around) : Type 0 where
   pub at : old.state.at ≤ new.state.at
   pub own : length (of k after.seen) ≡ length (of k before.seen) + 1
   pub told : Tells (IsLonger k) before.told after.told
   pub ends : after.ends ≡ before.ends
+  pub bare : old.state.held ≡ None
+  pub line : new.state.at ≡ old.state.at + own_lines (next_step old.rest) old.state.synced
+  pub back : is_sync_due (next_step old.rest) old.state.synced ≡ true → old.state.written < old.state.frames →
+      IsDry before.ends.told_sent before.ends.taken
 
--- A fault of the sink cut the picture short of a packet that was taken back.
+-- A fault of the sink cut the picture short of a packet that was taken back before a Sync.
 pub record CutsShort (k : ℕ) (old new : AppWork) (before after : Around) : Type 0 where
   pub at : new.state.at ≡ old.state.at
   pub own : of k after.seen ≡ of k before.seen
@@ -118,6 +126,8 @@ pub record CutsShort (k : ℕ) (old new : AppWork) (before after : Around) : Typ
   pub rose : Rose before.ends.sink.faults after.ends.sink.faults
   pub last : after.ends.sink.at_fault ≡ after.ends.sink.bytes
   pub fault : IsSome new.state.fault
+  pub bare : old.state.held ≡ None
+  pub due : is_sync_due (next_step old.rest) old.state.synced ≡ true
 
 -- There was no memory.
 pub record RunsOut (k : ℕ) (old new : AppWork) (before after : Around) : Type 0 where
@@ -125,6 +135,7 @@ pub record RunsOut (k : ℕ) (old new : AppWork) (before after : Around) : Type 
   pub own : of k after.seen ≡ of k before.seen
   pub told : Tells IsMarked before.told after.told
   pub ends : after.ends ≡ before.ends
+  pub bare : old.state.held ≡ None
 
 -- A Sync has to wait: more frames are away than may be, and no packet came back.
 abbrev pub SyncWaits : AppWork → Option SceneState → Ends → Type 0

@@ -1,5 +1,6 @@
 pub mod Looks
 pub mod Stays
+pub mod Turns
 pub mod Painting
 pub mod Works
 pub mod CullBoxes

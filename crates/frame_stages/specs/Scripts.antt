@@ -1,5 +1,5 @@
 -- The lines of the application's section, and how it goes through them.
-use Rattle.std.specs.Prelude.{◌≡◌, ℕ, ◌+◌, ◌≤◌, Bool, true, false, List, [], ◌∷◌, drop, Option, None, Some}
+use Rattle.std.specs.Prelude.{◌≡◌, ℕ, ◌+◌, ◌≤◌, Bool, true, false, not, if◌then◌else◌, List, [], ◌∷◌, drop, Option, None, Some}
 use Rattle.pf_model.specs.declared.edits.Edit.{Edit}
 use Rattle.pf_model.specs.declared.lines.AppStep.{AppStep}
 use Rattle.pf_model.specs.declared.lines.AppStep.TheVariants as app
@@ -35,6 +35,19 @@ passed s = record s { rest = drop 1 s.rest; at = s.at + 1 }
 abbrev pub SyncIsNext : (asked synced : Bool) → Option AppStep → Type 0
 SyncIsNext true synced step = step ≡ Some app.Sync
 SyncIsNext false synced step = (step ≡ Some app.Frame) × (synced ≡ false)
+
+-- a Sync is due: for a line of its own, before a Frame where none stands since the last one, or at the end of the section
+abbrev pub is_sync_due : Option AppStep → (synced : Bool) → Bool
+is_sync_due None synced = true
+is_sync_due (Some app.Sync) synced = true
+is_sync_due (Some app.Frame) synced = not synced
+is_sync_due (Some _) synced = false
+
+-- how many lines the next entry passes: a Sync before a Frame, or at the end of the section, has none of its own
+abbrev pub own_lines : Option AppStep → (synced : Bool) → ℕ
+own_lines None synced = 0
+own_lines (Some app.Frame) synced = if synced then 1 else 0
+own_lines (Some _) synced = 1
 
 -- a Sync was made: its own line is passed
 abbrev pub synced_script : Bool → ScriptState → ScriptState

@@ -2,6 +2,8 @@
 ghost use Rattle.std.specs.Prelude.{◌≡◌, ◌≤◌, ◌<◌, true, false, ℕ, length, Some, Ok, IfOk};
 ghost use Rattle.stage_parts.specs.declared.answers.Did.TheVariants as did;
 ghost use Rattle.stage_parts.specs.Answers.{is_over};
+ghost use Rattle.stage_parts.specs.Loads.{Each};
+ghost use Rattle.frame_stages.specs.Flights.{IsFitFor};
 ghost use Rattle.frame_stages.specs.Scripts.{most_lines};
 ghost use Rattle.frame_stages.specs.AppWorks.{opening_work, is_done};
 ghost use Rattle.frame_stages.specs.Looks.{FoundMark};
@@ -61,6 +63,7 @@ impl AppStage {
           channels = channels;
         }) a.state.spare) }
         ensures loads { IfOk result (λ a. length a.state.spare ≡ ahead) }
+        ensures fit { IfOk result (λ a. Each (IsFitFor lens channels) a.state.spare) }
     {
         let flight = Flight::new(alloc, &lens, ahead, channels)?;
         Ok(AppStage {

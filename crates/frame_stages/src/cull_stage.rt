@@ -4,6 +4,7 @@ ghost use Rattle.seat_lock.specs.Log.{Found};
 ghost use Rattle.pf_model.specs.Copies.{copy_of};
 ghost use Rattle.multibuffer.specs.StageCopies.{HasRightBoxes};
 ghost use Rattle.stage_parts.specs.Packets.{is_end};
+ghost use Rattle.stage_parts.specs.Parts.{sent_and_held};
 ghost use Rattle.frame_stages.specs.Looks.{SawMark};
 ghost use Rattle.stage_parts.specs.Answers.{is_over, IsFull, IsDry, WaitsToPass, MovesOne, PassesOn};
 ghost use Rattle.frame_stages.specs.CullBoxes.{HoldsCulled, KeepsBoxes};
@@ -11,6 +12,7 @@ ghost use Rattle.frame_stages.specs.CullWorks.{CullKeeps};
 ghost use Rattle.stage_parts.specs.declared.answers.Did.TheVariants as did;
 ghost use Rattle.stage_parts.specs.declared.packets.Packet.TheVariants as packet;
 ghost use Rattle.frame_stages.specs.Stays.{desk_place, end_place};
+ghost use Rattle.frame_stages.specs.Turns.{GoesInTurn};
 
 use crate::culling::cull_load;
 use crate::looks::is_stopped;
@@ -83,6 +85,7 @@ impl CullStage {
         ensures keeps { (taken : List Packet)
             → CullKeeps (record self.old { held = Some packet }) taken (S.sent to.old)
             → CullKeeps self.new taken (S.sent to.new) }
+        ensures all { sent_and_held (S.sent to.new) self.new.held ≡ S.sent to.old ++ packet ∷ [] }
         ensures sent { result ≡ true → length (S.sent to.new) ≡ length (S.sent to.old) + 1 }
         ensures still { result ≡ false → self.new ≡ record self.old { held = Some packet } }
         ensures unsent { result ≡ false → S.sent to.new ≡ S.sent to.old }
@@ -157,6 +160,9 @@ impl CullStage {
             → CullKeeps self.new (T.taken from.new) (S.sent to.new) }
         ensures boxes { KeepsBoxes self.old.lens self.old.copy self.new.copy self.new.held
             (drop (length (T.taken from.old)) (T.taken from.new)) }
+        ensures turn { GoesInTurn self.old.held self.new.held
+            (record { state = self.old; taken = T.taken from.old; sent = S.sent to.old })
+            (record { state = self.new; taken = T.taken from.new; sent = S.sent to.new }) }
         ensures moves { MovesOne result
             (record { state = self.old; taken = T.taken from.old; sent = S.sent to.old })
             (record { state = self.new; taken = T.taken from.new; sent = S.sent to.new })
@@ -204,6 +210,11 @@ impl CullStage {
         // before, and each channel's list is what the walk by these boxes leaves. Where no load came the copy stays.
         ensures boxes { KeepsBoxes self.old.lens self.old.copy self.new.copy self.new.held
             (drop (length (T.taken from.old)) (T.taken from.new)) }
+
+        // It sends the packet that it holds first, and takes one only where it holds none.
+        ensures turn { GoesInTurn self.old.held self.new.held
+            (record { state = self.old; taken = T.taken from.old; sent = S.sent to.old })
+            (record { state = self.new; taken = T.taken from.new; sent = S.sent to.new }) }
 
         // What its answer says. It is over exactly where the End was passed on or this look found the stop mark.
         ensures answer { PassesOn result

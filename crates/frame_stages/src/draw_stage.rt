@@ -1,13 +1,14 @@
 //! The draw.
 ghost use Rattle.std.specs.Prelude.{◌≡◌, ◌+◌, true, false, List, [], ◌∷◌, ◌++◌, length, None, Some, Ok, IfOk};
 ghost use Rattle.seat_lock.specs.Log.{Found};
-ghost use Rattle.stage_parts.specs.Parts.{DrawPart};
+ghost use Rattle.stage_parts.specs.Parts.{sent_and_held, DrawPart};
 ghost use Rattle.frame_stages.specs.Looks.{SawMark};
 ghost use Rattle.stage_parts.specs.Answers.{is_over, IsFull, IsDry, WaitsToPass, MovesOne, PassesOn};
 ghost use Rattle.frame_stages.specs.Works.{IsGivenAsBefore};
 ghost use Rattle.stage_parts.specs.declared.answers.Did.TheVariants as did;
 ghost use Rattle.stage_parts.specs.declared.packets.Packet.TheVariants as packet;
 ghost use Rattle.frame_stages.specs.Stays.{desk_place, end_place};
+ghost use Rattle.frame_stages.specs.Turns.{GoesInTurn};
 
 use crate::looks::is_stopped;
 use crate::painting::paint;
@@ -68,6 +69,7 @@ impl DrawStage {
         ensures part { (taken : List Packet)
             → DrawPart self.old.lens self.old.back (record self.old.state { held = Some packet }) taken (S.sent to.old)
             → DrawPart self.new.lens self.new.back self.new.state taken (S.sent to.new) }
+        ensures all { sent_and_held (S.sent to.new) self.new.state.held ≡ S.sent to.old ++ packet ∷ [] }
         ensures sent { result ≡ true → length (S.sent to.new) ≡ length (S.sent to.old) + 1 }
         ensures still { result ≡ false → self.new.state ≡ record self.old.state { held = Some packet } }
         ensures unsent { result ≡ false → S.sent to.new ≡ S.sent to.old }
@@ -140,6 +142,9 @@ impl DrawStage {
         ensures given { IsGivenAsBefore self.old self.new }
         ensures part { DrawPart self.old.lens self.old.back self.old.state (T.taken from.old) (S.sent to.old)
             → DrawPart self.new.lens self.new.back self.new.state (T.taken from.new) (S.sent to.new) }
+        ensures turn { GoesInTurn self.old.state.held self.new.state.held
+            (record { state = self.old.state; taken = T.taken from.old; sent = S.sent to.old })
+            (record { state = self.new.state; taken = T.taken from.new; sent = S.sent to.new }) }
         ensures moves { MovesOne result
             (record { state = self.old.state; taken = T.taken from.old; sent = S.sent to.old })
             (record { state = self.new.state; taken = T.taken from.new; sent = S.sent to.new })
@@ -176,6 +181,11 @@ impl DrawStage {
         ensures given { IsGivenAsBefore self.old self.new }
         ensures part { DrawPart self.old.lens self.old.back self.old.state (T.taken from.old) (S.sent to.old)
             → DrawPart self.new.lens self.new.back self.new.state (T.taken from.new) (S.sent to.new) }
+
+        // It sends the packet that it holds first, and takes one, be it the End, only where it holds none.
+        ensures turn { GoesInTurn self.old.state.held self.new.state.held
+            (record { state = self.old.state; taken = T.taken from.old; sent = S.sent to.old })
+            (record { state = self.new.state; taken = T.taken from.new; sent = S.sent to.new }) }
 
         // What its answer says. It is over exactly where the End was taken or this look found the stop mark.
         ensures answer { PassesOn result

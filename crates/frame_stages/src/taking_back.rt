@@ -9,7 +9,7 @@ ghost use Rattle.frame_stages.specs.AppTurns.{Comes, LeavesHome};
 ghost use Rattle.frame_stages.specs.Copies.{HoldsCopies, AreHomeward};
 ghost use Rattle.pf_history.specs.declared.commands.Command.TheVariants as command;
 ghost use Rattle.pf_scene.specs.Acts.{MaySync};
-ghost use Rattle.frame_stages.specs.Flights.{HaveFirst, begun, IsTaken, IsKeptOf, CameBack, CameShort, Brings};
+ghost use Rattle.frame_stages.specs.Flights.{HaveFirst, IsFitFor, begun, IsTaken, IsKeptOf, CameBack, CameShort, Brings};
 
 use crate::app_turns::{Came, make_sync};
 use draw_list::{DrawList, Stats};
@@ -129,6 +129,7 @@ fn new_loads(alloc: Global, lens: &Lens, ahead: u8, channels: u8) -> Result<Vec<
     ensures many { IfOk result (λ v. length v.items ≡ ahead) }
     ensures room { IfOk result (λ v. ahead ≤ vec_capacity v) }
     ensures first { IfOk result (λ v. Each (λ l. HaveFirst l.lists) v.items) }
+    ensures fit { IfOk result (λ v. Each (IsFitFor lens.now channels) v.items) }
 {
     let mut loads = Vec::with_capacity(alloc, ahead as usize)?;
     for i in 0..ahead {
@@ -168,6 +169,7 @@ impl Flight {
           ahead = ahead;
         }) }
         ensures loads { IfOk result (λ f. length f.spare ≡ ahead) }
+        ensures fit { IfOk result (λ f. Each (IsFitFor lens.now channels) f.spare) }
     {
         let spare = new_loads(alloc, lens, ahead, channels)?;
         let home = Vec::with_capacity(alloc, ahead as usize)?;

@@ -189,8 +189,7 @@ pub record StreamCullPart (lens : Lens) (limit : ℕ) (c : StreamCullState) (tak
   pub pieces : SendsPieces lens limit c.copy c.frame c.walk (loads_in taken) (piece_lists gone c.piece)
   pub at_end : has_end taken ≡ true → c.frame ≡ None
 
--- The pieces that CULL sent and holds to send are those that came back for its number of items, one for one, and no others:
--- they take as many items.
+-- The pieces that CULL sent and holds to send are as many as came back for its number of items, and each takes that number.
 abbrev pub RefillsPieces : (limit : ℕ) → (piece : Option Cut) → (came gone : List Cut) → Type 0
 RefillsPieces limit piece came gone =
     map (λ p. p.limit) (gone ++ option_to_list piece) ≡ filter (nat_eq limit) (map (λ p. p.limit) came)

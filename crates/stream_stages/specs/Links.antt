@@ -58,6 +58,10 @@ pub record Streamed (X : Type 0) : Type 0 where
   pub came : List Cut
   pub gone : List Cut
 
+-- a stage at a moment
+abbrev pub moment : {X : Type 0} → X → (taken sent : List Packet) → (came gone : List Cut) → Streamed X
+moment state taken sent came gone = record { state = state; taken = taken; sent = sent; came = came; gone = gone }
+
 -- how often a packet or a piece was received or sent
 abbrev pub crossed : {X : Type 0} → Streamed X → ℕ
 crossed s = length s.taken + length s.sent + (length s.came + length s.gone)

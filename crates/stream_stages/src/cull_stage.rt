@@ -7,7 +7,7 @@ ghost use Rattle.stage_parts.specs.declared.packets.Packet.TheVariants as packet
 ghost use Rattle.stage_parts.specs.Answers.{is_over};
 ghost use Rattle.stage_parts.specs.Packets.{is_end};
 ghost use Rattle.stream_stages.specs.Cuts.{Cut};
-ghost use Rattle.stream_stages.specs.Links.{SawMark, desk_place, end_place, HasNoRoom, HasNoMore, MovesOne, Answers};
+ghost use Rattle.stream_stages.specs.Links.{SawMark, desk_place, end_place, HasNoRoom, HasNoMore, moment, MovesOne, Answers};
 ghost use Rattle.stream_stages.specs.CullParts.{IsAsGiven, StreamCullPart, RefillsPieces, WaitsToFill, WaitsToSend, WaitsToCull};
 ghost use Rattle.stream_stages.specs.CullParts.{TakesInTurn, MovesInTurn, CullsInTurn};
 
@@ -263,13 +263,13 @@ impl StreamCullStage {
         ensures own { (gone : List Cut) → RefillsPieces self.old.limit None (B.taken back.old) gone
             → RefillsPieces self.new.limit self.new.state.piece (B.taken back.new) gone }
         ensures moves { (sent : List Packet) → (gone : List Cut) → MovesOne result
-            (record { state = self.old.state; taken = T.taken from.old; sent = sent; came = B.taken back.old; gone = gone })
-            (record { state = self.new.state; taken = T.taken from.new; sent = sent; came = B.taken back.new; gone = gone })
+            (moment self.old.state (T.taken from.old) sent (B.taken back.old) gone)
+            (moment self.new.state (T.taken from.new) sent (B.taken back.new) gone)
             (WaitsToFill self.old.state (HasNoMore (B.told_sent back.old) (B.taken back.old))
             (HasNoMore (T.told_sent from.old) (T.taken from.old))) }
         ensures turn { (sent : List Packet) → (gone : List Cut) → TakesInTurn
-            (record { state = self.old.state; taken = T.taken from.old; sent = sent; came = B.taken back.old; gone = gone })
-            (record { state = self.new.state; taken = T.taken from.new; sent = sent; came = B.taken back.new; gone = gone }) }
+            (moment self.old.state (T.taken from.old) sent (B.taken back.old) gone)
+            (moment self.new.state (T.taken from.new) sent (B.taken back.new) gone) }
         ensures from { end_place (T.take_at from.new) (T.take_room from.new) (T.told_sent from.new)
             ≡ end_place (T.take_at from.old) (T.take_room from.old) (T.told_sent from.old) }
         ensures back { end_place (B.take_at back.new) (B.take_room back.new) (B.told_sent back.new)
@@ -298,13 +298,13 @@ impl StreamCullStage {
         ensures own { RefillsPieces self.old.limit self.old.state.piece (B.taken back.old) (P.sent pieces.old)
             → RefillsPieces self.new.limit self.new.state.piece (B.taken back.new) (P.sent pieces.new) }
         ensures moves { (sent : List Packet) → MovesOne result
-            (record { state = self.old.state; taken = T.taken from.old; sent = sent; came = B.taken back.old; gone = P.sent pieces.old })
-            (record { state = self.new.state; taken = T.taken from.new; sent = sent; came = B.taken back.new; gone = P.sent pieces.new })
+            (moment self.old.state (T.taken from.old) sent (B.taken back.old) (P.sent pieces.old))
+            (moment self.new.state (T.taken from.new) sent (B.taken back.new) (P.sent pieces.new))
             (WaitsToSend self.old.state (HasNoRoom (P.room pieces.old) (P.told_taken pieces.old) (P.sent pieces.old))
             (HasNoMore (B.told_sent back.old) (B.taken back.old)) (HasNoMore (T.told_sent from.old) (T.taken from.old))) }
         ensures turn { (sent : List Packet) → MovesInTurn
-            (record { state = self.old.state; taken = T.taken from.old; sent = sent; came = B.taken back.old; gone = P.sent pieces.old })
-            (record { state = self.new.state; taken = T.taken from.new; sent = sent; came = B.taken back.new; gone = P.sent pieces.new }) }
+            (moment self.old.state (T.taken from.old) sent (B.taken back.old) (P.sent pieces.old))
+            (moment self.new.state (T.taken from.new) sent (B.taken back.new) (P.sent pieces.new)) }
         ensures from { end_place (T.take_at from.new) (T.take_room from.new) (T.told_sent from.new)
             ≡ end_place (T.take_at from.old) (T.take_room from.old) (T.told_sent from.old) }
         ensures pieces { end_place (P.send_at pieces.new) (P.room pieces.new) (P.told_taken pieces.new)
@@ -334,38 +334,14 @@ impl StreamCullStage {
         ensures own { RefillsPieces self.old.limit self.old.state.piece (B.taken back.old) (P.sent pieces.old)
             → RefillsPieces self.new.limit self.new.state.piece (B.taken back.new) (P.sent pieces.new) }
         ensures moves { MovesOne result
-            (record {
-              state = self.old.state;
-              taken = T.taken from.old;
-              sent = S.sent to.old;
-              came = B.taken back.old;
-              gone = P.sent pieces.old;
-            })
-            (record {
-              state = self.new.state;
-              taken = T.taken from.new;
-              sent = S.sent to.new;
-              came = B.taken back.new;
-              gone = P.sent pieces.new;
-            })
+            (moment self.old.state (T.taken from.old) (S.sent to.old) (B.taken back.old) (P.sent pieces.old))
+            (moment self.new.state (T.taken from.new) (S.sent to.new) (B.taken back.new) (P.sent pieces.new))
             (WaitsToCull self.old.state (HasNoRoom (S.room to.old) (S.told_taken to.old) (S.sent to.old))
             (HasNoRoom (P.room pieces.old) (P.told_taken pieces.old) (P.sent pieces.old))
             (HasNoMore (B.told_sent back.old) (B.taken back.old)) (HasNoMore (T.told_sent from.old) (T.taken from.old))) }
         ensures turn { CullsInTurn
-            (record {
-              state = self.old.state;
-              taken = T.taken from.old;
-              sent = S.sent to.old;
-              came = B.taken back.old;
-              gone = P.sent pieces.old;
-            })
-            (record {
-              state = self.new.state;
-              taken = T.taken from.new;
-              sent = S.sent to.new;
-              came = B.taken back.new;
-              gone = P.sent pieces.new;
-            }) }
+            (moment self.old.state (T.taken from.old) (S.sent to.old) (B.taken back.old) (P.sent pieces.old))
+            (moment self.new.state (T.taken from.new) (S.sent to.new) (B.taken back.new) (P.sent pieces.new)) }
         ensures from { end_place (T.take_at from.new) (T.take_room from.new) (T.told_sent from.new)
             ≡ end_place (T.take_at from.old) (T.take_room from.old) (T.told_sent from.old) }
         ensures to { end_place (S.send_at to.new) (S.room to.new) (S.told_taken to.new)
@@ -418,44 +394,20 @@ impl StreamCullStage {
         ensures part { StreamCullPart self.old.lens self.old.limit self.old.state (T.taken from.old) (S.sent to.old) (P.sent pieces.old)
             → StreamCullPart self.new.lens self.new.limit self.new.state (T.taken from.new) (S.sent to.new) (P.sent pieces.new) }
 
-        // The pieces that it sends are those that came back to it, one for one; it drops only those of another number of items.
+        // It sends and holds as many pieces as came back for its number of items, and each takes that number.
         ensures own { RefillsPieces self.old.limit self.old.state.piece (B.taken back.old) (P.sent pieces.old)
             → RefillsPieces self.new.limit self.new.state.piece (B.taken back.new) (P.sent pieces.new) }
 
         // It sends the packet that it holds first, then the piece, and takes a packet only where it holds nothing and no frame is
         // under way.
         ensures turn { CullsInTurn
-            (record {
-              state = self.old.state;
-              taken = T.taken from.old;
-              sent = S.sent to.old;
-              came = B.taken back.old;
-              gone = P.sent pieces.old;
-            })
-            (record {
-              state = self.new.state;
-              taken = T.taken from.new;
-              sent = S.sent to.new;
-              came = B.taken back.new;
-              gone = P.sent pieces.new;
-            }) }
+            (moment self.old.state (T.taken from.old) (S.sent to.old) (B.taken back.old) (P.sent pieces.old))
+            (moment self.new.state (T.taken from.new) (S.sent to.new) (B.taken back.new) (P.sent pieces.new)) }
 
         // What its answer says. It is over exactly where the End was passed on or this look found the stop mark.
         ensures answer { Answers result
-            (record {
-              state = self.old.state;
-              taken = T.taken from.old;
-              sent = S.sent to.old;
-              came = B.taken back.old;
-              gone = P.sent pieces.old;
-            })
-            (record {
-              state = self.new.state;
-              taken = T.taken from.new;
-              sent = S.sent to.new;
-              came = B.taken back.new;
-              gone = P.sent pieces.new;
-            })
+            (moment self.old.state (T.taken from.old) (S.sent to.old) (B.taken back.old) (P.sent pieces.old))
+            (moment self.new.state (T.taken from.new) (S.sent to.new) (B.taken back.new) (P.sent pieces.new))
             (WaitsToCull self.old.state (HasNoRoom (S.room to.old) (S.told_taken to.old) (S.sent to.old))
             (HasNoRoom (P.room pieces.old) (P.told_taken pieces.old) (P.sent pieces.old))
             (HasNoMore (B.told_sent back.old) (B.taken back.old)) (HasNoMore (T.told_sent from.old) (T.taken from.old))) }

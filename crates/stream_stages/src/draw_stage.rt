@@ -6,7 +6,7 @@ ghost use Rattle.stage_parts.specs.declared.answers.Did.TheVariants as did;
 ghost use Rattle.stage_parts.specs.declared.packets.Packet.TheVariants as packet;
 ghost use Rattle.stage_parts.specs.Answers.{is_over};
 ghost use Rattle.stream_stages.specs.Cuts.{Cut};
-ghost use Rattle.stream_stages.specs.Links.{SawMark, desk_place, end_place, HasNoRoom, HasNoMore, MovesOne, Answers};
+ghost use Rattle.stream_stages.specs.Links.{SawMark, desk_place, end_place, HasNoRoom, HasNoMore, moment, MovesOne, Answers};
 ghost use Rattle.stream_stages.specs.PieceFrames.{lists_in};
 ghost use Rattle.stream_stages.specs.DrawParts.{IsGivenAsBefore, HasChannels, StreamDrawPart, WaitsToTake, WaitsToMove, WaitsToDraw};
 ghost use Rattle.stream_stages.specs.DrawParts.{TakesInTurn, MovesInTurn, DrawsInTurn};
@@ -231,13 +231,13 @@ impl StreamDrawStage {
             → StreamDrawPart self.old.lens self.old.back first self.old.state (T.taken from.old) sent (P.taken pieces.old) gone
             → StreamDrawPart self.new.lens self.new.back first self.new.state (T.taken from.new) sent (P.taken pieces.new) gone }
         ensures moves { (gone : List Cut) → (sent : List Packet) → MovesOne result
-            (record { state = self.old.state; taken = T.taken from.old; sent = sent; came = P.taken pieces.old; gone = gone })
-            (record { state = self.new.state; taken = T.taken from.new; sent = sent; came = P.taken pieces.new; gone = gone })
+            (moment self.old.state (T.taken from.old) sent (P.taken pieces.old) gone)
+            (moment self.new.state (T.taken from.new) sent (P.taken pieces.new) gone)
             (WaitsToTake self.old.state (HasNoMore (P.told_sent pieces.old) (P.taken pieces.old))
             (HasNoMore (T.told_sent from.old) (T.taken from.old))) }
         ensures turn { (gone : List Cut) → (sent : List Packet) → TakesInTurn
-            (record { state = self.old.state; taken = T.taken from.old; sent = sent; came = P.taken pieces.old; gone = gone })
-            (record { state = self.new.state; taken = T.taken from.new; sent = sent; came = P.taken pieces.new; gone = gone }) }
+            (moment self.old.state (T.taken from.old) sent (P.taken pieces.old) gone)
+            (moment self.new.state (T.taken from.new) sent (P.taken pieces.new) gone) }
         ensures from { end_place (T.take_at from.new) (T.take_room from.new) (T.told_sent from.new)
             ≡ end_place (T.take_at from.old) (T.take_room from.old) (T.told_sent from.old) }
         ensures pieces { end_place (P.take_at pieces.new) (P.take_room pieces.new) (P.told_sent pieces.new)
@@ -265,13 +265,13 @@ impl StreamDrawStage {
             → StreamDrawPart self.new.lens self.new.back first self.new.state
             (T.taken from.new) (S.sent to.new) (P.taken pieces.new) gone }
         ensures moves { (gone : List Cut) → MovesOne result
-            (record { state = self.old.state; taken = T.taken from.old; sent = S.sent to.old; came = P.taken pieces.old; gone = gone })
-            (record { state = self.new.state; taken = T.taken from.new; sent = S.sent to.new; came = P.taken pieces.new; gone = gone })
+            (moment self.old.state (T.taken from.old) (S.sent to.old) (P.taken pieces.old) gone)
+            (moment self.new.state (T.taken from.new) (S.sent to.new) (P.taken pieces.new) gone)
             (WaitsToMove self.old.state (HasNoRoom (S.room to.old) (S.told_taken to.old) (S.sent to.old))
             (HasNoMore (P.told_sent pieces.old) (P.taken pieces.old)) (HasNoMore (T.told_sent from.old) (T.taken from.old))) }
         ensures turn { (gone : List Cut) → MovesInTurn
-            (record { state = self.old.state; taken = T.taken from.old; sent = S.sent to.old; came = P.taken pieces.old; gone = gone })
-            (record { state = self.new.state; taken = T.taken from.new; sent = S.sent to.new; came = P.taken pieces.new; gone = gone }) }
+            (moment self.old.state (T.taken from.old) (S.sent to.old) (P.taken pieces.old) gone)
+            (moment self.new.state (T.taken from.new) (S.sent to.new) (P.taken pieces.new) gone) }
         ensures from { end_place (T.take_at from.new) (T.take_room from.new) (T.told_sent from.new)
             ≡ end_place (T.take_at from.old) (T.take_room from.old) (T.told_sent from.old) }
         ensures to { end_place (S.send_at to.new) (S.room to.new) (S.told_taken to.new)
@@ -301,38 +301,14 @@ impl StreamDrawStage {
             → StreamDrawPart self.new.lens self.new.back first self.new.state (T.taken from.new) (S.sent to.new) (P.taken pieces.new)
             (B.sent back.new) }
         ensures moves { MovesOne result
-            (record {
-              state = self.old.state;
-              taken = T.taken from.old;
-              sent = S.sent to.old;
-              came = P.taken pieces.old;
-              gone = B.sent back.old;
-            })
-            (record {
-              state = self.new.state;
-              taken = T.taken from.new;
-              sent = S.sent to.new;
-              came = P.taken pieces.new;
-              gone = B.sent back.new;
-            })
+            (moment self.old.state (T.taken from.old) (S.sent to.old) (P.taken pieces.old) (B.sent back.old))
+            (moment self.new.state (T.taken from.new) (S.sent to.new) (P.taken pieces.new) (B.sent back.new))
             (WaitsToDraw self.old.state (HasNoRoom (B.room back.old) (B.told_taken back.old) (B.sent back.old))
             (HasNoRoom (S.room to.old) (S.told_taken to.old) (S.sent to.old))
             (HasNoMore (P.told_sent pieces.old) (P.taken pieces.old)) (HasNoMore (T.told_sent from.old) (T.taken from.old))) }
         ensures turn { DrawsInTurn
-            (record {
-              state = self.old.state;
-              taken = T.taken from.old;
-              sent = S.sent to.old;
-              came = P.taken pieces.old;
-              gone = B.sent back.old;
-            })
-            (record {
-              state = self.new.state;
-              taken = T.taken from.new;
-              sent = S.sent to.new;
-              came = P.taken pieces.new;
-              gone = B.sent back.new;
-            }) }
+            (moment self.old.state (T.taken from.old) (S.sent to.old) (P.taken pieces.old) (B.sent back.old))
+            (moment self.new.state (T.taken from.new) (S.sent to.new) (P.taken pieces.new) (B.sent back.new)) }
         ensures from { end_place (T.take_at from.new) (T.take_room from.new) (T.told_sent from.new)
             ≡ end_place (T.take_at from.old) (T.take_room from.old) (T.told_sent from.old) }
         ensures to { end_place (S.send_at to.new) (S.room to.new) (S.told_taken to.new)
@@ -386,37 +362,13 @@ impl StreamDrawStage {
         // It gives the piece back that it holds first, then it sends the packet, and takes a packet only where it holds nothing
         // and no frame is under way.
         ensures turn { DrawsInTurn
-            (record {
-              state = self.old.state;
-              taken = T.taken from.old;
-              sent = S.sent to.old;
-              came = P.taken pieces.old;
-              gone = B.sent back.old;
-            })
-            (record {
-              state = self.new.state;
-              taken = T.taken from.new;
-              sent = S.sent to.new;
-              came = P.taken pieces.new;
-              gone = B.sent back.new;
-            }) }
+            (moment self.old.state (T.taken from.old) (S.sent to.old) (P.taken pieces.old) (B.sent back.old))
+            (moment self.new.state (T.taken from.new) (S.sent to.new) (P.taken pieces.new) (B.sent back.new)) }
 
         // What its answer says. It is over exactly where the End was taken or this look found the stop mark.
         ensures answer { Answers result
-            (record {
-              state = self.old.state;
-              taken = T.taken from.old;
-              sent = S.sent to.old;
-              came = P.taken pieces.old;
-              gone = B.sent back.old;
-            })
-            (record {
-              state = self.new.state;
-              taken = T.taken from.new;
-              sent = S.sent to.new;
-              came = P.taken pieces.new;
-              gone = B.sent back.new;
-            })
+            (moment self.old.state (T.taken from.old) (S.sent to.old) (P.taken pieces.old) (B.sent back.old))
+            (moment self.new.state (T.taken from.new) (S.sent to.new) (P.taken pieces.new) (B.sent back.new))
             (WaitsToDraw self.old.state (HasNoRoom (B.room back.old) (B.told_taken back.old) (B.sent back.old))
             (HasNoRoom (S.room to.old) (S.told_taken to.old) (S.sent to.old))
             (HasNoMore (P.told_sent pieces.old) (P.taken pieces.old)) (HasNoMore (T.told_sent from.old) (T.taken from.old))) }

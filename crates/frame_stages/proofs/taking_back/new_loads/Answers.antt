@@ -3,7 +3,7 @@ use Rattle.std.proofs.Common.{List, length, sym, ap, ◌∙◌, subst, arith}
 use Rattle.std.proofs.lemmas.List.{length_push}
 use Rattle.stage_parts.specs.Loads.{LoadState, Each}
 use Rattle.stage_parts.proofs.Sizes.{each_push}
-use Rattle.frame_stages.specs.Flights.{HaveFirst}
+use Rattle.frame_stages.specs.Flights.{HaveFirst, IsFitFor}
 use Rattle.frame_stages.proofs.taking_back.new_loads.Goals as goal
 
 pub loop-i-preserved : goal.loop-i-preserved
@@ -20,4 +20,7 @@ loop-i-preserved c =
       room = omega (arith, room, capacity);
       first = subst (λ (xs : List LoadState). Each (λ (l : LoadState). HaveFirst l.lists) xs) (sym items)
           (each_push (λ (l : LoadState). HaveFirst l.lists) old load c.loop-i.invariant.first c.in_ok-load.ensures.first);
+      fit = subst (Each (IsFitFor c.args.lens.now c.args.channels)) (sym items)
+          (each_push (IsFitFor c.args.lens.now c.args.channels) old load c.loop-i.invariant.fit
+          (record { first = c.in_ok-load.ensures.first; lists = c.in_ok-load.ensures.lists; images = c.in_ok-load.ensures.images }));
     }

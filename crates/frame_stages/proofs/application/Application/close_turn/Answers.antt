@@ -32,6 +32,6 @@ returns-in-NotNow-clause-polled g c = λ ends back.
 pub returns-in-NoMemory-clause-polled : goal.returns-in-NoMemory-clause-polled
 returns-in-NoMemory-clause-polled g c = λ ends back.
     wanting (g.D.Desk.number c.args.desk.now) (work_of c.args.self.now) (work_of (record c.args.self.now { flight = c.sync.new.self })) (g.D.Desk.seen c.args.desk.now) (g.D.Desk.seen c.sync.new.desk) (g.D.Desk.seen c.stop.new.desk)
-    (g.D.Desk.told c.args.desk.now) (g.D.Desk.told c.sync.new.desk) (g.D.Desk.told c.stop.new.desk) ends (unsent c.args.self.now c.sync.new.self c.sync.ensures.same c.in-NoMemory.ensures.home) c.in-NoMemory.ensures.came
+    (g.D.Desk.told c.args.desk.now) (g.D.Desk.told c.sync.new.desk) (g.D.Desk.told c.stop.new.desk) ends c.requires.bare (unsent c.args.self.now c.sync.new.self c.sync.ensures.same c.in-NoMemory.ensures.home) c.in-NoMemory.ensures.came
     (subst (λ k. Marks k (g.D.Desk.seen c.sync.new.desk) (g.D.Desk.told c.sync.new.desk) (g.D.Desk.seen c.stop.new.desk) (g.D.Desk.told c.stop.new.desk)) c.sync.ensures.number c.stop.ensures.marks)
     (λ holds right. c.stop.ensures.counted (c.sync.ensures.counted (right c.requires.whole) holds))

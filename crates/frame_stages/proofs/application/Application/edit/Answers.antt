@@ -24,6 +24,6 @@ pub returns-in-NoMemory-clause-polled : goal.returns-in-NoMemory-clause-polled
 returns-in-NoMemory-clause-polled g c = λ ends.
     let t = c.in-NoMemory.ensures.came in
     wanting (g.D.Desk.number c.args.desk.now) (work_of c.args.self.now) (work_of (record c.args.self.now { script = c.make_edit.new.script })) (g.D.Desk.seen c.args.desk.now) (g.D.Desk.seen c.make_edit.new.desk) (g.D.Desk.seen c.stop.new.desk)
-    (g.D.Desk.told c.args.desk.now) (g.D.Desk.told c.make_edit.new.desk) (g.D.Desk.told c.stop.new.desk) ends (ap (λ (s : ScriptState). work_of (record c.args.self.now { script = s })) t.0) t.1
+    (g.D.Desk.told c.args.desk.now) (g.D.Desk.told c.make_edit.new.desk) (g.D.Desk.told c.stop.new.desk) ends c.requires.bare (ap (λ (s : ScriptState). work_of (record c.args.self.now { script = s })) t.0) t.1
     (subst (λ k. Marks k (g.D.Desk.seen c.make_edit.new.desk) (g.D.Desk.told c.make_edit.new.desk) (g.D.Desk.seen c.stop.new.desk) (g.D.Desk.told c.stop.new.desk)) c.make_edit.ensures.number c.stop.ensures.marks)
     (λ holds right. c.stop.ensures.counted (c.make_edit.ensures.counted holds))

@@ -10,7 +10,7 @@ use Rattle.frame_stages.proofs.application.Application.frame.Goals as goal
 
 pub returns-in-None-clause-polled : goal.returns-in-None-clause-polled
 returns-in-None-clause-polled g c = λ ends.
-    out (g.D.Desk.number c.args.desk.now) (work_of c.args.self.now) (work_of (record c.args.self.now { flight = c.take_load.new.self })) (g.D.Desk.seen c.args.desk.now) (g.D.Desk.seen c.stop.new.desk) (g.D.Desk.told c.args.desk.now) (g.D.Desk.told c.stop.new.desk) ends
+    out (g.D.Desk.number c.args.desk.now) (work_of c.args.self.now) (work_of (record c.args.self.now { flight = c.take_load.new.self })) (g.D.Desk.seen c.args.desk.now) (g.D.Desk.seen c.stop.new.desk) (g.D.Desk.told c.args.desk.now) (g.D.Desk.told c.stop.new.desk) ends c.requires.bare
     c.stop.ensures.marks (λ holds right. c.stop.ensures.counted holds) (taken_none c.args.self.now c.take_load.new.self c.take_load.ensures.same c.in-None.ensures.none)
 
 pub returns-then-is_for-clause-polled : goal.returns-then-is_for-clause-polled

@@ -20,7 +20,7 @@ returns-in-NotNow-clause-polled g c = λ ends.
 pub returns-in-NoMemory-clause-polled : goal.returns-in-NoMemory-clause-polled
 returns-in-NoMemory-clause-polled g c = λ ends.
     let t = c.in-NoMemory.ensures.came in
-    out (g.D.Desk.number c.args.desk.now) (with_load c.args.old (work_of c.args.self.now)) (work_of (record c.args.self.now { flight = c.put_back-in-NoMemory.new.self })) (g.D.Desk.seen c.args.desk.now) (g.D.Desk.seen c.stop-in-NoMemory.new.desk) (g.D.Desk.told c.args.desk.now) (g.D.Desk.told c.stop-in-NoMemory.new.desk) ends
+    out (g.D.Desk.number c.args.desk.now) (with_load c.args.old (work_of c.args.self.now)) (work_of (record c.args.self.now { flight = c.put_back-in-NoMemory.new.self })) (g.D.Desk.seen c.args.desk.now) (g.D.Desk.seen c.stop-in-NoMemory.new.desk) (g.D.Desk.told c.args.desk.now) (g.D.Desk.told c.stop-in-NoMemory.new.desk) ends c.requires.bare
     (marks_later (g.D.Desk.number c.args.desk.now) (g.D.Desk.seen c.args.desk.now) (g.D.Desk.seen c.make_frame.new.desk) (g.D.Desk.seen c.stop-in-NoMemory.new.desk) (g.D.Desk.told c.args.desk.now) (g.D.Desk.told c.make_frame.new.desk) (g.D.Desk.told c.stop-in-NoMemory.new.desk) t.2
     (subst (λ k. Marks k (g.D.Desk.seen c.make_frame.new.desk) (g.D.Desk.told c.make_frame.new.desk) (g.D.Desk.seen c.stop-in-NoMemory.new.desk) (g.D.Desk.told c.stop-in-NoMemory.new.desk)) c.make_frame.ensures.number c.stop-in-NoMemory.ensures.marks))
     (λ holds right. c.stop-in-NoMemory.ensures.counted (c.make_frame.ensures.counted holds))
@@ -29,5 +29,5 @@ returns-in-NoMemory-clause-polled g c = λ ends.
 pub returns-in_default-clause-polled : goal.returns-in_default-clause-polled
 returns-in_default-clause-polled g c = λ ends.
     out (g.D.Desk.number c.args.desk.now) (with_load c.args.old (work_of c.args.self.now)) (work_of (record c.args.self.now { flight = c.put_back.new.self }))
-    (g.D.Desk.seen c.args.desk.now) (g.D.Desk.seen c.stop.new.desk) (g.D.Desk.told c.args.desk.now) (g.D.Desk.told c.stop.new.desk) ends
+    (g.D.Desk.seen c.args.desk.now) (g.D.Desk.seen c.stop.new.desk) (g.D.Desk.told c.args.desk.now) (g.D.Desk.told c.stop.new.desk) ends c.requires.bare
     c.stop.ensures.marks (λ holds right. c.stop.ensures.counted holds) (put_again c.args.self.now c.put_back.new.self c.args.old c.args.old c.put_back.ensures)

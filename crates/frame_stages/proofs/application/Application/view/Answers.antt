@@ -20,6 +20,6 @@ returns-in-NotNow-clause-polled g c = λ ends.
 pub returns-in-NoMemory-clause-polled : goal.returns-in-NoMemory-clause-polled
 returns-in-NoMemory-clause-polled g c = λ ends.
     wanting (g.D.Desk.number c.args.desk.now) (work_of c.args.self.now) (work_of c.args.self.now) (g.D.Desk.seen c.args.desk.now) (g.D.Desk.seen c.make_view.new.desk) (g.D.Desk.seen c.stop.new.desk)
-    (g.D.Desk.told c.args.desk.now) (g.D.Desk.told c.make_view.new.desk) (g.D.Desk.told c.stop.new.desk) ends refl c.in-NoMemory.ensures.came
+    (g.D.Desk.told c.args.desk.now) (g.D.Desk.told c.make_view.new.desk) (g.D.Desk.told c.stop.new.desk) ends c.requires.bare refl c.in-NoMemory.ensures.came
     (subst (λ k. Marks k (g.D.Desk.seen c.make_view.new.desk) (g.D.Desk.told c.make_view.new.desk) (g.D.Desk.seen c.stop.new.desk) (g.D.Desk.told c.stop.new.desk)) c.make_view.ensures.number c.stop.ensures.marks)
     (λ holds right. c.stop.ensures.counted (c.make_view.ensures.counted holds))
