@@ -1,9 +1,9 @@
 -- A picture put together from its strips.
-use Rattle.std.proofs.Common.{◌≡◌, ℕ, ◌+◌, ◌*◌, ◌/◌, ◌%◌, ◌<◌, ◌≤◌, List, [], ◌∷◌, length, get_or, Option, ap, sym, ◌∙◌, subst, arith, ⊎_elim}
+use Rattle.std.proofs.Common.{◌≡◌, ℕ, ◌+◌, ◌*◌, ◌/◌, ◌%◌, ◌<◌, ◌≤◌, List, [], ◌∷◌, length, set, get_or, length-set, get_or-set_same, get_or-set_other, Option, ap, sym, ◌∙◌, subst, arith, ⊎_elim}
 use Rattle.std.specs.Prelude.{option_and_then}
 use Rattle.std.specs.Option.{option_map_or}
 use Rattle.std.specs.List.{slice_get}
-use Rattle.std.proofs.lemmas.Bool.{cases_eq}
+use Rattle.std.proofs.lemmas.Bool.{cases_eq, cases_lt}
 use Rattle.std.proofs.lemmas.Nat.{mul-le}
 use Rattle.std.proofs.lemmas.List.{get_or_default}
 use Rattle.std.proofs.lemmas.Option.{slice_get-get_or}
@@ -18,6 +18,7 @@ use Rattle.depth_raster.specs.declared.strip.Strip.{Strip}
 use Rattle.depth_raster.specs.declared.tile.Tile.{Tile}
 use Rattle.depth_raster.proofs.Following.{place_within}
 use Rattle.depth_raster.proofs.PixelTiles.{part_reached}
+use Rattle.depth_raster.proofs.Tiling.{PartsSoFar}
 
 -- a band's rows end in the picture
 pub rows_fit : (first rows w h n : ℕ) → first + rows ≤ h → n ≡ rows * w → first * w + n ≤ h * w
@@ -31,7 +32,7 @@ pub record StripsShown (image : Pixmap) (w : ℕ) (strips : List Strip) (n : ℕ
 pub none_shown : (image : Pixmap) (w : ℕ) (strips : List Strip) → StripsShown image w strips 0
 none_shown image w strips = record { rows = λ i q r d l. absurd (omega (arith, l)) }
 
-pub strip_shown : (lens : Lens) (old new : Pixmap) (strips : List Strip) (n : ℕ) (s : Strip) → AreStrips lens strips → n < length strips → s ≡ get_or strips n s → length s.pixels.items ≡ size_of s.band → old.width ≡ lens.w → StripsShown old lens.w strips n → SetsRows old new s.band.first s.pixels.items → StripsShown new lens.w strips (n + 1)
+strip_shown : (lens : Lens) (old new : Pixmap) (strips : List Strip) (n : ℕ) (s : Strip) → AreStrips lens strips → n < length strips → s ≡ get_or strips n s → length s.pixels.items ≡ size_of s.band → old.width ≡ lens.w → StripsShown old lens.w strips n → SetsRows old new s.band.first s.pixels.items → StripsShown new lens.w strips (n + 1)
 strip_shown lens old new strips n s are below is whole width so_far sets = record { rows = each }
   where
     here : s.band ≡ band_at lens n
@@ -65,15 +66,46 @@ strip_shown lens old new strips n s are below is whole width so_far sets = recor
         sets.above q (16 * i + r) (omega (arith, width)) (omega (arith, apart, first, rows, row)) ∙ so_far.rows i q r d (omega (arith, apart)) in_list column row)
         (cases_eq i n)
 
+pub all_shown : (image : Pixmap) (w : ℕ) (strips : List Strip) (n : ℕ) → length strips ≤ n → StripsShown image w strips n → StripsShown image w strips (length strips)
+all_shown image w strips n all shown = record { rows = λ i q r d l in_list. shown.rows i q r d (omega (arith, in_list, all)) in_list }
+
 -- ---- strips put together
-pub assembled_kept : (lens : Lens) (before after : List Strip) → AreStrips lens before → length after ≡ length before → ((i : ℕ) (d : Strip) → i < length before → IsAssembled (get_or before i d) (get_or after i d)) → AreStrips lens after
-assembled_kept lens before after are long each = record {
+-- those before n are put together; the others are as they were
+still_banded : (before after : List Strip) (n i : ℕ) (d : Strip) → PartsSoFar IsAssembled before after n → i < length before → (get_or after i d).band ≡ (get_or before i d).band
+still_banded before after n i d parts below = ⊎_elim
+    (λ done. (parts.done i d done below).band)
+    (λ ahead. ap (λ (s : Strip). s.band) (parts.ahead i d ahead))
+    (cases_lt i n)
+
+still_tiled : (before after : List Strip) (n i : ℕ) (d : Strip) → PartsSoFar IsAssembled before after n → i < length before → (get_or after i d).tiles.items ≡ (get_or before i d).tiles.items
+still_tiled before after n i d parts below = ⊎_elim
+    (λ done. (parts.done i d done below).tiles)
+    (λ ahead. ap (λ (s : Strip). s.tiles.items) (parts.ahead i d ahead))
+    (cases_lt i n)
+
+pub partly_kept : (lens : Lens) (before after : List Strip) (n : ℕ) → AreStrips lens before → length after ≡ length before → PartsSoFar IsAssembled before after n → AreStrips lens after
+partly_kept lens before after n are long parts = record {
   count = long ∙ are.count;
-  bands = λ i d below. let below' : i < length before = omega (arith, below, long) in (each i d below').band ∙ are.bands i d below';
+  bands = λ i d below. let below' : i < length before = omega (arith, below, long) in still_banded before after n i d parts below' ∙ are.bands i d below';
   tiles = λ i d below.
       let below' : i < length before = omega (arith, below, long) in
-      subst (λ (ts : List Tile). AreTilesOf (band_at lens i) ts) (sym (each i d below').tiles) (are.tiles i d below');
+      subst (λ (ts : List Tile). AreTilesOf (band_at lens i) ts) (sym (still_tiled before after n i d parts below')) (are.tiles i d below');
 }
+
+-- a strip of a number that is put together changes none of those above it
+still_shown : (image : Pixmap) (w : ℕ) (strips : List Strip) (n : ℕ) (s : Strip) → StripsShown image w strips n → StripsShown image w (set strips n s) n
+still_shown image w strips n s so_far = record {
+  rows = λ i q r d l in_list column row.
+      let same : get_or (set strips n s) i d ≡ get_or strips i d = get_or-set_other strips n i s d (λ is. omega (arith, l, is)) in
+      subst (λ (t : Strip). pixel image q (16 * i + r) ≡ colour_in t.band t.pixels.items q r) (sym same)
+      (so_far.rows i q r d l (omega (arith, in_list, length-set strips n s)) column (subst (λ (t : Strip). r < t.band.rows) same row));
+}
+
+-- a strip more is put together, and shown
+pub strip_added : (lens : Lens) (old new : Pixmap) (strips : List Strip) (n : ℕ) (s : Strip) → AreStrips lens (set strips n s) → n < length strips → length s.pixels.items ≡ size_of s.band → old.width ≡ lens.w → StripsShown old lens.w strips n → SetsRows old new s.band.first s.pixels.items → StripsShown new lens.w (set strips n s) (n + 1)
+strip_added lens old new strips n s are below whole width so_far sets =
+    strip_shown lens old new (set strips n s) n s are (omega (arith, below, length-set strips n s)) (sym (get_or-set_same strips n s s below)) whole width
+    (still_shown old lens.w strips n s so_far) sets
 
 pixel_at : (lens : Lens) (before after : List Strip) (image : Pixmap) (d : Strip) → AreStrips lens before → length after ≡ length before → ((i : ℕ) (e : Strip) → i < length before → IsAssembled (get_or before i e) (get_or after i e)) → StripsShown image lens.w after (length after) → (px py : ℕ) → px < lens.w → py < lens.h → pixel image px py ≡ colour_at before px py
 unfolding colour_at

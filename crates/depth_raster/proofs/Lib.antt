@@ -17,6 +17,7 @@ pub mod Halves
 pub mod InPieces
 pub mod Items
 pub mod Later
+pub mod LineSigns
 pub mod Listed
 pub mod Looking
 pub mod MadeReady
@@ -39,3 +40,4 @@ pub mod Stepped
 pub mod Tiling
 pub mod Topped
 pub mod Weighed
+pub mod Shaded

@@ -1,17 +1,19 @@
 -- Faces at pixels: what their tests tell of their hits.
-use Rattle.std.proofs.Common.{◌≡◌, ℕ, ◌+◌, ◌*◌, ◌/◌, ◌<◌, ◌≤◌, Bool, true, false, cond, Option, Some, None, refl, ap, sym, ◌∙◌, arith, ⊎_elim}
-use Rattle.std.specs.Prelude.{ℤ, pos, ◌≤ℤ◌, int_le, int_lt, nat_le, ◌&&◌, ◌↔◌, IsTrue}
+use Rattle.std.proofs.Common.{◌≡◌, ℕ, ◌+◌, ◌-◌, ◌*◌, ◌/◌, ◌%◌, ◌^◌, ◌<◌, ◌≤◌, Bool, true, false, cond, Option, Some, None, refl, ap, sym, ◌∙◌, subst, arith, ⊎_elim}
+use Rattle.std.specs.Prelude.{ℤ, pos, ◌≤ℤ◌, int_le, int_lt, nat_le, ◌&&◌, ◌↔◌, IsTrue, unsigned_abs}
 use Rattle.std.specs.Option.{option_map_or, IfSome, IfNone}
 use Rattle.std.proofs.lemmas.Bool.{and_parts, both_ways, cases_lt}
 use Rattle.std.proofs.lemmas.Bool.Decides.{nat_tests}
 use Rattle.std.proofs.lemmas.Int.{ints}
-use Rattle.std.proofs.lemmas.Nat.{mul-le}
-use Rattle.std.proofs.Math.Nat.{lt-div-mul-add, div-mul-le_self, add-mul}
+use Rattle.std.proofs.lemmas.Nat.{mul-le, mod-mul-add}
+use Rattle.std.proofs.Math.Nat.{lt-div-mul-add, div-mul-le_self, add-mul, mod-eq_of_lt}
 use Rattle.tri_cover.specs.Faces.{is_in_box, is_covered, is_seen_at, depth_at, colour_at, face_hit}
 use Rattle.tri_cover.specs.Linears.{value_at, weight_at}
 use Rattle.tri_cover.specs.declared.face.Face.{Face}
 use Rattle.tri_cover.specs.declared.hit.Hit.{Hit}
-use Rattle.depth_raster.specs.Looks.{Looks, IsSeen, IsSeenBefore}
+use Rattle.tri_cover.proofs.EdgeLines.{total_value}
+use Rattle.depth_raster.specs.Looks.{Looks, IsSeen, IsSeenBefore, IsDepthAt}
+use Rattle.depth_raster.specs.Weighed.{AreInnerAt, IsInnerSumAt}
 
 -- ---- the parts of a hit
 pub record IsHitOf (f : Face) (px py : ℕ) (h : Hit) : Type 0 where
@@ -142,3 +144,76 @@ seen f px py limit s false inside covered is before = λ h hits.
     (λ below. let no : false ≡ true = before.1 (record { near = omega (arith, parts.near, same); far = omega (arith, parts.far, same); before = omega (arith, below, parts.depth, same) }) in cc)
     (λ above. above)
     (cases_lt h.depth limit)
+
+-- ---- what a guess leaves, in 128 bits
+product_most : (g s : ℕ) → g < 2 ^ 32 → s < 2 ^ 64 → g * s ≤ 2 ^ 96
+product_most g s few small = mul-le g s (2 ^ 32) (2 ^ 64) (omega (arith, few)) (omega (arith, small))
+
+-- it wraps around where the product is greater than the dividend
+left_over : (n s low : ℕ) → n < 2 ^ 128 → s < 2 ^ 64 → low ≤ 2 ^ 96 → (n + (2 ^ 128 - low)) % 2 ^ 128 < s → (low ≤ n) × (n < low + s)
+left_over n s low fits small most l = ⊎_elim
+    (λ under.
+    let around : (n + (2 ^ 128 - low)) % 2 ^ 128 ≡ n + (2 ^ 128 - low) = mod-eq_of_lt (omega (arith, under, most)) in
+    absurd (omega (arith, l, around, most, small)))
+    (λ over.
+    let rest : (1 * 2 ^ 128 + (n - low)) % 2 ^ 128 ≡ n - low = mod-mul-add 1 (2 ^ 128) (n - low) (omega (arith, fits)) in
+    let same : n + (2 ^ 128 - low) ≡ 1 * 2 ^ 128 + (n - low) = omega (arith, over, most) in
+    let left : (n + (2 ^ 128 - low)) % 2 ^ 128 ≡ n - low = ap (λ (m : ℕ). m % 2 ^ 128) same ∙ rest in
+    (over, omega (arith, over, l, left)))
+    (cases_lt n low)
+
+pub divisor_left : (m s : ℕ) → m < s → 0 < s
+divisor_left m s l = omega (arith, l)
+
+pub quotient_left : (n s g low m : ℕ) → n < 2 ^ 128 → s < 2 ^ 64 → g < 2 ^ 32 → low ≡ g * s → m ≡ (n + (2 ^ 128 - low)) % 2 ^ 128 → m < s → g ≡ n / s
+quotient_left n s g low m fits small few product left l =
+    let parts = left_over n s low fits small (omega (arith, product, product_most g s few small)) (omega (arith, left, l)) in
+    quotient_is n s g (omega (arith, l)) (omega (arith, product, parts.0)) (omega (arith, product, parts.1))
+
+-- ---- a look where no edge value is below 0
+pub missed : (f : Face) (px py : ℕ) → ((h : Hit) → IsHitOf f px py h → ⊥) → face_hit f px py ≡ None
+missed f px py never = by (face_hit f px py) refl
+  where
+    by : (o : Option Hit) → face_hit f px py ≡ o → o ≡ None
+    by None e = refl
+    by (Some i) e = absurd (never i (hit_parts f px py i e))
+
+inner_sum : (f : Face) (px py s : ℕ) → IsInnerSumAt f px py s → pos s ≡ value_at f.edges.sum px py
+inner_sum f px py s is = is.is_sum ∙ sym (total_value f.edges.e0 f.edges.e1 f.edges.e2 f.edges.sum px py f.edges.total)
+
+inner_covered : (f : Face) (px py s : ℕ) → IsInnerSumAt f px py s → 0 < s → is_covered f px py ≡ true
+inner_covered f px py s is some = covered_is f px py (record {
+  first = is.inner.first_inner;
+  second = is.inner.second_inner;
+  third = is.inner.third_inner;
+  sum = subst (λ (z : ℤ). pos 1 ≤ℤ z) (inner_sum f px py s is) (omega (arith, ints, some));
+})
+
+-- a pixel at which the sum is 0 is not covered
+pub none_inside : (f : Face) (px py s : ℕ) → IsInnerSumAt f px py s → s ≡ 0 → face_hit f px py ≡ None
+none_inside f px py s is zero = missed f px py (λ h parts.
+    let some : pos 1 ≤ℤ pos s = subst (λ (z : ℤ). pos 1 ≤ℤ z) (sym (inner_sum f px py s is)) (covered_parts f px py parts.covered).sum in
+    omega (arith, ints, some, zero))
+
+-- a pixel at which an edge value is below 0 is not covered
+pub not_inner : (f : Face) (px py : ℕ) → (AreInnerAt f px py → ⊥) → face_hit f px py ≡ None
+not_inner f px py never = missed f px py (λ h parts.
+    let c = covered_parts f px py parts.covered in
+    never (record { first_inner = c.first; second_inner = c.second; third_inner = c.third }))
+
+-- the depth, where it is one at which the face is seen
+pub seen_inside : (f : Face) (px py s d : ℕ) (o : Option ℕ) → IsInnerSumAt f px py s → is_in_box f.extent px py ≡ true → 0 < s → d ≡ f.dividend / s
+    → IfSome o (λ e. (e ≡ d) × (f.extent.near ≤ e) × (e ≤ f.extent.far)) → IfNone o (f.extent.near ≤ d → f.extent.far < d) → IsDepthAt f px py o
+seen_inside f px py s d None is inside some quotient seen unseen = missed f px py (λ h parts.
+    let same : d ≡ depth_at f px py = quotient ∙ ap (λ (n : ℕ). f.dividend / n) (ap unsigned_abs (inner_sum f px py s is)) in
+    omega (arith, parts.near, parts.far, same, unseen (omega (arith, parts.near, same))))
+seen_inside f px py s d (Some e) is inside some quotient seen unseen =
+    let same : e ≡ depth_at f px py = seen.0 ∙ quotient ∙ ap (λ (n : ℕ). f.dividend / n) (ap unsigned_abs (inner_sum f px py s is)) in
+    hit_seen f px py inside (inner_covered f px py s is some) (omega (arith, seen.1, same)) (omega (arith, seen.2, same))
+    ∙ ap (λ (n : ℕ). Some (hit_at f px py n)) (sym same)
+
+-- a depth that is greater than all at which anything is seen
+pub deep_inside : (f : Face) (px py s : ℕ) → IsInnerSumAt f px py s → f.extent.far < f.dividend / s → face_hit f px py ≡ None
+deep_inside f px py s is deep = missed f px py (λ h parts.
+    let same : f.dividend / s ≡ depth_at f px py = ap (λ (n : ℕ). f.dividend / n) (ap unsigned_abs (inner_sum f px py s is)) in
+    omega (arith, parts.far, same, deep))

@@ -1,15 +1,14 @@
 -- Weighed sums and means along a row: how large they are, what a step makes of them, and the colours that they give.
 use Rattle.std.proofs.Common.{◌≡◌, ℕ, ◌+◌, ◌*◌, ◌/◌, ◌<◌, ◌≤◌, ◌^◌, [], ◌∷◌, Option, Some, None, true, refl, ap, sym, ◌∙◌, subst, arith, lit≤, ⊎_elim}
-use Rattle.std.specs.Prelude.{ℤ, pos, ◌+ℤ◌, ◌-ℤ◌, ◌*ℤ◌, ◌≤ℤ◌, ◌<ℤ◌, unsigned_abs}
+use Rattle.std.specs.Prelude.{ℤ, pos, ◌+ℤ◌, ◌-ℤ◌, ◌*ℤ◌, ◌≤ℤ◌, unsigned_abs}
 use Rattle.std.specs.Option.{IfSome}
 use Rattle.std.proofs.lemmas.Bool.{cases_lt}
-use Rattle.std.proofs.lemmas.Int.{ints, by_lt_z}
-use Rattle.std.proofs.Math.Nat.{lt-div-mul-add, div-mul-le_self}
+use Rattle.std.proofs.lemmas.Int.{ints}
 use Rattle.std.proofs.Math.IntN.{*ℤ-zero}
 use lib.IntN.{*ℤ_comm}
 use Rattle.fx_math.specs.Limits.{size_limit}
 use Rattle.fx_math.specs.Within.{IsWithin}
-use Rattle.fx_math.proofs.Ring.{expand, linear, order, mul-add, mul_left_comm, times_one, times_le, times_lt}
+use Rattle.fx_math.proofs.Ring.{expand, linear, order, mul-add, times_one, times_le}
 use Rattle.fx_math.proofs.Size.{within_add, within_sub, within_mul, within_more}
 use Rattle.tri_cover.specs.Faces.{face_hit, is_covered}
 use Rattle.tri_cover.specs.Hits.{channel}
@@ -20,15 +19,17 @@ use Rattle.tri_cover.specs.declared.linear.Linear.{Linear}
 use Rattle.tri_cover.proofs.EdgeLines.{total_value}
 use Rattle.depth_raster.specs.Means.{IsWeightAt, IsMeanOf, IsSmallMean, AreSmallMeans, IsNextOf, DoFit, AreMeansAt, colour_by, Stays, AreEven}
 use Rattle.depth_raster.specs.Mixing.{mix, mix_of, number_at, change_of, AreBytes}
-use Rattle.depth_raster.specs.Quotients.{IsMean, IsLeft, IsChannel}
+use Rattle.span_shading.specs.Quotients.{IsMean, IsLeft, IsChannel}
 use Rattle.depth_raster.specs.declared.means.Mean.{Mean}
 use Rattle.depth_raster.specs.declared.means.Means.{Means}
 use Rattle.depth_raster.specs.declared.means.Weight.{Weight}
+use Rattle.span_shading.proofs.Between.{product_between, mean_between}
+use Rattle.span_shading.proofs.Means.{left_mean}
 use Rattle.depth_raster.proofs.Looking.{IsHitOf, IsCoveredAt, hit_parts, covered_parts, quotient_is}
 use Rattle.depth_raster.proofs.Stepped.{value_within, step_within, value_ahead}
 
 -- ---- how large they are
-byte_within : (n : ℕ) → n < 2 ^ 8 → IsWithin (2 ^ 8) (pos n)
+pub byte_within : (n : ℕ) → n < 2 ^ 8 → IsWithin (2 ^ 8) (pos n)
 byte_within n l = record { size = omega (arith, l) }
 
 mix_within : (x y z : ℕ) (a b c : ℤ) → AreBytes x y z → IsWithin (2 ^ 82) a → IsWithin (2 ^ 82) b → IsWithin (2 ^ 82) c → IsWithin (2 ^ 92) (mix x y z a b c)
@@ -172,30 +173,11 @@ pub number_whole : (number w r m : ℤ) → r ≡ number -ℤ m *ℤ w → r +�
 number_whole number w r m is = omega (arith, order, is)
 
 -- ---- quotients
-taken : (number w r m : ℤ) → r ≡ number -ℤ m *ℤ w → number ≡ m *ℤ w +ℤ r
-taken number w r m is = omega (arith, order, is)
-
-pub left_mean : (number w r : ℤ) (m : ℕ) → r ≡ number -ℤ pos m *ℤ w → IsLeft r w → IsMean number w m
-left_mean number w r m is left =
-    let whole = taken number w r (pos m) is in
-    record { least = omega (arith, order, whole, left.least); most = omega (arith, order, whole, left.most) }
-
-pub mean_left : (number w r : ℤ) (m : ℕ) → r ≡ number -ℤ pos m *ℤ w → IsMean number w m → IsLeft r w
-mean_left number w r m is mean =
-    let whole = taken number w r (pos m) is in
-    record { least = omega (arith, order, whole, mean.least); most = omega (arith, order, whole, mean.most) }
-
 mean_is : (n w g : ℕ) → IsMean (pos n) (pos w) g → g ≡ n / w
 mean_is n w g mean =
     let low : g * w ≤ n = omega (arith, ints, mean.least) in
     let high : n < g * w + w = omega (arith, ints, mean.most) in
     quotient_is n w g (omega (arith, low, high)) low high
-
-pub quotient_mean : (n w : ℕ) → 0 < w → IsMean (pos n) (pos w) (n / w)
-quotient_mean n w some = record {
-  least = omega (arith, ints, div-mul-le_self n w);
-  most = omega (arith, ints, lt-div-mul-add {a = n} {b = w} some);
-}
 
 -- ---- the colour
 whole : (z : ℤ) → pos 0 ≤ℤ z → z ≡ pos (unsigned_abs z)
@@ -287,11 +269,6 @@ line_between a x v c i j = simp expand (omega (arith, linear))
 value_between : (g : Linear) (px py i j : ℕ) → pos (i + j) *ℤ value_at g (px + i) py ≡ pos j *ℤ value_at g px py +ℤ pos i *ℤ value_at g (px + (i + j)) py
 value_between g px py i j = line_between (step_of g) (pos px) ((pos 2 *ℤ g.b) *ℤ pos py) g.c (pos i) (pos j)
 
-product_between : (n i j p a x y : ℤ) → n *ℤ a ≡ j *ℤ x +ℤ i *ℤ y → n *ℤ (p *ℤ a) ≡ j *ℤ (p *ℤ x) +ℤ i *ℤ (p *ℤ y)
-product_between n i j p a x y e =
-    mul_left_comm n p a ∙ ap (λ (z : ℤ). p *ℤ z) e ∙ mul-add p (j *ℤ x) (i *ℤ y)
-    ∙ ap (λ (z : ℤ). z +ℤ p *ℤ (i *ℤ y)) (mul_left_comm p j x) ∙ ap (λ (z : ℤ). j *ℤ (p *ℤ x) +ℤ z) (mul_left_comm p i y)
-
 sum_between : (n i j a b c a0 b0 c0 a1 b1 c1 : ℤ) → n *ℤ a ≡ j *ℤ a0 +ℤ i *ℤ a1 → n *ℤ b ≡ j *ℤ b0 +ℤ i *ℤ b1 → n *ℤ c ≡ j *ℤ c0 +ℤ i *ℤ c1
     → n *ℤ (a +ℤ b +ℤ c) ≡ j *ℤ (a0 +ℤ b0 +ℤ c0) +ℤ i *ℤ (a1 +ℤ b1 +ℤ c1)
 sum_between n i j a b c a0 b0 c0 a1 b1 c1 d e f =
@@ -310,46 +287,6 @@ mix_between f px py k i j =
     (pos x *ℤ value_at e.e0 px py) (pos y *ℤ value_at e.e1 px py) (pos z *ℤ value_at e.e2 px py)
     (pos x *ℤ value_at e.e0 (px + (i + j)) py) (pos y *ℤ value_at e.e1 (px + (i + j)) py) (pos z *ℤ value_at e.e2 (px + (i + j)) py)
     (part x e.e0) (part y e.e1) (part z e.e2)
-
--- what is in order at two places is in order between them
-order_between : (k i j x y x0 y0 x1 y1 : ℤ) → pos 0 ≤ℤ i → pos 0 ≤ℤ j → pos 0 <ℤ k → k *ℤ x ≡ j *ℤ x0 +ℤ i *ℤ x1 → k *ℤ y ≡ j *ℤ y0 +ℤ i *ℤ y1 → x0 ≤ℤ y0 → x1 ≤ℤ y1 → x ≤ℤ y
-order_between k i j x y x0 y0 x1 y1 p q some d e l m =
-    by_lt_z y x
-    (λ below. absurd (omega (arith, order, d, e, times_lt k y x some below, times_le j x0 y0 q l, times_le i x1 y1 p m)))
-    (λ above. above)
-
-strict_between : (k i j x y x0 y0 x1 y1 : ℤ) → pos 0 ≤ℤ i → pos 0 ≤ℤ j → pos 0 <ℤ k → k ≡ i +ℤ j → k *ℤ x ≡ j *ℤ x0 +ℤ i *ℤ x1 → k *ℤ y ≡ j *ℤ y0 +ℤ i *ℤ y1 → x0 <ℤ y0 → x1 <ℤ y1 → x <ℤ y
-strict_between k i j x y x0 y0 x1 y1 p q some is d e l m =
-    let first : (x0 +ℤ pos 1) ≤ℤ y0 = omega (arith, ints, l) in
-    let last : (x1 +ℤ pos 1) ≤ℤ y1 = omega (arith, ints, m) in
-    let wide : pos 0 ≤ℤ k = omega (arith, ints, some) in
-    by_lt_z x y
-    (λ below. below)
-    (λ above. absurd (omega (
-      arith,
-      order,
-      some,
-      is,
-      d,
-      e,
-      times_le k y x wide above,
-      times_le j (x0 +ℤ pos 1) y0 q first,
-      mul-add j x0 (pos 1),
-      times_one j,
-      times_le i (x1 +ℤ pos 1) y1 p last,
-      mul-add i x1 (pos 1),
-      times_one i,
-    )))
-
-mean_between : (k i j n w n0 w0 n1 w1 : ℤ) (g : ℕ) → pos 0 ≤ℤ i → pos 0 ≤ℤ j → pos 0 <ℤ k → k ≡ i +ℤ j → k *ℤ n ≡ j *ℤ n0 +ℤ i *ℤ n1 → k *ℤ w ≡ j *ℤ w0 +ℤ i *ℤ w1 → IsMean n0 w0 g → IsMean n1 w1 g → IsMean n w g
-mean_between k i j n w n0 w0 n1 w1 g p q some is d e first last =
-    let low = product_between k i j (pos g) w w0 w1 e in
-    let high : k *ℤ (pos g *ℤ w +ℤ w) ≡ j *ℤ (pos g *ℤ w0 +ℤ w0) +ℤ i *ℤ (pos g *ℤ w1 +ℤ w1) =
-    omega (arith, order, low, e, mul-add k (pos g *ℤ w) w, mul-add j (pos g *ℤ w0) w0, mul-add i (pos g *ℤ w1) w1) in
-    record {
-      least = order_between k i j (pos g *ℤ w) n (pos g *ℤ w0) n0 (pos g *ℤ w1) n1 p q some low d first.least last.least;
-      most = strict_between k i j n (pos g *ℤ w +ℤ w) n0 (pos g *ℤ w0 +ℤ w0) n1 (pos g *ℤ w1 +ℤ w1) p q some is d high first.most last.most;
-    }
 
 -- ---- means that are the same at two pixels of a row
 abbrev MeanAt : Face → (px py i m : ℕ) → Type 0

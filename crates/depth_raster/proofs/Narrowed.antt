@@ -1,8 +1,9 @@
 -- Edge values in 64 bits along a row.
-use Rattle.std.proofs.Common.{◌≡◌, ℕ, ◌+◌, ◌≤◌, ◌^◌, FitsSigned, to_z, of_z, ap, sym, ◌∙◌, lit<, lit≤, subst, arith}
+use Rattle.std.proofs.Common.{◌≡◌, ℕ, ◌+◌, ◌*◌, ◌≤◌, ◌^◌, Option, Some, None, FitsSigned, to_z, of_z, ap, sym, ◌∙◌, lit<, lit≤, subst, arith}
 use Rattle.std.proofs.lemmas.Int.{to_z-of_z}
 use mir.Syntax.{w64}
 use Rattle.std.specs.Prelude.{ℤ, pos, ◌+ℤ◌, ◌*ℤ◌}
+use Rattle.std.specs.Option.{IfSome}
 use Rattle.fx_math.specs.Limits.{size_limit}
 use Rattle.fx_math.specs.Within.{IsWithin}
 use Rattle.fx_math.proofs.Size.{back, within_add, within_mul, within_more}
@@ -10,7 +11,8 @@ use Rattle.tri_cover.specs.Linears.{value_at, step_of}
 use Rattle.tri_cover.specs.declared.face.Face.{Face}
 use Rattle.tri_cover.specs.declared.linear.Linear.{Linear}
 use Rattle.depth_raster.specs.Edges.{AreValuesAt, AreSlopesOf}
-use Rattle.depth_raster.specs.Narrow.{AreNarrowAt, IsLineOf, IsLineAt, DoFit, IsSumOf}
+use Rattle.depth_raster.specs.Narrow.{AreNarrowAt, AreNarrowSlopes, IsNarrowOf, IsLineOf, IsLineAt, DoFit, IsSumOf}
+use Rattle.depth_raster.specs.Small.{AreWithin}
 use Rattle.depth_raster.specs.declared.edges.EdgeValues.{EdgeValues}
 use Rattle.depth_raster.specs.declared.narrow.NarrowLine.{NarrowLine}
 use Rattle.depth_raster.specs.declared.narrow.NarrowValues.{NarrowValues}
@@ -19,50 +21,58 @@ use Rattle.depth_raster.proofs.Stepped.{value_ahead, value_after}
 stepped : (g : Linear) (px py : ℕ) (e d : ℤ) → e ≡ value_at g px py → d ≡ step_of g → e +ℤ d ≡ value_at g (px + 1) py
 stepped g px py e d is step = ap (λ (u : ℤ). u +ℤ d) is ∙ ap (λ (u : ℤ). value_at g px py +ℤ u) step ∙ sym (value_after g px py)
 
+-- the values are those of the face's, in fewer bits
+narrow_at : {most : ℕ} (f : Face) (px py : ℕ) (e : EdgeValues) (v : NarrowValues) → AreValuesAt f px py e → IsNarrowOf most e v → AreNarrowAt f px py v
+narrow_at f px py e v are is = record { first_is = is.first.0 ∙ are.first_is; second_is = is.second.0 ∙ are.second_is; third_is = is.third.0 ∙ are.third_is }
+
+narrow_within : {most : ℕ} (e : EdgeValues) (v : NarrowValues) → IsNarrowOf most e v → AreWithin most v.first v.second v.third
+narrow_within {most} e v is = record {
+  first_within = subst (λ (z : ℤ). IsWithin most z) (sym is.first.0) is.first.1;
+  second_within = subst (λ (z : ℤ). IsWithin most z) (sym is.second.0) is.second.1;
+  third_within = subst (λ (z : ℤ). IsWithin most z) (sym is.third.0) is.third.1;
+}
+
 -- the line of a face's values and steps
-pub line_at : (f : Face) (px py : ℕ) (e d : EdgeValues) (l : NarrowLine) → AreValuesAt f px py e → AreSlopesOf f d → IsLineOf e d l → IsLineAt f px py l
-line_at f px py e d l are steps is = record {
-  start = record { first_is = is.start.first.0 ∙ are.first_is; second_is = is.start.second.0 ∙ are.second_is; third_is = is.start.third.0 ∙ are.third_is };
-  first_step = is.steps_are.first.0 ∙ steps.first_is;
-  second_step = is.steps_are.second.0 ∙ steps.second_is;
-  third_step = is.steps_are.third.0 ∙ steps.third_is;
-  small = record {
-    first_within = subst (λ (z : ℤ). IsWithin (2 ^ 51) z) (sym is.start.first.0) is.start.first.1;
-    second_within = subst (λ (z : ℤ). IsWithin (2 ^ 51) z) (sym is.start.second.0) is.start.second.1;
-    third_within = subst (λ (z : ℤ). IsWithin (2 ^ 51) z) (sym is.start.third.0) is.start.third.1;
+pub line_at : (f : Face) (px end py : ℕ) (e k d : EdgeValues) (o : Option NarrowLine) → AreValuesAt f px py e → AreValuesAt f end py k → AreSlopesOf f d → IfSome o (IsLineOf e k d) → IfSome o (IsLineAt f px end py)
+line_at f px end py e k d None are last steps is = tt
+line_at f px end py e k d (Some l) are last steps is = record {
+  start = narrow_at f px py e l.start are is.start;
+  last = narrow_at f end py k l.last last is.last_are;
+  steps = record {
+    first_is = is.steps_are.first.0 ∙ steps.first_is;
+    second_is = is.steps_are.second.0 ∙ steps.second_is;
+    third_is = is.steps_are.third.0 ∙ steps.third_is;
   };
-  small_steps = record {
-    first_within = subst (λ (z : ℤ). IsWithin (2 ^ 41) z) (sym is.steps_are.first.0) is.steps_are.first.1;
-    second_within = subst (λ (z : ℤ). IsWithin (2 ^ 41) z) (sym is.steps_are.second.0) is.steps_are.second.1;
-    third_within = subst (λ (z : ℤ). IsWithin (2 ^ 41) z) (sym is.steps_are.third.0) is.steps_are.third.1;
-  };
+  small = narrow_within e l.start is.start;
+  small_steps = narrow_within d l.steps is.steps_are;
 }
 
 -- a small value n pixels further on in the row
-pub value_stays_small : (g : Linear) (px py n : ℕ) (v s : ℤ) → n ≤ size_limit → v ≡ value_at g px py → s ≡ step_of g → IsWithin (2 ^ 51) v → IsWithin (2 ^ 41) s → IsWithin (2 ^ 52) (value_at g (px + n) py)
+value_stays_small : (g : Linear) (px py n : ℕ) (v s : ℤ) → n ≤ size_limit → v ≡ value_at g px py → s ≡ step_of g → IsWithin (3 * 2 ^ 50) v → IsWithin (2 ^ 40) s → IsWithin (2 ^ 52) (value_at g (px + n) py)
 value_stays_small g px py n v s few value step small small_step =
     let count : IsWithin (2 ^ 10) (pos n) = record { size = few } in
     subst (λ (z : ℤ). IsWithin (2 ^ 52) z) (ap (λ (z : ℤ). z +ℤ s *ℤ pos n) value ∙ ap (λ (z : ℤ). value_at g px py +ℤ z *ℤ pos n) step ∙ sym (value_ahead g px py n))
     (within_more (2 ^ 52) (within_add small (within_mul small_step count)) (lit≤ tt))
 
--- the values after a step, n pixels from the start
-pub narrow_next : (f : Face) (px py : ℕ) (v d t : NarrowValues) (x : ℕ) (y : ℕ) (l : NarrowLine) → AreNarrowAt f px py v → IsLineAt f x y l → d ≡ l.steps → IsSumOf v d t → AreNarrowAt f (px + 1) py t
-narrow_next f px py v d t x y l are line same is = record {
-  first_is = is.first_is ∙ stepped f.edges.e0 px py v.first d.first are.first_is (ap (λ (w : NarrowValues). w.first) same ∙ line.first_step);
-  second_is = is.second_is ∙ stepped f.edges.e1 px py v.second d.second are.second_is (ap (λ (w : NarrowValues). w.second) same ∙ line.second_step);
-  third_is = is.third_is ∙ stepped f.edges.e2 px py v.third d.third are.third_is (ap (λ (w : NarrowValues). w.third) same ∙ line.third_step);
+-- the values after a step
+pub narrow_next : (f : Face) (px py : ℕ) (v d t : NarrowValues) → AreNarrowAt f px py v → AreNarrowSlopes f d → IsSumOf v d t → AreNarrowAt f (px + 1) py t
+narrow_next f px py v d t are steps is = record {
+  first_is = is.first_is ∙ stepped f.edges.e0 px py v.first d.first are.first_is steps.first_is;
+  second_is = is.second_is ∙ stepped f.edges.e1 px py v.second d.second are.second_is steps.second_is;
+  third_is = is.third_is ∙ stepped f.edges.e2 px py v.third d.third are.third_is steps.third_is;
 }
 
-next_fits : (g : Linear) (px py n : ℕ) (v s a d : ℤ) → n + 1 ≤ size_limit → v ≡ value_at g px py → s ≡ step_of g → IsWithin (2 ^ 51) v → IsWithin (2 ^ 41) s → a ≡ value_at g (px + n) py → d ≡ s → IsWithin (2 ^ 52) (a +ℤ d)
-next_fits g px py n v s a d few value step small small_step here same =
-    subst (λ (z : ℤ). IsWithin (2 ^ 52) z) (sym (stepped g (px + n) py a d here (same ∙ step)))
+next_fits : (g : Linear) (px py n : ℕ) (v s a : ℤ) → n + 1 ≤ size_limit → v ≡ value_at g px py → s ≡ step_of g → IsWithin (3 * 2 ^ 50) v → IsWithin (2 ^ 40) s → a ≡ value_at g (px + n) py → IsWithin (2 ^ 52) (a +ℤ s)
+next_fits g px py n v s a few value step small small_step here =
+    subst (λ (z : ℤ). IsWithin (2 ^ 52) z) (sym (stepped g (px + n) py a s here step))
     (subst (λ (k : ℕ). IsWithin (2 ^ 52) (value_at g k py)) (omega arith) (value_stays_small g px py (n + 1) v s few value step small small_step))
 
-pub narrow_fits : (f : Face) (px py n : ℕ) (v d : NarrowValues) (l : NarrowLine) → n + 1 ≤ size_limit → IsLineAt f px py l → AreNarrowAt f (px + n) py v → d ≡ l.steps → DoFit v d
-narrow_fits f px py n v d l few line are same = record {
-  first_within = next_fits f.edges.e0 px py n l.start.first l.steps.first v.first d.first few line.start.first_is line.first_step line.small.first_within line.small_steps.first_within are.first_is (ap (λ (w : NarrowValues). w.first) same);
-  second_within = next_fits f.edges.e1 px py n l.start.second l.steps.second v.second d.second few line.start.second_is line.second_step line.small.second_within line.small_steps.second_within are.second_is (ap (λ (w : NarrowValues). w.second) same);
-  third_within = next_fits f.edges.e2 px py n l.start.third l.steps.third v.third d.third few line.start.third_is line.third_step line.small.third_within line.small_steps.third_within are.third_is (ap (λ (w : NarrowValues). w.third) same);
+-- the values n pixels from the start of a line
+pub narrow_fits : (f : Face) (px end py n : ℕ) (v : NarrowValues) (l : NarrowLine) → n + 1 ≤ size_limit → IsLineAt f px end py l → AreNarrowAt f (px + n) py v → DoFit v l.steps
+narrow_fits f px end py n v l few line are = record {
+  first_within = next_fits f.edges.e0 px py n l.start.first l.steps.first v.first few line.start.first_is line.steps.first_is line.small.first_within line.small_steps.first_within are.first_is;
+  second_within = next_fits f.edges.e1 px py n l.start.second l.steps.second v.second few line.start.second_is line.steps.second_is line.small.second_within line.small_steps.second_within are.second_is;
+  third_within = next_fits f.edges.e2 px py n l.start.third l.steps.third v.third few line.start.third_is line.steps.third_is line.small.third_within line.small_steps.third_within are.third_is;
 }
 
 pub narrow_sum : (a b : ℤ) → FitsSigned w64 a → FitsSigned w64 b → IsWithin (2 ^ 52) (a +ℤ b) → to_z w64 (of_z w64 (to_z w64 (of_z w64 a) +ℤ to_z w64 (of_z w64 b))) ≡ a +ℤ b

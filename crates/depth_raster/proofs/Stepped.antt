@@ -11,7 +11,7 @@ use Rattle.tri_cover.specs.Linears.{value_at, step_of}
 use Rattle.tri_cover.specs.declared.linear.Linear.{Linear}
 use Rattle.tri_cover.proofs.FaceValues.{two_within}
 
-place_fits : (n : ℕ) → n ≤ size_limit → IsWithin (2 ^ 10) (pos n)
+pub place_fits : (n : ℕ) → n ≤ size_limit → IsWithin (2 ^ 10) (pos n)
 place_fits n l = record { size = l }
 
 pub value_within : (g : Linear) (px py : ℕ) → px ≤ size_limit → py ≤ size_limit → IsWithin (2 ^ 82) (value_at g px py)

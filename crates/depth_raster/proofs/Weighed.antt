@@ -1,12 +1,14 @@
 -- The sum of edge values, where they are those of a pixel that is covered.
 use Rattle.std.proofs.Common.{◌≡◌, ℕ, Option, Some, None, false, ap, sym, ◌∙◌, subst}
 use Rattle.std.specs.Option.{IfSome, IfNone}
-use Rattle.std.specs.Prelude.{ℤ, pos, ◌&&◌, int_le, int_lt, unsigned_abs}
+use Rattle.std.specs.Prelude.{ℤ, pos, ◌≤ℤ◌, ◌&&◌, int_le, int_lt, unsigned_abs}
 use Rattle.tri_cover.specs.Faces.{is_covered}
 use Rattle.tri_cover.specs.Linears.{value_at, weight_at}
 use Rattle.tri_cover.specs.declared.face.Face.{Face}
 use Rattle.tri_cover.proofs.EdgeLines.{total_value}
-use Rattle.depth_raster.specs.Weighed.{IsSmallWeight, IsWeighedAt}
+use Rattle.depth_raster.specs.Narrow.{AreNarrowAt}
+use Rattle.depth_raster.specs.Weighed.{IsSmallWeight, IsWeighedAt, AreInner, AreInnerAt, IsInnerSum, IsInnerSumAt}
+use Rattle.depth_raster.specs.declared.narrow.NarrowValues.{NarrowValues}
 use Rattle.depth_raster.specs.Weights.{are_covering, IsWeightOf}
 
 pub small_weight : (a b c : ℤ) (o : Option ℕ) → IfSome o (IsWeightOf a b c) → IfSome o IsSmallWeight
@@ -31,3 +33,16 @@ pub weight_at_is : (f : Face) (px py s : ℕ) → IsWeightOf (value_at f.edges.e
 weight_at_is f px py s weight =
     let sum : pos s ≡ value_at f.edges.sum px py = weight.is_sum ∙ sym (total_value f.edges.e0 f.edges.e1 f.edges.e2 f.edges.sum px py f.edges.total) in
     ap unsigned_abs sum
+
+-- ---- edge values none of which is below 0
+pub inner_sum_at : (f : Face) (px py : ℕ) (v : NarrowValues) (s : ℕ) → AreNarrowAt f px py v → IsInnerSum v.first v.second v.third s → IsInnerSumAt f px py s
+inner_sum_at f px py v s are is =
+    subst (λ (z : ℤ). IsInnerSum (value_at f.edges.e0 px py) (value_at f.edges.e1 px py) z s) are.third_is
+    (subst (λ (z : ℤ). IsInnerSum (value_at f.edges.e0 px py) z v.third s) are.second_is (subst (λ (z : ℤ). IsInnerSum z v.second v.third s) are.first_is is))
+
+pub inner_values : (f : Face) (px py : ℕ) (v : NarrowValues) → AreNarrowAt f px py v → AreInnerAt f px py → AreInner v.first v.second v.third
+inner_values f px py v are is = record {
+  first_inner = subst (λ (z : ℤ). pos 0 ≤ℤ z) (sym are.first_is) is.first_inner;
+  second_inner = subst (λ (z : ℤ). pos 0 ≤ℤ z) (sym are.second_is) is.second_inner;
+  third_inner = subst (λ (z : ℤ). pos 0 ≤ℤ z) (sym are.third_is) is.third_inner;
+}

@@ -1,4 +1,5 @@
 pub mod Faces
+pub mod Recent
 pub mod Around
 pub mod Later
 pub mod Looks
@@ -9,7 +10,6 @@ pub mod Small
 pub mod Narrow
 pub mod Mixing
 pub mod Sums
-pub mod Quotients
 pub mod Means
 pub mod Runs
 pub mod Spans
@@ -27,3 +27,4 @@ pub mod Batches
 pub mod Canvas
 pub mod Shown
 pub mod InPieces
+pub mod Shading

@@ -17,6 +17,15 @@ abbrev pub IsSeen : Face → (px py limit : ℕ) → Bool → Type 0
 IsSeen f px py limit true = Looks f px py limit (Some (depth_at f px py))
 IsSeen f px py limit false = Looks f px py limit None
 
+-- the depth at which the face is hit at the pixel, where it is hit
+abbrev pub IsDepthAt : Face → (px py : ℕ) → Option ℕ → Type 0
+IsDepthAt f px py None = face_hit f px py ≡ None
+IsDepthAt f px py (Some depth) = face_hit f px py ≡ Some (record { depth = depth; colour = colour_at f px py })
+
+-- the face is hit at no pixel from one of a row to another
+abbrev pub IsMissedTo : Face → (px end py : ℕ) → Type 0
+IsMissedTo f px end py = (x : ℕ) → px ≤ x → x ≤ end → face_hit f x py ≡ None
+
 -- the depth of the face, where its edge values have this sum, is one at which it is seen, and before the limit
 pub record IsSeenBefore (f : Face) (limit sum : ℕ) : Type 0 where
   pub near : f.extent.near ≤ f.dividend / sum

@@ -6,7 +6,7 @@ use Rattle.tri_cover.specs.Faces.{face_hit}
 use Rattle.tri_cover.specs.Linears.{value_at, step_of}
 use Rattle.tri_cover.specs.declared.face.Face.{Face}
 use Rattle.depth_raster.specs.Mixing.{number_at, change_of, AreColours}
-use Rattle.depth_raster.specs.Quotients.{IsLeft}
+use Rattle.span_shading.specs.Quotients.{IsLeft}
 use Rattle.depth_raster.specs.declared.blocks.Block.{Block}
 use Rattle.depth_raster.specs.declared.means.Mean.{Mean}
 use Rattle.depth_raster.specs.declared.means.Means.{Means}

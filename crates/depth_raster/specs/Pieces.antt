@@ -1,5 +1,6 @@
 -- What pieces that are drawn together make of a pixel.
-use Rattle.std.specs.Prelude.{◌≡◌, ℕ, ◌+◌, ◌-◌, ◌<◌, List, [], fold, filter_map, length, if◌then◌else◌, nat_lt, Option, Some, slice_get, slice_index_or}
+use Rattle.std.specs.Prelude.{◌≡◌, ℕ, ◌+◌, ◌-◌, ◌<◌, true, List, [], fold, filter_map, length, if◌then◌else◌, nat_lt, Option, Some, slice_get, slice_index_or}
+use Rattle.std.specs.Option.{ForSome}
 use Rattle.fx_math.specs.declared.lenses.Lens.{Lens}
 use Rattle.tri_cover.specs.declared.face.Face as faces
 use Rattle.tri_cover.specs.declared.hit.Hit.{Hit}
@@ -7,6 +8,7 @@ use Rattle.tri_cover.specs.Hits.{hit}
 use Rattle.tri_cover.specs.Picture.{Fragment}
 use Rattle.depth_raster.specs.Faces.{fragment_by, glazed_by_face}
 use Rattle.depth_raster.specs.Marks.{mark_over}
+use Rattle.depth_raster.specs.Small.{IsSmallFace}
 use Rattle.tri_cover.specs.Readiness.{IsReady}
 use Rattle.depth_raster.specs.Around.{IsAround, IsBoxOf}
 use Rattle.depth_raster.specs.declared.marks.Mark.{Mark}
@@ -17,6 +19,7 @@ pub record IsPieceOf (lens : Lens) (p : Piece) : Type 0 where
   pub extent : IsAround lens p.face.tri p.extent
   pub box : IsBoxOf p.ready p.extent
   pub ready : IsReady lens p.face.tri p.ready
+  pub small : p.small ≡ true → ForSome p.ready IsSmallFace
 
 -- the piece made ready for the lens: its face stays
 pub record IsMadeReady (lens : Lens) (before after : Piece) : Type 0 where

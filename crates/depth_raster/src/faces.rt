@@ -5,8 +5,10 @@ ghost use Rattle.draw_list.specs.Joints.{steps_at};
 ghost use Rattle.tri_cover.specs.Glass.{alpha_of};
 ghost use Rattle.tri_cover.specs.Hits.{HitsAs};
 ghost use Rattle.depth_raster.specs.Faces.{IsFaceOf};
+ghost use Rattle.depth_raster.specs.Recent.{AreCarried};
 
 use crate::marks::Mark;
+use crate::recent::Recent;
 use draw_list::{DrawList, Item};
 use pf_model::Tri;
 
@@ -23,13 +25,22 @@ pub(crate) struct Face {
 }
 
 impl Face {
-    /// The face of the triangle of a number in an item, of no rank yet.
-    pub(crate) fn of(list: &DrawList, item: &Item, number: u32, tri: &Tri) -> Face
-        requires { item.now.joint < length list.now.joints.lists }
-        ensures { IsFaceOf (instance_of_item list.now.joints.lists list.now.kept.tris item.now) number tri.now result }
+    /// The face of the triangle of a number in an item, of no rank yet; the last points of the item that were carried to the
+    /// eye are known.
+    pub(crate) fn of(
+        list: &DrawList,
+        item: &Item,
+        number: u32,
+        tri: &Tri,
+        recent: &mut Recent,
+    ) -> Face
+        requires joint { item.now.joint < length list.now.joints.lists }
+        requires carried { AreCarried (steps_at list.now.joints.lists item.now.joint) recent.old }
+        ensures carried { AreCarried (steps_at list.now.joints.lists item.now.joint) recent.new }
+        ensures face { IsFaceOf (instance_of_item list.now.joints.lists list.now.kept.tris item.now) number tri.now result }
     {
         Face {
-            tri: at_eye(list, item.joint, tri),
+            tri: at_eye(list, item.joint, tri, recent),
             place: item.place,
             shift: item.shift,
             number,
@@ -79,14 +90,19 @@ fn alpha(item: &Item) -> u8
 }
 
 /// A triangle after the steps of a joint: it is hit as the triangle is after the steps.
-fn at_eye(list: &DrawList, joint: u32, tri: &Tri) -> Tri
-    requires { joint < length list.now.joints.lists }
-    ensures { HitsAs tri.now (steps_at list.now.joints.lists joint) result }
+fn at_eye(list: &DrawList, joint: u32, tri: &Tri, recent: &mut Recent) -> Tri
+    requires joint { joint < length list.now.joints.lists }
+    requires carried { AreCarried (steps_at list.now.joints.lists joint) recent.old }
+    ensures carried { AreCarried (steps_at list.now.joints.lists joint) recent.new }
+    ensures hits { HitsAs tri.now (steps_at list.now.joints.lists joint) result }
 {
     let [u, v, w] = tri.v;
     let c = tri.c;
+    let first = recent.eye(list, joint, u);
+    let second = recent.eye(list, joint, v);
+    let third = recent.eye(list, joint, w);
     Tri {
-        v: [list.eye(joint, u), list.eye(joint, v), list.eye(joint, w)],
+        v: [first, second, third],
         c,
     }
 }

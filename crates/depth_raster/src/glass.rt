@@ -12,6 +12,7 @@ use crate::batch::Batch;
 use crate::faces::Face;
 use crate::glass_strips::glaze_strips;
 use crate::panes::next_pane;
+use crate::recent::Recent;
 use crate::strip::Strip;
 use crate::work::work_of;
 use draw_list::{DrawList, Item};
@@ -77,12 +78,13 @@ fn draw_item<R: Threads + Sync>(
     ensures glass { Glazes lens.now strips.old batch.old.pieces.items strips.new batch.new.pieces.items
         (instance_glazed lens.now (instance_of_item list.now.joints.lists list.now.kept.tris item.now)) }
 {
+    let mut recent = Recent::new();
     for number in 0..item.geom.len {
         let tri = match list.tri(item.geom, number) {
             Some(tri) => tri,
             None => return,
         };
-        let face = Face::of(list, item, number, &tri);
+        let face = Face::of(list, item, number, &tri, &mut recent);
         draw_face(rt, strips, batch, lens, face);
     }
 }

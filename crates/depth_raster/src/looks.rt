@@ -1,9 +1,9 @@
 //! Faces at pixels: hit before a depth or not, with no division where not.
-ghost use Rattle.std.specs.Prelude.{◌≡◌, ℕ, ◌*◌, ◌/◌, ◌<◌, ◌≤◌, ◌^◌, true, IfSome, IfNone, IsTrue, ◌↔◌};
+ghost use Rattle.std.specs.Prelude.{◌≡◌, ℕ, ◌*◌, ◌/◌, ◌<◌, ◌≤◌, ◌^◌, true, false, IfSome, IfNone, IsTrue, ◌↔◌};
 ghost use Rattle.tri_cover.specs.Faces.{is_in_box};
 ghost use Rattle.depth_raster.specs.Edges.{AreValuesAt};
-ghost use Rattle.depth_raster.specs.Looks.{Looks, IsSeen, IsSeenBefore};
-ghost use Rattle.depth_raster.specs.Weighed.{IsSmallWeight, IsWeighedAt};
+ghost use Rattle.depth_raster.specs.Looks.{Looks, IsDepthAt, IsSeen, IsSeenBefore};
+ghost use Rattle.depth_raster.specs.Weighed.{IsSmallWeight, IsWeighedAt, IsInnerSumAt};
 
 use crate::edges::EdgeValues;
 use std::num::{f64_to_bits_with_nan, nearest_i64_to_f64, nearest_u64_to_f64};
@@ -21,6 +21,64 @@ pub(crate) fn look(face: &Face, weight: Option<u128>, limit: u64, about: f64) ->
         Some(sum) => depth_before(face, limit, about, sum),
         None => None,
     }
+}
+
+/// The depth of a face at a pixel of its box, where it is hit there, from the sum of its edge values there, none of which is
+/// below 0. What is about the dividend makes it cheap, as before.
+#[inline(always)]
+pub(crate) fn depth_inside(face: &Face, about: f64, sum: u64) -> Option<u32>
+    requires sum { sum < 2 ^ 63 }
+    ensures { (px py : ℕ) → IsInnerSumAt face.now px py sum → is_in_box face.now.extent px py ≡ true
+        → IsDepthAt face.now px py result }
+{
+    let guess = rounded(about / nearest_i64_to_f64(sum as i64));
+    if is_narrow_quotient(face.dividend, sum, guess) {
+        seen_depth(face, guess)
+    } else {
+        divided_depth(face, sum)
+    }
+}
+
+/// The same with a division.
+#[cold]
+#[inline(never)]
+fn divided_depth(face: &Face, sum: u64) -> Option<u32>
+    ensures { (px py : ℕ) → IsInnerSumAt face.now px py sum → is_in_box face.now.extent px py ≡ true
+        → IsDepthAt face.now px py result }
+{
+    if sum == 0 {
+        return None;
+    }
+    let depth = face.dividend / u128::from(sum);
+    if is_behind(depth, face.extent.far) {
+        return None;
+    }
+    seen_depth(face, depth as u64)
+}
+
+/// Whether a depth is greater than the greatest at which anything is seen.
+fn is_behind(depth: u128, far: u32) -> bool
+    ensures behind { IsTrue result → far < depth }
+    ensures bound { result ≡ false → depth < 2 ^ 32 }
+{
+    u128::from(far) < depth
+}
+
+/// A depth, where it is one at which a face is seen. One all of which lies between the depths of the lens is seen at any.
+#[inline(always)]
+fn seen_depth(face: &Face, depth: u64) -> Option<u32>
+    requires { depth < 2 ^ 32 }
+    ensures some { IfSome result (λ d. (d ≡ depth) × (face.now.extent.near ≤ d) × (d ≤ face.now.extent.far)) }
+    ensures none { IfNone result (face.now.extent.near ≤ depth → face.now.extent.far < depth) }
+{
+    let extent = face.extent;
+    if extent.near == 0 && extent.far == u32::MAX {
+        return Some(depth as u32);
+    }
+    if depth < u64::from(extent.near) || u64::from(extent.far) < depth {
+        return None;
+    }
+    Some(depth as u32)
 }
 
 /// Whether a face is hit at a pixel of its box before a depth, from its edge values there.
@@ -203,16 +261,16 @@ fn is_quotient(dividend: u128, sum: u128, guess: u64) -> bool
     low <= dividend && dividend - low < sum
 }
 
-/// Whether a number is the quotient by a number of 64 bits.
+/// Whether a number is the quotient by a number of 64 bits that is above 0: whether it leaves less than that. Where its product
+/// is greater than the dividend, what is left wraps around to far more.
 #[inline(always)]
-#[tactic(auto, using(crate::proofs::Looking::quotient_is))]
+#[tactic(auto, using(crate::proofs::Looking::divisor_left, crate::proofs::Looking::quotient_left))]
 fn is_narrow_quotient(dividend: u128, sum: u64, guess: u64) -> bool
-    requires some { 0 < sum }
     requires guess { guess < 2 ^ 32 }
-    ensures { IsTrue result → guess ≡ dividend / sum }
+    ensures some { IsTrue result → 0 < sum }
+    ensures quotient { IsTrue result → guess ≡ dividend / sum }
 {
-    let low = narrow_product(guess, sum);
-    low <= dividend && dividend - low < u128::from(sum)
+    dividend.wrapping_sub(narrow_product(guess, sum)) < u128::from(sum)
 }
 
 /// A product of two numbers of 64 bits.

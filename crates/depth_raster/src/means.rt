@@ -8,7 +8,7 @@ ghost use Rattle.fx_math.specs.Limits.{size_limit};
 ghost use Rattle.fx_math.specs.Within.{IsWithin};
 ghost use Rattle.tri_cover.specs.Faces.{face_hit};
 ghost use Rattle.tri_cover.specs.declared.face.Face as faces;
-ghost use Rattle.depth_raster.specs.Quotients.{IsMean, IsChannel, IsLeft};
+ghost use Rattle.span_shading.specs.Quotients.{IsMean, IsChannel, IsLeft};
 
 use crate::sums::Sums;
 use tri_cover::Face;

@@ -9,6 +9,7 @@ ghost use Rattle.depth_raster.specs.Drawing.{instance_over, opaque_over};
 
 use crate::batch::Batch;
 use crate::faces::Face;
+use crate::recent::Recent;
 use crate::strip::Strip;
 use crate::strips::draw_strips;
 use crate::work::work_of;
@@ -97,12 +98,13 @@ fn draw_item<R: Threads + Sync>(
         batch.new.is_first strips.new batch.new.pieces.items
         (instance_over lens.now (instance_of_item list.now.joints.lists list.now.kept.tris item.now)) }
 {
+    let mut recent = Recent::new();
     for number in 0..item.geom.len {
         let tri = match list.tri(item.geom, number) {
             Some(tri) => tri,
             None => return,
         };
-        let face = Face::of(list, item, number, &tri);
+        let face = Face::of(list, item, number, &tri, &mut recent);
         draw_face(rt, strips, batch, lens, back, face);
     }
 }

@@ -1,12 +1,14 @@
 //! The colours of a tile after faces are drawn.
-ghost use Rattle.std.specs.Prelude.{◌≡◌, ℕ, false, [], ◌+◌, ◌<◌, ◌≤◌, All, Some, IsTrue, IfSome, length, slice_set, slice_index_or};
+ghost use Rattle.std.specs.Prelude.{◌≡◌, ℕ, true, false, [], ◌+◌, ◌<◌, ◌≤◌, All, Some, IsTrue, IfSome, length, slice_set, slice_index_or};
 ghost use Rattle.fx_math.specs.Limits.{size_limit};
 ghost use Rattle.depth_raster.specs.Blocks.{IsBlockOf, size_of, colour_in};
 ghost use Rattle.depth_raster.specs.Following.{Follows, Relates, SpanRelates};
 ghost use Rattle.depth_raster.specs.Means.{AreMeansAt, filled, shaded_within};
-ghost use Rattle.depth_raster.specs.Mixing.{IsFlat};
+ghost use Rattle.depth_raster.specs.Mixing.{AreColours, IsFlat};
 ghost use Rattle.depth_raster.specs.Pieces.{IsPieceOf, settled, kept_colour};
 ghost use Rattle.depth_raster.specs.Runs.{IsRunOf};
+ghost use Rattle.depth_raster.specs.Shading.{IsSpanAt, shade_colour};
+ghost use Rattle.depth_raster.specs.Small.{IsSmallFace};
 ghost use Rattle.depth_raster.specs.Tiles.{mark_in, painted_within, kept_within, hit_within, HaveRank, IsCleared, IsFilled, IsPainted};
 
 use crate::blocks::Block;
@@ -14,8 +16,10 @@ use crate::marks::{Mark, NOTHING};
 use crate::means::Means;
 use crate::pieces::Piece;
 use crate::runs::Run;
+use crate::spans::span_at;
 use crate::tile::Tile;
 use fx_math::Lens;
+use span_shading::{Shade, Span};
 use tri_cover::Face;
 
 /// Clears the marks of a tile, unless they are those of a blank one.
@@ -203,13 +207,14 @@ fn paint_piece(colours: &mut [[u8; 3]], block: &Block, lens: &Lens, piece: &Piec
         (hit_within lens.now piece.now block.now) run.now.r run.now.start run.now.end }
 {
     match &piece.ready {
-        Some(face) => paint_face(colours, block, face, run),
+        Some(face) => paint_face(colours, block, face, piece.small, run),
         None => {}
     }
 }
 
 /// Paints a run of pixels by a face. Where its vertices have one colour, so has each of the pixels.
-fn paint_face(colours: &mut [[u8; 3]], block: &Block, face: &Face, run: &Run)
+fn paint_face(colours: &mut [[u8; 3]], block: &Block, face: &Face, small: bool, run: &Run)
+    requires small { small ≡ true → IsSmallFace face.now }
     requires colours { length colours.old ≡ size_of block.now }
     requires columns { block.now.left + block.now.width ≤ size_limit }
     requires rows { block.now.first + block.now.rows ≤ size_limit }
@@ -219,7 +224,13 @@ fn paint_face(colours: &mut [[u8; 3]], block: &Block, face: &Face, run: &Run)
 {
     match flat_colour(&face.colours) {
         Some(colour) => fill_run(colours, block, colour, run),
-        None => paint_shaded(colours, block, face, run),
+        None => {
+            if small {
+                paint_small(colours, block, face, run)
+            } else {
+                paint_shaded(colours, block, face, run)
+            }
+        }
     }
 }
 
@@ -239,6 +250,55 @@ fn flat_colour(colours: &[[u8; 3]; 3]) -> Option<[u8; 3]>
         Some([x[0], x[1], x[2]])
     } else {
         None
+    }
+}
+
+/// Paints a run of pixels by a small face whose vertices have several colours. Where its means at the first of them are those at
+/// the last one too, they are those of all between.
+fn paint_small(colours: &mut [[u8; 3]], block: &Block, face: &Face, run: &Run)
+    requires small { IsSmallFace face.now }
+    requires colours { length colours.old ≡ size_of block.now }
+    requires columns { block.now.left + block.now.width ≤ size_limit }
+    requires rows { block.now.first + block.now.rows ≤ size_limit }
+    requires run { IsRunOf block.now run.now }
+    ensures { SpanRelates block.now (colour_in block.now colours.old) (colour_in block.now colours.new)
+        (shaded_within face.now block.now) run.now.r run.now.start run.now.end }
+{
+    let span = span_at(face, block.left + run.start, block.first + run.r);
+    let shade = span.shade();
+    if span.is_even(&shade, run.end - run.start - 1) {
+        fill_run(colours, block, colour_of(&shade), run);
+    } else {
+        paint_span(colours, block, face, &span, run);
+    }
+}
+
+/// The colour of three means.
+#[inline(always)]
+fn colour_of(shade: &Shade) -> [u8; 3]
+    ensures { result ≡ shade_colour shade.now }
+{
+    [shade.red, shade.green, shade.blue]
+}
+
+/// Paints a run of pixels by a small face, from each pixel to the next, from its span at the first of them.
+fn paint_span(colours: &mut [[u8; 3]], block: &Block, face: &Face, first: &Span, run: &Run)
+    requires small { IsSmallFace face.now }
+    requires bytes { AreColours face.now.colours }
+    requires colours { length colours.old ≡ size_of block.now }
+    requires columns { block.now.left + block.now.width ≤ size_limit }
+    requires rows { block.now.first + block.now.rows ≤ size_limit }
+    requires run { IsRunOf block.now run.now }
+    requires span { IsSpanAt face.now (block.now.left + run.now.start) (block.now.first + run.now.r) first.now }
+    ensures { SpanRelates block.now (colour_in block.now colours.old) (colour_in block.now colours.new)
+        (shaded_within face.now block.now) run.now.r run.now.start run.now.end }
+{
+    let mut span = *first;
+    for q in run.start..run.end {
+        let place = block.place(q, run.r);
+        let shade = span.shade();
+        colours[place] = colour_of(&shade);
+        span.advance();
     }
 }
 

@@ -14,7 +14,7 @@ ghost use Rattle.depth_raster.specs.Strips.{AreStrips};
 
 use crate::batch::Batch;
 use crate::raster::new_strips;
-use crate::shown::{assemble_strips, show};
+use crate::shown::show;
 use crate::strip::Strip;
 use crate::{glass, opaque};
 use draw_list::DrawList;
@@ -234,7 +234,6 @@ fn end_picture<R: Threads + Sync>(
         → Shows image.new (picture lens.now back xs) }
 {
     draw_rest(rt, glazing, strips, batch, lens, back);
-    assemble_strips(strips, lens);
     show(image, strips, lens);
     batch.begin();
 }

@@ -7,6 +7,7 @@ ghost use Rattle.depth_raster.specs.Pieces.{IsMadeReady, AreMadeReady};
 use crate::extents::Extent;
 use crate::faces::Face;
 use crate::looks::about;
+use crate::small::is_small;
 use crate::work::are_many;
 use fx_math::Lens;
 use pf_model::Tri;
@@ -17,12 +18,13 @@ use tri_cover::face_of;
 const MAKERS: usize = 4;
 
 /// A labelled face, and of its triangle what is reckoned once it is made ready: the face by which it is looked at, where it can be
-/// hit at all, a float that is about the dividend of its depths, from which they are guessed, and the columns and rows in which
-/// it can be hit.
+/// hit at all, whether its edge values are small, a float that is about the dividend of its depths, from which they are guessed,
+/// and the columns and rows in which it can be hit.
 #[derive(Clone, Copy)]
 pub(crate) struct Piece {
     pub(crate) face: Face,
     pub(crate) ready: Option<tri_cover::Face>,
+    pub(crate) small: bool,
     pub(crate) about: f64,
     pub(crate) extent: Extent,
 }
@@ -35,6 +37,7 @@ impl Piece {
         Piece {
             face,
             ready: None,
+            small: false,
             about: 0.0,
             extent: Extent {
                 left: 0,
@@ -51,6 +54,7 @@ impl Piece {
     {
         let ready = face_of(&self.face.tri, lens);
         self.extent = extent_of(&self.face.tri, &ready, lens);
+        self.small = is_small(&ready);
         self.about = about_dividend(&ready);
         self.ready = ready;
     }

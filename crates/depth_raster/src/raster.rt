@@ -10,7 +10,7 @@ ghost use Rattle.depth_raster.specs.Strips.{band_at, tile_block, AreTilesOf, Are
 use crate::across::COLUMNS;
 use crate::batch::Batch;
 use crate::blocks::Block;
-use crate::shown::{assemble_strips, show};
+use crate::shown::show;
 use crate::strip::Strip;
 use crate::strips::ROWS;
 use crate::tile::Tile;
@@ -107,7 +107,6 @@ fn draw_all<R: Threads + Sync>(
     ensures pixels { Shows image.new (picture lens.now back (instances_in list.now)) }
 {
     draw_strips(rt, strips, batch, lens, list, back);
-    assemble_strips(strips, lens);
     show(image, strips, lens);
 }
 

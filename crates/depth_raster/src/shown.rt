@@ -1,11 +1,11 @@
 //! The colours of strips, put into an image.
-ghost use Rattle.std.specs.Prelude.{◌≡◌, ℕ, ◌+◌, ◌*◌, ◌<◌, ◌≤◌, length, slice_index_or};
+ghost use Rattle.std.specs.Prelude.{◌≡◌, ℕ, ◌+◌, ◌<◌, ◌≤◌, length};
 ghost use Rattle.ppm_out.specs.Pixmap.{SetsRows, pixel};
 ghost use Rattle.depth_raster.specs.Blocks.{size_of, colour_in};
+ghost use Rattle.depth_raster.specs.Canvas.{colour_at};
 ghost use Rattle.depth_raster.specs.Following.{Relates};
 ghost use Rattle.depth_raster.specs.Shown.{tile_coloured, IsRowCopied, IsAssembled};
 ghost use Rattle.depth_raster.specs.Strips.{AreTilesOf, IsTiled, AreStrips};
-ghost use Rattle.depth_raster.specs.declared.strip.Strip.{Strip};
 
 use crate::blocks::Block;
 use crate::strip::Strip;
@@ -13,15 +13,32 @@ use crate::tile::Tile;
 use fx_math::Lens;
 use ppm_out::Image;
 
-/// Puts the colours of the tiles of one strip after the other together.
-pub(crate) fn assemble_strips(strips: &mut [Strip], lens: &Lens)
+/// Puts the colours of the tiles of all strips into an image. One strip after the other is put together and copied, while its
+/// colours are at hand.
+pub(crate) fn show(image: &mut Image, strips: &mut [Strip], lens: &Lens)
+    requires width { image.old.width ≡ lens.now.w }
+    requires height { image.old.height ≡ lens.now.h }
     requires strips { AreStrips lens.now strips.old }
-    ensures { (i : ℕ) (d : Strip) → i < length strips.old
-        → IsAssembled (slice_index_or strips.old i d) (slice_index_or strips.new i d) }
+    ensures width { image.new.width ≡ image.old.width }
+    ensures height { image.new.height ≡ image.old.height }
+    ensures strips { AreStrips lens.now strips.new }
+    ensures pixels { (px py : ℕ) → px < lens.now.w → py < lens.now.h → pixel image.new px py ≡ colour_at strips.old px py }
 {
     for i in 0..strips.len() {
-        assemble(&mut strips[i]);
+        show_strip(image, &mut strips[i]);
     }
+}
+
+/// Puts the colours of the tiles of a strip together, and into an image.
+fn show_strip(image: &mut Image, strip: &mut Strip)
+    requires tiles { IsTiled strip.old }
+    requires width { strip.old.band.width ≡ image.old.width }
+    requires height { strip.old.band.first + strip.old.band.rows ≤ image.old.height }
+    ensures assembled { IsAssembled strip.old strip.new }
+    ensures rows { SetsRows image.old image.new strip.new.band.first strip.new.pixels.items }
+{
+    assemble(strip);
+    put(image, strip);
 }
 
 /// Puts the colours of the tiles of a strip together, row after row.
@@ -62,24 +79,8 @@ fn copy_row(pixels: &mut [[u8; 3]], colours: &[[u8; 3]], block: &Block, band: &B
     pixels[start..end].copy_from_slice(row);
 }
 
-/// Puts the colours of all strips into an image.
-pub(crate) fn show(image: &mut Image, strips: &[Strip], lens: &Lens)
-    requires width { image.old.width ≡ lens.now.w }
-    requires height { image.old.height ≡ lens.now.h }
-    requires strips { AreStrips lens.now strips.now }
-    ensures width { image.new.width ≡ image.old.width }
-    ensures height { image.new.height ≡ image.old.height }
-    ensures pixels { (i q r : ℕ) (d : Strip) → i < length strips.now → q < lens.now.w
-        → r < (slice_index_or strips.now i d).band.rows → pixel image.new q (16 * i + r)
-        ≡ colour_in (slice_index_or strips.now i d).band (slice_index_or strips.now i d).pixels.items q r }
-{
-    for i in 0..strips.len() {
-        show_strip(image, &strips[i]);
-    }
-}
-
 /// Puts the colours of a strip into an image.
-fn show_strip(image: &mut Image, strip: &Strip)
+fn put(image: &mut Image, strip: &Strip)
     requires width { strip.now.band.width ≡ image.old.width }
     requires height { strip.now.band.first + strip.now.band.rows ≤ image.old.height }
     ensures { SetsRows image.old image.new strip.now.band.first strip.now.pixels.items }

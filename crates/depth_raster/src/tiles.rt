@@ -1,25 +1,27 @@
 //! Faces over the marks of a tile.
-ghost use Rattle.std.specs.Prelude.{◌≡◌, ℕ, ◌+◌, ◌<◌, ◌≤◌, All, IfSome, length, slice_set, slice_index_or};
+ghost use Rattle.std.specs.Prelude.{◌≡◌, ℕ, ◌+◌, ◌-◌, ◌<◌, ◌≤◌, ◌^◌, true, All, IfSome, length, slice_set, slice_index_or};
+ghost use Rattle.fx_math.specs.Limits.{size_limit};
 ghost use Rattle.fx_math.specs.declared.lenses.Lens.{Lens};
 ghost use Rattle.depth_raster.specs.Around.{IsWithin};
 ghost use Rattle.depth_raster.specs.Blocks.{IsBlockOf, size_of};
 ghost use Rattle.depth_raster.specs.Following.{Follows, RowFollows, SpanRelates};
 ghost use Rattle.depth_raster.specs.Marks.{mark_over, no_mark};
-ghost use Rattle.depth_raster.specs.Narrow.{IsLineAt};
+ghost use Rattle.depth_raster.specs.Narrow.{AreNarrowAt, IsLineAt};
 ghost use Rattle.depth_raster.specs.Pieces.{IsPieceOf, HasFace};
 ghost use Rattle.depth_raster.specs.Runs.{IsRunOf};
+ghost use Rattle.depth_raster.specs.Small.{IsSmallFace};
 ghost use Rattle.depth_raster.specs.Spans.{LiesIn, becomes};
 ghost use Rattle.depth_raster.specs.Tiles.{mark_in, within, face_over, IsNoNearer, MarksFollow};
-ghost use Rattle.depth_raster.specs.Weighed.{IsSmallWeight, IsWeighedAt};
+ghost use Rattle.depth_raster.specs.Weighed.{IsSmallWeight, IsWeighedAt, IsInnerSumAt, AreInnerTo};
 
 use crate::blocks::Block;
 use crate::edges::EdgeValues;
 use crate::hiding::{is_beyond, is_hidden};
 use crate::last::is_after;
 use crate::marks::Mark;
-use crate::narrow::NarrowLine;
+use crate::narrow::{NarrowLine, NarrowValues};
 use crate::pieces::Piece;
-use crate::pixels::{limit, nearer};
+use crate::pixels::{limit, nearer, nearer_inside};
 use crate::runs::Run;
 use crate::tile::Tile;
 use fx_math::Lens;
@@ -142,14 +144,51 @@ fn draw_row(marks: &mut [Mark], block: &Block, lens: &Lens, piece: &Piece, face:
         return;
     }
     let run = Run { r, start, end };
-    let values = EdgeValues::at(face, block.left + start, block.first + r);
-    match NarrowLine::of(&values, &EdgeValues::steps(face)) {
+    match line_of(
+        piece,
+        face,
+        block.left + start,
+        block.left + (end - 1),
+        block.first + r,
+    ) {
         Some(line) => draw_narrow(marks, block, lens, piece, face, &line, &run),
         None => draw_wide(marks, block, lens, piece, face, &run),
     }
 }
 
-/// Draws the piece of a face over the marks of a run in its box, from each pixel to the next, by its edge values in 64 bits.
+/// The edge values of a face in 64 bits from a pixel to another of its row, where they are small enough.
+fn line_of(piece: &Piece, face: &Face, px: u16, end: u16, py: u16) -> Option<NarrowLine>
+    requires x { px < size_limit }
+    requires end { end < size_limit }
+    requires y { py < size_limit }
+    requires small { piece.now.small ≡ true → IsSmallFace face.now }
+    ensures { IfSome result (IsLineAt face.now px end py) }
+{
+    if piece.small {
+        Some(NarrowLine::small(face, px, end, py))
+    } else {
+        judged_line(face, px, end, py)
+    }
+}
+
+/// The same, where it is not known of the face that they are.
+#[cold]
+#[inline(never)]
+fn judged_line(face: &Face, px: u16, end: u16, py: u16) -> Option<NarrowLine>
+    requires x { px < size_limit }
+    requires end { end < size_limit }
+    requires y { py < size_limit }
+    ensures { IfSome result (IsLineAt face.now px end py) }
+{
+    NarrowLine::of(
+        &EdgeValues::at(face, px, py),
+        &EdgeValues::at(face, end, py),
+        &EdgeValues::steps(face),
+    )
+}
+
+/// Draws the piece of a face over the marks of a run in its box by its edge values in 64 bits. Where these tell that all pixels
+/// of the run are covered, or none of them, they are not asked for at each one.
 fn draw_narrow(
     marks: &mut [Mark],
     block: &Block,
@@ -163,7 +202,41 @@ fn draw_narrow(
     requires block { IsBlockOf lens.now block.now }
     requires ready { IsPieceOf lens.now piece.now }
     requires face { HasFace piece.now face.now }
-    requires line { IsLineAt face.now (block.now.left + run.now.start) (block.now.first + run.now.r) line.now }
+    requires line { IsLineAt face.now (block.now.left + run.now.start) (block.now.left + (run.now.end - 1))
+        (block.now.first + run.now.r) line.now }
+    requires run { IsRunOf block.now run.now }
+    requires inside { LiesIn piece.now.extent block.now run.now }
+    ensures { SpanRelates block.now (mark_in block.now marks.old) (mark_in block.now marks.new)
+        (becomes (within block.now (face_over lens.now piece.now.face))) run.now.r run.now.start run.now.end }
+{
+    if line.is_inside() {
+        draw_inside(marks, block, lens, piece, face, line, run);
+        return;
+    }
+    if line.is_outside() {
+        return;
+    }
+    draw_partly(marks, block, lens, piece, face, line, run);
+}
+
+/// Draws the piece of a face over the marks of a run in its box all of which it covers, from each pixel to the next.
+fn draw_inside(
+    marks: &mut [Mark],
+    block: &Block,
+    lens: &Lens,
+    piece: &Piece,
+    face: &Face,
+    line: &NarrowLine,
+    run: &Run,
+)
+    requires len { length marks.old ≡ size_of block.now }
+    requires block { IsBlockOf lens.now block.now }
+    requires ready { IsPieceOf lens.now piece.now }
+    requires face { HasFace piece.now face.now }
+    requires line { IsLineAt face.now (block.now.left + run.now.start) (block.now.left + (run.now.end - 1))
+        (block.now.first + run.now.r) line.now }
+    requires inner { AreInnerTo face.now (block.now.left + run.now.start) (block.now.left + (run.now.end - 1))
+        (block.now.first + run.now.r) }
     requires run { IsRunOf block.now run.now }
     requires inside { LiesIn piece.now.extent block.now run.now }
     ensures { SpanRelates block.now (mark_in block.now marks.old) (mark_in block.now marks.new)
@@ -172,7 +245,36 @@ fn draw_narrow(
     let steps = line.steps;
     let mut values = line.start;
     for q in run.start..run.end {
-        draw_pixel(marks, block.place(q, run.r), piece, face, values.covered());
+        draw_sum(marks, block.place(q, run.r), piece, face, values.sum());
+        values = values.plus(&steps);
+    }
+}
+
+/// Draws the piece of a face over the marks of a run in its box, from each pixel to the next.
+fn draw_partly(
+    marks: &mut [Mark],
+    block: &Block,
+    lens: &Lens,
+    piece: &Piece,
+    face: &Face,
+    line: &NarrowLine,
+    run: &Run,
+)
+    requires len { length marks.old ≡ size_of block.now }
+    requires block { IsBlockOf lens.now block.now }
+    requires ready { IsPieceOf lens.now piece.now }
+    requires face { HasFace piece.now face.now }
+    requires line { IsLineAt face.now (block.now.left + run.now.start) (block.now.left + (run.now.end - 1))
+        (block.now.first + run.now.r) line.now }
+    requires run { IsRunOf block.now run.now }
+    requires inside { LiesIn piece.now.extent block.now run.now }
+    ensures { SpanRelates block.now (mark_in block.now marks.old) (mark_in block.now marks.new)
+        (becomes (within block.now (face_over lens.now piece.now.face))) run.now.r run.now.start run.now.end }
+{
+    let steps = line.steps;
+    let mut values = line.start;
+    for q in run.start..run.end {
+        draw_values(marks, block.place(q, run.r), piece, face, &values);
         values = values.plus(&steps);
     }
 }
@@ -210,6 +312,35 @@ fn draw_pixel(marks: &mut [Mark], place: usize, piece: &Piece, face: &Face, weig
         → marks.new ≡ slice_set marks.old place (mark_over lens px py piece.now.face (slice_index_or marks.old place no_mark)) }
 {
     if let Some(nearer) = nearer(piece, face, weight, &marks[place]) {
+        marks[place] = nearer;
+    }
+}
+
+/// The same where the face has these edge values.
+#[inline(always)]
+fn draw_values(marks: &mut [Mark], place: usize, piece: &Piece, face: &Face, values: &NarrowValues)
+    requires place { place < length marks.old }
+    requires face { HasFace piece.now face.now }
+    ensures { (lens : Lens) (px py : ℕ) → px < lens.w → py < lens.h → IsPieceOf lens piece.now → IsWithin piece.now.extent px py
+        → AreNarrowAt face.now px py values.now
+        → marks.new ≡ slice_set marks.old place (mark_over lens px py piece.now.face (slice_index_or marks.old place no_mark)) }
+{
+    if let Some(sum) = values.inner_sum() {
+        draw_sum(marks, place, piece, face, sum);
+    }
+}
+
+/// The same where none of the edge values is below 0, and this is their sum.
+#[inline(always)]
+fn draw_sum(marks: &mut [Mark], place: usize, piece: &Piece, face: &Face, sum: u64)
+    requires place { place < length marks.old }
+    requires face { HasFace piece.now face.now }
+    requires sum { sum < 2 ^ 63 }
+    ensures { (lens : Lens) (px py : ℕ) → px < lens.w → py < lens.h → IsPieceOf lens piece.now → IsWithin piece.now.extent px py
+        → IsInnerSumAt face.now px py sum
+        → marks.new ≡ slice_set marks.old place (mark_over lens px py piece.now.face (slice_index_or marks.old place no_mark)) }
+{
+    if let Some(nearer) = nearer_inside(piece, face, sum, &marks[place]) {
         marks[place] = nearer;
     }
 }

@@ -1,5 +1,6 @@
 use Rattle.std.proofs.Common.{◌+◌, ◌≤◌, length, sym, arith}
 use Rattle.draw_list.specs.Items.{instance_of_item}
+use Rattle.draw_list.specs.Joints.{steps_at}
 use Rattle.depth_raster.specs.Canvas.{face_glazed, instance_glazed}
 use Rattle.depth_raster.proofs.Glazed.{nothing_glazed, glazed_then, glazed_alike}
 use Rattle.depth_raster.proofs.Items.{part_glazed, glazes_more, glazes_all}
@@ -8,6 +9,7 @@ use Rattle.depth_raster.proofs.glass.draw_item.Goals as goal
 
 pub loop-number-init : goal.loop-number-init
 loop-number-init g c = record {
+  carried = c.new-recent.ensures (steps_at c.args.list.now.joints.lists c.args.item.now.joint);
   sound = c.requires.sound;
   glass = nothing_glazed c.args.lens.now c.args.strips.now c.args.batch.now.pieces.items;
 }
@@ -20,10 +22,11 @@ loop-number-preserved g c =
     let f = part_glazed a.lens.now x n in
     let h = face_glazed a.lens.now c.of-face.result in
     record {
+      carried = c.of-face.ensures.carried;
       sound = c.draw_face.ensures.sound;
       glass = glazed_alike a.lens.now a.strips.now c.draw_face.new.strips a.batch.now.pieces.items c.draw_face.new.batch.pieces.items
           (λ b px py u. h b px py (f b px py u)) (part_glazed a.lens.now x (n + 1))
-          (λ b px py u. glazes_more a.lens.now b x n c.in-Some.tri c.of-face.result px py u (sym c.in-Some.ensures) c.of-face.ensures)
+          (λ b px py u. glazes_more a.lens.now b x n c.in-Some.tri c.of-face.result px py u (sym c.in-Some.ensures) c.of-face.ensures.face)
           (glazed_then a.lens.now a.strips.now c.loop-number.strips c.draw_face.new.strips a.batch.now.pieces.items c.loop-number.batch.pieces.items c.draw_face.new.batch.pieces.items f h c.loop-number.invariant.glass c.draw_face.ensures.glass);
     }
 

@@ -1,8 +1,8 @@
 use Rattle.std.proofs.Common.{◌≡◌, ℕ, ◌*◌, ◌/◌, ◌<◌, ap, sym, ◌∙◌, subst, arith}
 use Rattle.std.specs.Prelude.{ℤ, pos, unsigned_abs}
 use Rattle.std.proofs.lemmas.Int.{ints}
-use Rattle.depth_raster.specs.Quotients.{IsMean}
-use Rattle.depth_raster.proofs.Mixed.{quotient_mean}
+use Rattle.span_shading.specs.Quotients.{IsMean}
+use Rattle.span_shading.proofs.Means.{quotient_mean}
 use Rattle.depth_raster.proofs.means.quotient.Goals as goal
 
 pub returns : goal.returns

@@ -7,13 +7,14 @@ use Rattle.depth_raster.proofs.opaque.draw_item.Goals as goal
 
 pub loop-number-preserved : goal.loop-number-preserved
 loop-number-preserved g c = record {
+  carried = c.of-face.ensures.carried;
   sound = c.draw_face.ensures.sound;
   drawn = λ px py column row.
       let a = c.args in
       let x = instance_of_item a.list.now.joints.lists a.list.now.kept.tris a.item.now in
       c.draw_face.ensures.drawn px py column row
       ∙ ap (face_drawn a.lens.now c.of-face.result px py) (c.loop-number.invariant.drawn px py column row)
-      ∙ part_more a.lens.now x c.loop-number.number c.in-Some.tri c.of-face.result px py (drawn_with a.lens.now a.batch.now.is_first a.strips.now a.batch.now.pieces.items px py) (sym c.in-Some.ensures) c.of-face.ensures;
+      ∙ part_more a.lens.now x c.loop-number.number c.in-Some.tri c.of-face.result px py (drawn_with a.lens.now a.batch.now.is_first a.strips.now a.batch.now.pieces.items px py) (sym c.in-Some.ensures) c.of-face.ensures.face;
 }
 
 pub returns-in-None-clause-drawn : goal.returns-in-None-clause-drawn

@@ -1,68 +1,27 @@
-use Rattle.std.proofs.Common.{ℕ, ◌+◌, ◌-◌, ◌<◌, List, get_or, refl, sym, subst, arith}
-use Rattle.depth_raster.specs.Around.{IsWithin}
-use Rattle.depth_raster.specs.Narrow.{AreNarrowAt}
-use Rattle.depth_raster.specs.Following.{SpanRelates}
+use Rattle.std.proofs.Common.{◌+◌, ◌-◌, sym, ◌∙◌, arith}
 use Rattle.depth_raster.specs.Spans.{becomes}
-use Rattle.depth_raster.specs.Marks.{no_mark}
 use Rattle.depth_raster.specs.Tiles.{mark_in, within, face_over}
-use Rattle.depth_raster.specs.declared.marks.Mark.{Mark}
-use Rattle.depth_raster.proofs.Weighed.{small_weight, weighed_at}
-use Rattle.depth_raster.proofs.Following.{none_spanned, span_written}
-use Rattle.depth_raster.proofs.Narrowed.{narrow_next, narrow_fits}
+use Rattle.depth_raster.proofs.Following.{span_kept}
+use Rattle.depth_raster.proofs.Readied.{face_hits}
+use Rattle.depth_raster.proofs.Skipped.{mark_missed}
 use Rattle.depth_raster.proofs.tiles.draw_narrow.Goals as goal
 
-pub loop-q-init : goal.loop-q-init
-loop-q-init c =
+pub draw_inside-requires-clause-inner : goal.draw_inside-requires-clause-inner
+draw_inside-requires-clause-inner c =
     let a = c.args in
     let b = a.block.now in
-    record {
-      drawn = none_spanned b (mark_in b a.marks.now) (becomes (within b (face_over a.lens.now a.piece.now.face))) a.run.now.r a.run.now.start;
-      values = c.requires.line.start;
-    }
+    let run = a.run.now in
+    c.is_inside.ensures c.if-is_inside.true a.face.now (b.left + run.start) (b.left + (run.end - 1)) (b.first + run.r) c.requires.line
 
-pub draw_pixel-requires-clause-weight : goal.draw_pixel-requires-clause-weight
-draw_pixel-requires-clause-weight c =
-    let v = c.loop-q.values in
-    small_weight v.first v.second v.third c.covered.result c.covered.ensures.some
-
-pub loop-q-preserved : goal.loop-q-preserved
-loop-q-preserved c =
+pub returns-then-is_outside : goal.returns-then-is_outside
+returns-then-is_outside c =
     let a = c.args in
     let b = a.block.now in
-    let f = a.face.now in
-    let r = a.run.now.r in
-    let q = c.loop-q.q in
-    let v = c.loop-q.values in
-    let are = c.loop-q.invariant.values in
-    let column : q < b.width = omega (arith, c.loop-q-test.true, c.requires.run.within) in
-    let inside : IsWithin a.piece.now.extent (b.left + q) (b.first + r) = record {
-      left = omega (arith, c.requires.inside.left, c.loop-q.auto.q);
-      right = omega (arith, c.requires.inside.right, c.loop-q-test.true);
-      top = c.requires.inside.top;
-      bottom = c.requires.inside.bottom;
-    } in
-    let weighed = weighed_at f (b.left + q) (b.first + r) v.first v.second v.third c.covered.result are.first_is are.second_is are.third_is c.covered.ensures.some c.covered.ensures.none in
-    let g = within b (face_over a.lens.now a.piece.now.face) in
-    let place = c.place.result in
-    let here = c.draw_pixel.ensures a.lens.now (b.left + q) (b.first + r) (omega (arith, column, c.requires.block.columns)) (omega (arith, c.requires.run.row, c.requires.block.rows)) c.requires.ready inside weighed in
-    record {
-      drawn = subst (λ (ms : List Mark). SpanRelates b (mark_in b a.marks.now) (mark_in b ms) (becomes g) r a.run.now.start (q + 1)) (sym here)
-          (span_written (λ (m : Mark). m) no_mark b (mark_in b a.marks.now) c.loop-q.marks (becomes g) r a.run.now.start q place (g q r (get_or c.loop-q.marks place no_mark))
-          c.loop-q.invariant.drawn (omega (arith, c.requires.len)) (omega (arith, c.loop-q.auto.q)) column c.requires.run.row c.place.ensures refl);
-      values = subst (λ (n : ℕ). AreNarrowAt f n (b.first + r) c.plus-values.result) (omega arith)
-          (narrow_next f (b.left + q) (b.first + r) v a.line.now.steps c.plus-values.result (b.left + a.run.now.start) (b.first + r) a.line.now are c.requires.line refl c.plus-values.ensures);
-    }
-
-pub plus-values-requires : goal.plus-values-requires
-plus-values-requires c =
-    let a = c.args in
-    let b = a.block.now in
-    narrow_fits a.face.now (b.left + a.run.now.start) (b.first + a.run.now.r) (c.loop-q.q - a.run.now.start) c.loop-q.values a.line.now.steps a.line.now
-    (omega (arith, c.loop-q-test.true, c.requires.run.within, c.requires.block.columns, a.lens.now.in_range.most_width)) c.requires.line
-    (subst (λ (n : ℕ). AreNarrowAt a.face.now n (b.first + a.run.now.r) c.loop-q.values) (omega (arith, c.loop-q.auto.q)) c.loop-q.invariant.values) refl
-
-pub returns : goal.returns
-returns c =
-    let a = c.args in
-    let b = a.block.now in
-    subst (λ (n : ℕ). SpanRelates b (mark_in b a.marks.now) (mark_in b c.loop-q.marks) (becomes (within b (face_over a.lens.now a.piece.now.face))) a.run.now.r a.run.now.start n) (omega (arith, c.requires.run.some)) c.loop-q.invariant.drawn
+    let run = a.run.now in
+    let lens = a.lens.now in
+    let p = a.piece.now in
+    let missed = c.is_outside.ensures c.if-is_outside.true a.face.now (b.left + run.start) (b.left + (run.end - 1)) (b.first + run.r) c.requires.line in
+    span_kept b (mark_in b a.marks.now) (becomes (within b (face_over lens p.face))) run.r run.start run.end
+    (λ q low high column. sym (mark_missed lens (b.left + q) (b.first + run.r) p.face (mark_in b a.marks.now q run.r)
+    (face_hits lens p a.face.now c.requires.ready c.requires.face (b.left + q) (b.first + run.r) (omega (arith, column, c.requires.block.columns)) (omega (arith, c.requires.run.row, c.requires.block.rows))
+    ∙ missed (b.left + q) (omega (arith, low)) (omega (arith, high)))))

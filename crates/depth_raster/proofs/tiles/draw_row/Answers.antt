@@ -1,19 +1,20 @@
-use Rattle.std.proofs.Common.{◌+◌, Option, subst, arith}
+use Rattle.std.proofs.Common.{◌+◌, ◌-◌, Option, subst, arith}
 use Rattle.std.specs.Option.{IfSome}
-use Rattle.depth_raster.specs.Narrow.{IsLineOf}
+use Rattle.depth_raster.specs.Narrow.{IsLineAt}
 use Rattle.depth_raster.specs.Tiles.{mark_in, within, face_over}
 use Rattle.depth_raster.specs.declared.narrow.NarrowLine.{NarrowLine}
-use Rattle.depth_raster.proofs.Narrowed.{line_at}
 use Rattle.depth_raster.proofs.Skipped.{missed_left, missed_right, pixels_skipped, pixels_rest}
 use Rattle.depth_raster.proofs.Spanned.{row_by_span}
 use Rattle.depth_raster.proofs.tiles.draw_row.Goals as goal
+
+pub line_of-requires-clause-small : goal.line_of-requires-clause-small
+line_of-requires-clause-small c = λ small. c.requires.ready.small small c.args.face.now c.requires.face
 
 pub draw_narrow-requires-clause-line : goal.draw_narrow-requires-clause-line
 draw_narrow-requires-clause-line c =
     let a = c.args in
     let b = a.block.now in
-    line_at a.face.now (b.left + c.columns_from-start.result) (b.first + a.r) c.at-values.result c.steps.result c.in-Some.line c.at-values.ensures c.steps.ensures
-    (subst (λ (o : Option NarrowLine). IfSome o (IsLineOf c.at-values.result c.steps.result)) c.in-Some.is c.of.ensures)
+    subst (λ (o : Option NarrowLine). IfSome o (IsLineAt a.face.now (b.left + c.columns_from-start.result) (b.left + (c.columns_to-end.result - 1)) (b.first + a.r))) c.in-Some.is c.line_of.ensures
 
 pub draw_narrow-requires-clause-inside : goal.draw_narrow-requires-clause-inside
 draw_narrow-requires-clause-inside c = record {

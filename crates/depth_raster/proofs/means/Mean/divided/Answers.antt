@@ -3,8 +3,9 @@ use mir.Syntax.{w128}
 use Rattle.std.specs.Prelude.{ℤ, pos, ◌+ℤ◌, ◌*ℤ◌}
 use Rattle.fx_math.proofs.Size.{back}
 use Rattle.depth_raster.specs.Means.{IsMeanOf}
-use Rattle.depth_raster.specs.Quotients.{IsMean, IsChannel}
-use Rattle.depth_raster.proofs.Mixed.{number_whole, mean_left}
+use Rattle.span_shading.specs.Quotients.{IsMean, IsChannel}
+use Rattle.span_shading.proofs.Means.{mean_left}
+use Rattle.depth_raster.proofs.Mixed.{number_whole}
 use Rattle.depth_raster.proofs.means.Mean.divided.Goals as goal
 
 number_is : (c : goal.After-new) (number step : ℤ) → IsMeanOf number step c.args.weight.now c.args.self.now → to_z w128 (of_z w128 c.whole-number.result) ≡ number

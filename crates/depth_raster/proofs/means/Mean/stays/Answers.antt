@@ -3,7 +3,7 @@ use mir.Syntax.{w128}
 use Rattle.std.specs.Prelude.{ℤ, pos, ◌+ℤ◌, ◌*ℤ◌}
 use Rattle.std.proofs.lemmas.Int.{to_z-of_z}
 use Rattle.fx_math.proofs.Size.{back}
-use Rattle.depth_raster.specs.Quotients.{IsLeft}
+use Rattle.span_shading.specs.Quotients.{IsLeft}
 use Rattle.depth_raster.proofs.means.Mean.stays.Goals as goal
 
 pub returns-then-is_settled : goal.returns-then-is_settled

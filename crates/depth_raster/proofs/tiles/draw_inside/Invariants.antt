@@ -3,7 +3,7 @@ use Rattle.depth_raster.specs.Narrow.{AreNarrowAt}
 use Rattle.depth_raster.specs.Following.{SpanRelates}
 use Rattle.depth_raster.specs.Spans.{becomes}
 use Rattle.depth_raster.specs.Tiles.{mark_in, within, face_over}
-use Rattle.depth_raster.proofs.tiles.draw_narrow.Given as goal
+use Rattle.depth_raster.proofs.tiles.draw_inside.Given as goal
 
 abbrev pub invariant-loop-q : goal.invariant-loop-q
 invariant-loop-q l = record {

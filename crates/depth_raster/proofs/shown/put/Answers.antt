@@ -1,6 +1,6 @@
 use Rattle.std.proofs.Common.{ℕ, ◌*◌, length, ap, ◌∙◌}
 use Rattle.depth_raster.proofs.Composing.{rows_fit}
-use Rattle.depth_raster.proofs.shown.show_strip.Goals as goal
+use Rattle.depth_raster.proofs.shown.put.Goals as goal
 
 pub set_rows-requires : goal.set_rows-requires
 set_rows-requires c =

@@ -1,0 +1,4 @@
+pub mod Mixing
+pub mod Quotients
+pub mod Spans
+pub mod Sums

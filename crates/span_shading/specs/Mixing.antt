@@ -1,0 +1,10 @@
+-- Numbers along a row of pixels.
+use Rattle.std.specs.Prelude.{ℕ, ℤ, pos, ◌+ℤ◌, ◌*ℤ◌}
+
+-- three values of a channel, weighed by three numbers
+abbrev pub mix : (x y z : ℕ) → (first second third : ℤ) → ℤ
+mix x y z first second third = pos x *ℤ first +ℤ pos y *ℤ second +ℤ pos z *ℤ third
+
+-- a number that changes by a step from a pixel to the next, so many pixels further on
+abbrev pub ahead : (here step : ℤ) → ℕ → ℤ
+ahead here step n = here +ℤ step *ℤ pos n
