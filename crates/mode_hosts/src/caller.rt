@@ -160,7 +160,7 @@ struct Stages<R> {
     probe: ProbeSeat<R>,
 }
 
-fn stages_of<R: Drop>(crew: Crew<R>) -> Stages<R>
+fn stages_of<R>(crew: Crew<R>) -> Stages<R>
     requires { HasAll (crew_state crew) }
     ensures { full_crew (cull_site result.cull) (draw_site result.draw) (dbase_site result.dbase) (probe_site result.probe)
         ≡ crew_state crew }
@@ -171,15 +171,11 @@ fn stages_of<R: Drop>(crew: Crew<R>) -> Stages<R>
         dbase,
         probe,
     } = crew;
-    let Some(cull) = cull else { unreachable!() };
-    let Some(draw) = draw else { unreachable!() };
-    let Some(dbase) = dbase else { unreachable!() };
-    let Some(probe) = probe else { unreachable!() };
     Stages {
-        cull,
-        draw,
-        dbase,
-        probe,
+        cull: cull.unwrap(),
+        draw: draw.unwrap(),
+        dbase: dbase.unwrap(),
+        probe: probe.unwrap(),
     }
 }
 
