@@ -1,3 +1,4 @@
+#!/usr/bin/env python3
 """The plays that bench/run measures: each function gives the lines of one play.
 
     bench/plays.py NAME [NUMBER..]    writes one of them to standard output

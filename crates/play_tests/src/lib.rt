@@ -1,4 +1,4 @@
-//! Tests of the calls on streams, plays and reports, of what no play reaches. They stand here and not beside the calls,
+//! Tests of the calls on words, streams, plays and reports, of what no play reaches. They stand here and not beside the calls,
 //! since a crate with tests is proved twice.
 #![tactic(auto)]
 
@@ -10,3 +10,5 @@ mod formats;
 mod reports;
 #[cfg(test)]
 mod streams;
+#[cfg(test)]
+mod words;

@@ -9,6 +9,3 @@ mod words;
 
 pub use reading::read_words;
 pub use words::{Mode, Words, WordsError};
-
-#[cfg(test)]
-mod tests;

@@ -1,6 +1,7 @@
-use crate::{Mode, Words, WordsError, read_words};
+//! The words after the program's name.
 use fx_math::Vec3;
 use nearest_hit::Segment;
+use program_words::{Mode, Words, WordsError, read_words};
 use std::alloc::Global;
 use std::test::Fail;
 
