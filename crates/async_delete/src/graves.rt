@@ -55,10 +55,17 @@ fn tell_due(graves: &[Grave], retired: u32, out: &mut SerialsBuilder)
 
 /// Deleted nodes in the order of their burial, each with the last frame that may name it. What is left of a node, its
 /// triangles among it, is kept until a sweep drops the grave.
-#[derive(Debug, Drop)]
+#[derive(Debug)]
 pub struct Graves {
     graves: Vec<Grave>,
     room: usize,
+}
+
+/// Written out, so that to drop one is a single call.
+impl Drop for Graves {
+    fn drop(self) {
+        let Self { graves: _, room: _ } = self;
+    }
 }
 
 impl Model for Graves {

@@ -17,11 +17,22 @@ use std::marker::Model;
 /// The box of each node of a scene, kept while the scene changes. Whoever changes a node touches its id, and a clean
 /// then reckons the boxes of the touched ids and of all above them anew. It looks for nodes under the ids up to the
 /// greatest that was ever touched.
-#[derive(Debug, Drop)]
+#[derive(Debug)]
 pub struct BoxCache {
     table: BoxTable,
     any_touched: bool,
     high: u32,
+}
+
+/// Written out, so that to drop one is a single call.
+impl Drop for BoxCache {
+    fn drop(self) {
+        let Self {
+            table: _,
+            any_touched: _,
+            high: _,
+        } = self;
+    }
 }
 
 impl Model for BoxCache {

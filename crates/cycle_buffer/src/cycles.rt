@@ -16,12 +16,24 @@ use std::collections::BTreeMap;
 use std::marker::Model;
 
 /// Cycle buffers by the serials of their geodes. A look-up takes time in the logarithm of their number.
-#[derive(Debug, Drop)]
+#[derive(Debug)]
 pub struct Cycles {
     alloc: Global,
     cycles: BTreeMap<u32, Cycle>,
     copies: u8,
     most: u32,
+}
+
+/// Written out, so that to drop one is a single call.
+impl Drop for Cycles {
+    fn drop(self) {
+        let Self {
+            alloc: _,
+            cycles: _,
+            copies: _,
+            most: _,
+        } = self;
+    }
 }
 
 impl Model for Cycles {

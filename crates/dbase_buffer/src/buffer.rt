@@ -20,11 +20,22 @@ use std::marker::Model;
 /// as the scene alone and prepares frame 1; children that are asked to be added or removed are
 /// recorded without a test. Contracts see the graph, the recorded edits in order, and the number of
 /// dropped ones.
-#[derive(Debug, Drop)]
+#[derive(Debug)]
 pub struct Buffer {
     graph: WorkGraph,
     edits: EditListBuilder,
     dropped: u32,
+}
+
+/// Written out, so that to drop one is a single call.
+impl Drop for Buffer {
+    fn drop(self) {
+        let Self {
+            graph: _,
+            edits: _,
+            dropped: _,
+        } = self;
+    }
 }
 
 impl Model for Buffer {

@@ -28,13 +28,25 @@ use std::thread::Threads;
 /// A renderer with a depth buffer for the pictures of one lens, whose draw lists come in pieces: `begin`, `add` for each
 /// piece and `finish` make one picture. Only `new` takes memory. Triangles gather over the pieces, so many small pieces
 /// cost no more drawing than one list.
-#[derive(Drop)]
 pub struct PieceRaster {
     lens: Lens,
     back: [u8; 3],
     glazing: bool,
     strips: Vec<Strip>,
     batch: Batch,
+}
+
+/// Written out, so that to drop one is a single call.
+impl Drop for PieceRaster {
+    fn drop(self) {
+        let Self {
+            lens: _,
+            back: _,
+            glazing: _,
+            strips: _,
+            batch: _,
+        } = self;
+    }
 }
 
 impl Model for PieceRaster {

@@ -24,11 +24,21 @@ use std::marker::Model;
 use std::thread::Threads;
 
 /// A renderer with a depth buffer for the pictures of one lens, which it is seen as.
-#[derive(Drop)]
 pub struct Raster {
     lens: Lens,
     strips: Vec<Strip>,
     batch: Batch,
+}
+
+/// Written out, so that to drop one is a single call.
+impl Drop for Raster {
+    fn drop(self) {
+        let Self {
+            lens: _,
+            strips: _,
+            batch: _,
+        } = self;
+    }
 }
 
 impl Model for Raster {

@@ -25,11 +25,22 @@ use std::marker::Model;
 
 /// What a channel draws: items, the joints that carry them to the eye, and their triangles, which are kept once per geode.
 /// A joint is one pose above another joint; the joint 0 is the view. Only `reserve` takes memory.
-#[derive(Debug, Drop)]
+#[derive(Debug)]
 pub struct DrawList {
     joints: Joints,
     items: Items,
     kept: Kept,
+}
+
+/// Written out, so that to drop one is a single call.
+impl Drop for DrawList {
+    fn drop(self) {
+        let Self {
+            joints: _,
+            items: _,
+            kept: _,
+        } = self;
+    }
 }
 
 impl Model for DrawList {

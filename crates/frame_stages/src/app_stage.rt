@@ -28,9 +28,15 @@ use std::marker::Model;
 /// writes their pictures.
 ///
 /// Contracts see the lines that are left, what else it is given, and its state.
-#[derive(Drop)]
 pub struct AppStage {
     parts: Application,
+}
+
+/// Written out, so that to drop one is a single call.
+impl Drop for AppStage {
+    fn drop(self) {
+        let Self { parts: _ } = self;
+    }
 }
 
 impl Model for AppStage {
@@ -92,7 +98,8 @@ impl AppStage {
     pub fn into_stats(self) -> Vec<Stats>
         ensures { result.items ≡ self.state.stats }
     {
-        self.parts.flight.into_stats()
+        let Self { parts } = self;
+        parts.flight.into_stats()
     }
 
     /// Whether it has closed: the closing Sync was made, and nothing more is asked of it but to send the End.

@@ -30,13 +30,25 @@ use std::marker::Model;
 /// their draw lists with what is in sight, and sends them on. Only `new` takes memory.
 ///
 /// Contracts see the lens, the copy with its boxes, whether the End was passed on, and the packet that it holds to send.
-#[derive(Drop)]
 pub struct CullStage {
     alloc: Global,
     lens: Lens,
     copy: StageCopy,
     ended: bool,
     held: Option<Packet>,
+}
+
+/// Written out, so that to drop one is a single call.
+impl Drop for CullStage {
+    fn drop(self) {
+        let Self {
+            alloc: _,
+            lens: _,
+            copy: _,
+            ended: _,
+            held: _,
+        } = self;
+    }
 }
 
 impl Model for CullStage {

@@ -34,7 +34,6 @@ use std::mem;
 ///
 /// Contracts see the lines that are left, how many it passed, the greatest await among these, whether it ended for want
 /// of memory, and what is in hand of its open buffer.
-#[derive(Drop)]
 pub struct DbaseStage {
     alloc: Global,
     rest: VecDeque<BaseLine>,
@@ -42,6 +41,20 @@ pub struct DbaseStage {
     need: u32,
     failed: bool,
     hand: InHand,
+}
+
+/// Written out, so that to drop one is a single call.
+impl Drop for DbaseStage {
+    fn drop(self) {
+        let Self {
+            alloc: _,
+            rest: _,
+            at: _,
+            need: _,
+            failed: _,
+            hand: _,
+        } = self;
+    }
 }
 
 impl Model for DbaseStage {

@@ -27,7 +27,6 @@ use std::thread::Threads;
 /// The draw: it takes the loads that the cull sends, draws their pictures, and sends them back. Only `new` takes memory.
 ///
 /// Contracts see the lens, the background, whether the End was taken, and the packet that it holds to send.
-#[derive(Drop)]
 pub struct DrawStage {
     lens: Lens,
     back: [u8; 3],
@@ -35,6 +34,20 @@ pub struct DrawStage {
     image: Image,
     ended: bool,
     held: Option<Packet>,
+}
+
+/// Written out, so that to drop one is a single call.
+impl Drop for DrawStage {
+    fn drop(self) {
+        let Self {
+            lens: _,
+            back: _,
+            raster: _,
+            image: _,
+            ended: _,
+            held: _,
+        } = self;
+    }
 }
 
 impl Model for DrawStage {

@@ -29,12 +29,23 @@ use update_lists::{Cut, Views};
 ///
 /// Contracts see the stage that is asked, whether the End was passed on, whether memory ran out, and the packet that it
 /// holds to send.
-#[derive(Drop)]
 pub struct ProbeStage {
     stage: IsectStage,
     ended: bool,
     failed: bool,
     held: Option<Packet>,
+}
+
+/// Written out, so that to drop one is a single call.
+impl Drop for ProbeStage {
+    fn drop(self) {
+        let Self {
+            stage: _,
+            ended: _,
+            failed: _,
+            held: _,
+        } = self;
+    }
 }
 
 impl Model for ProbeStage {
@@ -223,7 +234,13 @@ impl ProbeStage {
     pub fn into_answers(self) -> Vec<Option<Near>>
         ensures { result.items ≡ self.isect.answers }
     {
-        self.stage.into_answers()
+        let Self {
+            stage,
+            ended: _,
+            failed: _,
+            held: _,
+        } = self;
+        stage.into_answers()
     }
 
     /// One step: sends the packet that it holds; or takes one, asks for it where it is a load, and holds it.

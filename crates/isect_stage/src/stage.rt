@@ -20,11 +20,21 @@ use update_lists::Updates;
 /// channel. It takes memory for its copy of each update list, and for the answers.
 ///
 /// Contracts see the segment, the copy with its boxes, and the answers so far.
-#[derive(Drop)]
 pub struct IsectStage {
     segment: Segment,
     copy: StageCopy,
     answers: Vec<Option<Near>>,
+}
+
+/// Written out, so that to drop one is a single call.
+impl Drop for IsectStage {
+    fn drop(self) {
+        let Self {
+            segment: _,
+            copy: _,
+            answers: _,
+        } = self;
+    }
 }
 
 impl Model for IsectStage {
@@ -93,7 +103,12 @@ impl IsectStage {
     pub fn into_answers(self) -> Vec<Option<Near>>
         ensures { result.items ≡ self.answers }
     {
-        self.answers
+        let Self {
+            segment: _,
+            copy: _,
+            answers,
+        } = self;
+        answers
     }
 
     /// The answers so far, one for each frame in turn.

@@ -16,10 +16,17 @@ use std::marker::Model;
 use update_lists::Updates;
 
 /// A copy of the scene, kept by update lists, with the box of each node. Only `new` takes memory.
-#[derive(Debug, Drop)]
+#[derive(Debug)]
 pub struct StageCopy {
     nodes: NodeTable,
     cache: BoxCache,
+}
+
+/// Written out, so that to drop one is a single call.
+impl Drop for StageCopy {
+    fn drop(self) {
+        let Self { nodes: _, cache: _ } = self;
+    }
 }
 
 impl Model for StageCopy {

@@ -23,9 +23,16 @@ use std::mem;
 
 /// A scene graph within the limits that is edited node by node. The cost of an edit grows with the node that it names
 /// and that node's ancestors, never with the scene.
-#[derive(Debug, Drop)]
+#[derive(Debug)]
 pub struct WorkGraph {
     work: Work,
+}
+
+/// Written out, so that to drop one is a single call.
+impl Drop for WorkGraph {
+    fn drop(self) {
+        let Self { work: _ } = self;
+    }
 }
 
 impl Model for WorkGraph {

@@ -11,9 +11,16 @@ use std::marker::Model;
 
 /// A history: its entries in order, each beside the number of the seat that made it. Contracts see the list, and how
 /// many more entries have room.
-#[derive(Debug, Drop)]
+#[derive(Debug)]
 pub struct History {
     entries: Vec<(u32, Entry)>,
+}
+
+/// Written out, so that to drop one is a single call.
+impl Drop for History {
+    fn drop(self) {
+        let Self { entries: _ } = self;
+    }
 }
 
 impl Model for History {

@@ -153,9 +153,16 @@ impl<T: Drop> From<AllocFailed<T>> for EditError {
 }
 
 /// A list of edits.
-#[derive(Debug, Drop)]
+#[derive(Debug)]
 pub struct EditList {
     edits: Vec<Edit>,
+}
+
+/// Written out, so that to drop one is a single call.
+impl Drop for EditList {
+    fn drop(self) {
+        let Self { edits: _ } = self;
+    }
 }
 
 impl Model for EditList {
@@ -209,9 +216,16 @@ impl EditList {
 }
 
 /// A list of edits that is being made. Contracts see the edits so far, and how many more have room.
-#[derive(Debug, Drop)]
+#[derive(Debug)]
 pub struct EditListBuilder {
     edits: Vec<Edit>,
+}
+
+/// Written out, so that to drop one is a single call.
+impl Drop for EditListBuilder {
+    fn drop(self) {
+        let Self { edits: _ } = self;
+    }
 }
 
 impl Model for EditListBuilder {
@@ -277,6 +291,7 @@ impl EditListBuilder {
     pub fn finish(self) -> EditList
         ensures { result ≡ self.items }
     {
-        EditList { edits: self.edits }
+        let Self { edits } = self;
+        EditList { edits }
     }
 }

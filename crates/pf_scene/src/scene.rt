@@ -23,7 +23,7 @@ use update_lists::{Cut, Updates, Views};
 
 /// The scene that all stages share: the state of the one-thread object, and its history. Each command that is done adds
 /// the object's own entry under the number of the seat in charge.
-#[derive(Debug, Drop)]
+#[derive(Debug)]
 pub struct Scene {
     alloc: Global,
     world: World,
@@ -38,6 +38,27 @@ pub struct Scene {
     ahead: u8,
     channels: u8,
     stopped: bool,
+}
+
+/// Written out, so that to drop one is a single call.
+impl Drop for Scene {
+    fn drop(self) {
+        let Self {
+            alloc: _,
+            world: _,
+            views: _,
+            frames: _,
+            retired: _,
+            merges: _,
+            history: _,
+            weight: _,
+            copies: _,
+            seat: _,
+            ahead: _,
+            channels: _,
+            stopped: _,
+        } = self;
+    }
 }
 
 impl Model for Scene {
@@ -206,7 +227,22 @@ impl Scene {
     pub fn into_history(self) -> History
         ensures { result.entries ≡ self.shared.log }
     {
-        self.history
+        let Self {
+            alloc: _,
+            world: _,
+            views: _,
+            frames: _,
+            retired: _,
+            merges: _,
+            history,
+            weight: _,
+            copies: _,
+            seat: _,
+            ahead: _,
+            channels: _,
+            stopped: _,
+        } = self;
+        history
     }
 
     /// Sets the view of a channel, counted from 0.

@@ -28,7 +28,6 @@ use std::thread::Threads;
 /// The four stages over links and a scene of one thread. An event is one whole poll of one of them.
 ///
 /// Contracts see the stages, the scene and the links.
-#[derive(Drop)]
 pub struct Pipe {
     app: AppStage,
     cull: CullStage,
@@ -38,6 +37,22 @@ pub struct Pipe {
     to_cull: ListLink<Packet>,
     to_draw: ListLink<Packet>,
     back: ListLink<Packet>,
+}
+
+/// Written out, so that to drop one is a single call.
+impl Drop for Pipe {
+    fn drop(self) {
+        let Self {
+            app: _,
+            cull: _,
+            draw: _,
+            dbase: _,
+            desk: _,
+            to_cull: _,
+            to_draw: _,
+            back: _,
+        } = self;
+    }
 }
 
 impl Model for Pipe {
@@ -255,6 +270,16 @@ impl Pipe {
         ensures history { result.0.entries ≡ self.scene.shared.log }
         ensures stats { result.1.items ≡ self.app.state.stats }
     {
-        (self.desk.into_value().into_history(), self.app.into_stats())
+        let Self {
+            app,
+            cull: _,
+            draw: _,
+            dbase: _,
+            desk,
+            to_cull: _,
+            to_draw: _,
+            back: _,
+        } = self;
+        (desk.into_value().into_history(), app.into_stats())
     }
 }

@@ -114,12 +114,24 @@ fn fault_of_make(nodes: &[(u16, Node)], id: u16) -> Option<Fault>
 
 /// A scene graph within the limits, as a list of ids and nodes, with the number of the frame in preparation, the next
 /// serial, and the nodes that were deleted.
-#[derive(Debug, Drop)]
+#[derive(Debug)]
 pub struct Graph {
     nodes: Vec<(u16, Node)>,
     time: u32,
     next_serial: u32,
     gone: Vec<Gone>,
+}
+
+/// Written out, so that to drop one is a single call.
+impl Drop for Graph {
+    fn drop(self) {
+        let Self {
+            nodes: _,
+            time: _,
+            next_serial: _,
+            gone: _,
+        } = self;
+    }
 }
 
 impl Model for Graph {

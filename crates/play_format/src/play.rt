@@ -9,13 +9,26 @@ use std::marker::Model;
 /// A play. Its sections have together at most 262,144 steps, each edit is in its ranges, and each view's channel is
 /// there. In the section of the database process only Await and Buffer stand outside a buffer, only Edit, Ask and Merge
 /// inside one, which the Merge closes; each Ask is an Add or a Remove, and no buffer is open at the end.
-#[derive(Debug, Drop)]
+#[derive(Debug)]
 pub struct Play {
     lens: Lens,
     back: [u8; 3],
     channels: u8,
     app: Vec<AppLine>,
     dbase: Vec<BaseLine>,
+}
+
+/// Written out, so that to drop one is a single call.
+impl Drop for Play {
+    fn drop(self) {
+        let Self {
+            lens: _,
+            back: _,
+            channels: _,
+            app: _,
+            dbase: _,
+        } = self;
+    }
 }
 
 impl Model for Play {

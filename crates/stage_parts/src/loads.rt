@@ -17,13 +17,25 @@ use update_lists::{Cut, Updates, Views};
 
 /// The load of a frame: its cut, a draw list and an image for each channel, a buffer for the bytes of all images, and the
 /// frame's numbers, which are sums over the channels. Once it is cleared, the buffer has room for these bytes.
-#[derive(Drop)]
 pub struct Load {
     cut: Cut,
     lists: Vec<DrawList>,
     images: Vec<Image>,
     bytes: Vec<u8>,
     stats: Stats,
+}
+
+/// Written out, so that to drop one is a single call.
+impl Drop for Load {
+    fn drop(self) {
+        let Self {
+            cut: _,
+            lists: _,
+            images: _,
+            bytes: _,
+            stats: _,
+        } = self;
+    }
 }
 
 impl Model for Load {

@@ -31,7 +31,6 @@ use std::marker::Model;
 ///
 /// Contracts see the lens, how many items a piece takes, the copy with its boxes, whether the End was passed on, the packet
 /// and the piece that it holds to send, the frame whose pieces are sent, and the walk.
-#[derive(Drop)]
 pub struct StreamCullStage {
     lens: Lens,
     limit: u32,
@@ -41,6 +40,22 @@ pub struct StreamCullStage {
     piece: Option<Piece>,
     frame: Option<Sending>,
     walk: StreamWalk,
+}
+
+/// Written out, so that to drop one is a single call.
+impl Drop for StreamCullStage {
+    fn drop(self) {
+        let Self {
+            lens: _,
+            limit: _,
+            copy: _,
+            ended: _,
+            held: _,
+            piece: _,
+            frame: _,
+            walk: _,
+        } = self;
+    }
 }
 
 impl Model for StreamCullStage {

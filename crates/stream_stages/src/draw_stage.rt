@@ -32,7 +32,6 @@ use std::thread::Threads;
 ///
 /// Contracts see the lens, the background, whether the End was taken, the piece and the packet that it holds, the frame whose
 /// pieces come, and its renderer.
-#[derive(Drop)]
 pub struct StreamDrawStage {
     lens: Lens,
     back: [u8; 3],
@@ -42,6 +41,22 @@ pub struct StreamDrawStage {
     spent: Option<Piece>,
     held: Option<Packet>,
     frame: Option<Drawing>,
+}
+
+/// Written out, so that to drop one is a single call.
+impl Drop for StreamDrawStage {
+    fn drop(self) {
+        let Self {
+            lens: _,
+            back: _,
+            raster: _,
+            image: _,
+            ended: _,
+            spent: _,
+            held: _,
+            frame: _,
+        } = self;
+    }
 }
 
 impl Model for StreamDrawStage {

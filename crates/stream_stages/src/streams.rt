@@ -33,10 +33,16 @@ const LEVELS: usize = 32;
 
 /// The walk of a scene that sends what is in sight in pieces: opaque instances as it finds them, and then glass in the
 /// order in which it is drawn. It has room for 131,072 instances. Only `new` takes memory.
-#[derive(Drop)]
 pub struct StreamWalk {
     sight: Sight,
     route: Route,
+}
+
+/// Written out, so that to drop one is a single call.
+impl Drop for StreamWalk {
+    fn drop(self) {
+        let Self { sight: _, route: _ } = self;
+    }
 }
 
 impl Model for StreamWalk {

@@ -12,10 +12,17 @@ use std::alloc::Global;
 use std::marker::Model;
 
 /// The ids of the nodes that changed since the last cut: a mark for each id, and the list of the ids that have one.
-#[derive(Debug, Drop)]
+#[derive(Debug)]
 pub struct Dirty {
     table: Vec<bool>,
     ids: Vec<u16>,
+}
+
+/// Written out, so that to drop one is a single call.
+impl Drop for Dirty {
+    fn drop(self) {
+        let Self { table: _, ids: _ } = self;
+    }
 }
 
 impl Model for Dirty {

@@ -10,9 +10,16 @@ use std::marker::Model;
 use std::mem;
 
 /// Ids in rising order, each with its node or none.
-#[derive(Debug, Drop)]
+#[derive(Debug)]
 pub struct Updates {
     entries: Vec<(u16, Option<Node>)>,
+}
+
+/// Written out, so that to drop one is a single call.
+impl Drop for Updates {
+    fn drop(self) {
+        let Self { entries: _ } = self;
+    }
 }
 
 impl Model for Updates {
