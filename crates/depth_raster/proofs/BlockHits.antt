@@ -9,7 +9,8 @@ use Rattle.tri_cover.specs.declared.face.Face.{Face}
 use Rattle.tri_cover.specs.declared.linear.Linear.{Linear}
 use Rattle.depth_raster.specs.Looks.{IsHidden, IsBelow}
 use Rattle.depth_raster.specs.declared.blocks.Block.{Block}
-use Rattle.depth_raster.proofs.Looking.{hit_parts, covered_parts, limit_reached}
+use Rattle.edge_values.proofs.Divided.{limit_reached}
+use Rattle.depth_raster.proofs.Looking.{hit_parts, covered_parts}
 
 -- a slope above 0 has its greatest product at the greatest place, another at the least
 pub slope_above : (a : ℤ) (x m : ℕ) → pos 0 ≤ℤ a → x ≤ m → (a *ℤ pos x) ≤ℤ (a *ℤ pos m)

@@ -7,10 +7,11 @@ use Rattle.tri_cover.specs.Faces.{is_covered}
 use Rattle.tri_cover.specs.Linears.{value_at, weight_at, step_of}
 use Rattle.tri_cover.specs.declared.face.Face.{Face}
 use Rattle.tri_cover.specs.declared.linear.Linear.{Linear}
-use Rattle.depth_raster.specs.Edges.{AreValuesAt, AreSlopesOf, DoFit, IsSumOf}
-use Rattle.depth_raster.specs.Weights.{are_covering, IsWeightOf}
+use Rattle.depth_raster.specs.Edges.{AreValuesAt, AreSlopesOf}
+use Rattle.edge_values.specs.Steps.{DoFit, IsSumOf}
+use Rattle.edge_values.specs.Weights.{are_covering, IsWeightOf}
 use Rattle.tri_cover.proofs.EdgeLines.{total_value}
-use Rattle.depth_raster.specs.declared.edges.EdgeValues.{EdgeValues}
+use Rattle.edge_values.specs.declared.values.EdgeValues.{EdgeValues}
 use Rattle.depth_raster.proofs.Stepped.{value_after, value_within}
 
 stepped : (g : Linear) (px py : ℕ) (e d : ℤ) → e ≡ value_at g px py → d ≡ step_of g → e +ℤ d ≡ value_at g (px + 1) py

@@ -9,7 +9,8 @@ use Rattle.tri_cover.specs.Linears.{value_at}
 use Rattle.tri_cover.specs.declared.face.Face.{Face}
 use Rattle.tri_cover.specs.declared.hit.Hit.{Hit}
 use Rattle.tri_cover.proofs.EdgeLines.{total_value}
-use Rattle.depth_raster.specs.Mixing.{mix, number_at, IsOneChannel, IsFlat}
+use Rattle.depth_raster.specs.Mixing.{number_at, IsOneChannel, IsFlat}
+use Rattle.span_shading.specs.Mixing.{mix}
 use Rattle.span_shading.specs.Quotients.{IsMean}
 use Rattle.depth_raster.proofs.Looking.{hit_parts, covered_parts}
 use Rattle.depth_raster.proofs.Mixed.{hit_shade}

@@ -1,16 +1,18 @@
 -- The signs of edge values along a row, from those at its first and its last pixel.
-use Rattle.std.proofs.Common.{◌≡◌, ℕ, ◌≤◌, Bool, true, false, FitsSigned, to_z, of_z, refl, subst, arith}
+use Rattle.std.proofs.Common.{◌≡◌, ℕ, ◌≤◌, Bool, true, false, None, inl, inr, refl, subst, arith}
 use Rattle.std.specs.Prelude.{ℤ, pos, ◌+ℤ◌, ◌*ℤ◌, ◌≤ℤ◌, ◌<ℤ◌, int_le}
-use Rattle.std.proofs.lemmas.Int.{ints, to_z-of_z}
-use mir.Syntax.{w64}
+use Rattle.std.proofs.lemmas.Int.{ints}
 use Rattle.fx_math.proofs.Ring.{order}
+use Rattle.tri_cover.specs.Faces.{face_hit}
 use Rattle.tri_cover.specs.Linears.{value_at, step_of}
 use Rattle.tri_cover.specs.declared.face.Face.{Face}
 use Rattle.tri_cover.specs.declared.linear.Linear.{Linear}
 use Rattle.depth_raster.specs.Looks.{IsMissedTo}
 use Rattle.depth_raster.specs.Narrow.{IsLineAt}
-use Rattle.depth_raster.specs.Weighed.{AreInner, AreInnerTo}
-use Rattle.depth_raster.specs.declared.narrow.NarrowLine.{NarrowLine}
+use Rattle.depth_raster.specs.Weighed.{AreInnerAt, AreInnerTo}
+use Rattle.edge_values.specs.Narrow.{IsInside, IsOutside}
+use Rattle.edge_values.specs.Weights.{AreBelow}
+use Rattle.edge_values.specs.declared.narrow.NarrowLine.{NarrowLine}
 use Rattle.depth_raster.proofs.BlockHits.{slope_above, slope_below}
 use Rattle.depth_raster.proofs.Looking.{not_inner}
 
@@ -49,28 +51,21 @@ below g px end py x low high start last = by (int_le (pos 0) (step_of g)) refl
     by false e = at_most (value_at g x py) (value_at g px py) start (along g x px py (slope_below (step_of g) x px (falling (step_of g) e) low))
 
 -- ---- lines
-pub line_inside : (f : Face) (px end py : ℕ) (l : NarrowLine) → AreInner l.start.first l.start.second l.start.third → AreInner l.last.first l.last.second l.last.third → IsLineAt f px end py l → AreInnerTo f px end py
-line_inside f px end py l start last line x low high = record {
-  first_inner = not_below f.edges.e0 px end py x low high (subst (λ (z : ℤ). pos 0 ≤ℤ z) line.start.first_is start.first_inner) (subst (λ (z : ℤ). pos 0 ≤ℤ z) line.last.first_is last.first_inner);
-  second_inner = not_below f.edges.e1 px end py x low high (subst (λ (z : ℤ). pos 0 ≤ℤ z) line.start.second_is start.second_inner) (subst (λ (z : ℤ). pos 0 ≤ℤ z) line.last.second_is last.second_inner);
-  third_inner = not_below f.edges.e2 px end py x low high (subst (λ (z : ℤ). pos 0 ≤ℤ z) line.start.third_is start.third_inner) (subst (λ (z : ℤ). pos 0 ≤ℤ z) line.last.third_is last.third_inner);
+pub line_inside : (f : Face) (px end py : ℕ) (l : NarrowLine) → IsInside l → IsLineAt f px end py l → AreInnerTo f px end py
+line_inside f px end py l is line x low high = record {
+  first_inner = not_below f.edges.e0 px end py x low high (subst (λ (z : ℤ). pos 0 ≤ℤ z) line.start.first_is is.start.first_inner) (subst (λ (z : ℤ). pos 0 ≤ℤ z) line.last.first_is is.last.first_inner);
+  second_inner = not_below f.edges.e1 px end py x low high (subst (λ (z : ℤ). pos 0 ≤ℤ z) line.start.second_is is.start.second_inner) (subst (λ (z : ℤ). pos 0 ≤ℤ z) line.last.second_is is.last.second_inner);
+  third_inner = not_below f.edges.e2 px end py x low high (subst (λ (z : ℤ). pos 0 ≤ℤ z) line.start.third_is is.start.third_inner) (subst (λ (z : ℤ). pos 0 ≤ℤ z) line.last.third_is is.last.third_inner);
 }
 
-pub first_outside : (f : Face) (px end py : ℕ) (l : NarrowLine) → l.start.first <ℤ pos 0 → l.last.first <ℤ pos 0 → IsLineAt f px end py l → IsMissedTo f px end py
-first_outside f px end py l start last line x low high = not_inner f x py (λ is.
-    let under = below f.edges.e0 px end py x low high (subst (λ (z : ℤ). z <ℤ pos 0) line.start.first_is start) (subst (λ (z : ℤ). z <ℤ pos 0) line.last.first_is last) in
-    omega (arith, ints, is.first_inner, under))
+-- a pixel at which an edge value is below 0
+below_missed : (f : Face) (g : Linear) (px end py x : ℕ) (a b : ℤ) → ((AreInnerAt f x py) → pos 0 ≤ℤ value_at g x py) → px ≤ x → x ≤ end → a ≡ value_at g px py → b ≡ value_at g end py → AreBelow a b → face_hit f x py ≡ None
+below_missed f g px end py x a b inner low high start last is = not_inner f x py (λ at.
+    let under = below g px end py x low high (subst (λ (z : ℤ). z <ℤ pos 0) start is.first_below) (subst (λ (z : ℤ). z <ℤ pos 0) last is.second_below) in
+    let over = inner at in
+    omega (arith, ints, over, under))
 
-pub second_outside : (f : Face) (px end py : ℕ) (l : NarrowLine) → l.start.second <ℤ pos 0 → l.last.second <ℤ pos 0 → IsLineAt f px end py l → IsMissedTo f px end py
-second_outside f px end py l start last line x low high = not_inner f x py (λ is.
-    let under = below f.edges.e1 px end py x low high (subst (λ (z : ℤ). z <ℤ pos 0) line.start.second_is start) (subst (λ (z : ℤ). z <ℤ pos 0) line.last.second_is last) in
-    omega (arith, ints, is.second_inner, under))
-
-pub third_outside : (f : Face) (px end py : ℕ) (l : NarrowLine) → l.start.third <ℤ pos 0 → l.last.third <ℤ pos 0 → IsLineAt f px end py l → IsMissedTo f px end py
-third_outside f px end py l start last line x low high = not_inner f x py (λ is.
-    let under = below f.edges.e2 px end py x low high (subst (λ (z : ℤ). z <ℤ pos 0) line.start.third_is start) (subst (λ (z : ℤ). z <ℤ pos 0) line.last.third_is last) in
-    omega (arith, ints, is.third_inner, under))
-
--- a number of 64 bits, as it is passed on
-pub passed_below : (z : ℤ) → FitsSigned w64 z → to_z w64 (of_z w64 z) <ℤ pos 0 → z <ℤ pos 0
-passed_below z fits l = subst (λ (y : ℤ). y <ℤ pos 0) (to_z-of_z w64 z fits) l
+pub line_outside : (f : Face) (px end py : ℕ) (l : NarrowLine) → IsOutside l → IsLineAt f px end py l → IsMissedTo f px end py
+line_outside f px end py l (inl is) line x low high = below_missed f f.edges.e0 px end py x l.start.first l.last.first (λ at. at.first_inner) low high line.start.first_is line.last.first_is is
+line_outside f px end py l (inr (inl is)) line x low high = below_missed f f.edges.e1 px end py x l.start.second l.last.second (λ at. at.second_inner) low high line.start.second_is line.last.second_is is
+line_outside f px end py l (inr (inr is)) line x low high = below_missed f f.edges.e2 px end py x l.start.third l.last.third (λ at. at.third_inner) low high line.start.third_is line.last.third_is is

@@ -17,21 +17,22 @@ use Rattle.tri_cover.specs.declared.face.Face.{Face}
 use Rattle.tri_cover.specs.declared.hit.Hit.{Hit}
 use Rattle.tri_cover.specs.declared.linear.Linear.{Linear}
 use Rattle.tri_cover.proofs.EdgeLines.{total_value}
-use Rattle.depth_raster.specs.Means.{IsWeightAt, IsMeanOf, IsSmallMean, AreSmallMeans, IsNextOf, DoFit, AreMeansAt, colour_by, Stays, AreEven}
-use Rattle.depth_raster.specs.Mixing.{mix, mix_of, number_at, change_of, AreBytes}
+use Rattle.depth_raster.specs.Means.{IsWeightAt, AreSmallMeans, DoFit, AreMeansAt, colour_by, AreEven}
+use Rattle.span_shading.specs.Means.{IsMeanOf, IsSmallMean, IsNextOf, Stays}
+use Rattle.depth_raster.specs.Mixing.{mix_of, number_at, change_of}
+use Rattle.span_shading.specs.Mixing.{mix, AreBytes}
 use Rattle.span_shading.specs.Quotients.{IsMean, IsLeft, IsChannel}
-use Rattle.depth_raster.specs.declared.means.Mean.{Mean}
+use Rattle.span_shading.specs.declared.wide_means.Mean.{Mean}
 use Rattle.depth_raster.specs.declared.means.Means.{Means}
-use Rattle.depth_raster.specs.declared.means.Weight.{Weight}
+use Rattle.span_shading.specs.declared.wide.WideWeight.{WideWeight}
 use Rattle.span_shading.proofs.Between.{product_between, mean_between}
 use Rattle.span_shading.proofs.Means.{left_mean}
-use Rattle.depth_raster.proofs.Looking.{IsHitOf, IsCoveredAt, hit_parts, covered_parts, quotient_is}
+use Rattle.span_shading.proofs.Sizes.{byte_within}
+use Rattle.edge_values.proofs.Divided.{quotient_is}
+use Rattle.depth_raster.proofs.Looking.{IsHitOf, IsCoveredAt, hit_parts, covered_parts}
 use Rattle.depth_raster.proofs.Stepped.{value_within, step_within, value_ahead}
 
 -- ---- how large they are
-pub byte_within : (n : ℕ) → n < 2 ^ 8 → IsWithin (2 ^ 8) (pos n)
-byte_within n l = record { size = omega (arith, l) }
-
 mix_within : (x y z : ℕ) (a b c : ℤ) → AreBytes x y z → IsWithin (2 ^ 82) a → IsWithin (2 ^ 82) b → IsWithin (2 ^ 82) c → IsWithin (2 ^ 92) (mix x y z a b c)
 mix_within x y z a b c bytes p q r =
     within_more (2 ^ 92) (within_add (within_add (within_mul (byte_within x bytes.first) p) (within_mul (byte_within y bytes.second) q)) (within_mul (byte_within z bytes.third) r)) (lit≤ tt)
@@ -52,7 +53,7 @@ change_within f i bytes =
 left_within : (n w : ℤ) (m : Mean) → IsWithin (2 ^ 92) n → IsWithin (2 ^ 82) w → IsWithin (2 ^ 97) (n -ℤ pos m.mean *ℤ w)
 left_within n w m p q = within_more (2 ^ 97) (within_sub p (within_mul (byte_within m.mean m.byte) q)) (lit≤ tt)
 
-mean_small : (number step : ℤ) (w : Weight) (m : Mean) → IsWithin (2 ^ 92) number → IsWithin (2 ^ 92) step → IsMeanOf number step w m → IsSmallMean m
+mean_small : (number step : ℤ) (w : WideWeight) (m : Mean) → IsWithin (2 ^ 92) number → IsWithin (2 ^ 92) step → IsMeanOf number step w m → IsSmallMean m
 mean_small number step w m p q is = record {
   rest_within = subst (λ (z : ℤ). IsWithin (2 ^ 97) z) (sym is.rest_is) (left_within number w.here m p w.here_small);
   change_within = subst (λ (z : ℤ). IsWithin (2 ^ 97) z) (sym is.change_is) (left_within step w.step m q w.step_small);
@@ -81,7 +82,7 @@ left_ahead : (number step here change m n : ℤ) → (number -ℤ m *ℤ here) +
 left_ahead number step here change m n = simp expand (omega (arith, linear))
 
 -- what the mean leaves n pixels further on
-rest_ahead : (f : Face) (px py i n : ℕ) (w : Weight) (m : Mean) → IsWeightAt f px py w → IsMeanOf (number_at f px py i) (change_of f i) w m
+rest_ahead : (f : Face) (px py i n : ℕ) (w : WideWeight) (m : Mean) → IsWeightAt f px py w → IsMeanOf (number_at f px py i) (change_of f i) w m
     → m.rest +ℤ m.change *ℤ pos n ≡ number_at f (px + n) py i -ℤ pos m.mean *ℤ (w.here +ℤ w.step *ℤ pos n)
 rest_ahead f px py i n w m at is =
     ap (λ (z : ℤ). z +ℤ m.change *ℤ pos n) is.rest_is
@@ -89,25 +90,25 @@ rest_ahead f px py i n w m at is =
     ∙ left_ahead (number_at f px py i) (change_of f i) w.here w.step (pos m.mean) (pos n)
     ∙ ap (λ (z : ℤ). z -ℤ pos m.mean *ℤ (w.here +ℤ w.step *ℤ pos n)) (sym (number_ahead f px py i n))
 
-weight_ahead : (f : Face) (px py n : ℕ) (w : Weight) → IsWeightAt f px py w → w.here +ℤ w.step *ℤ pos n ≡ value_at f.edges.sum (px + n) py
+weight_ahead : (f : Face) (px py n : ℕ) (w : WideWeight) → IsWeightAt f px py w → w.here +ℤ w.step *ℤ pos n ≡ value_at f.edges.sum (px + n) py
 weight_ahead f px py n w at =
     ap (λ (z : ℤ). z +ℤ w.step *ℤ pos n) at.here_is
     ∙ ap (λ (z : ℤ). value_at f.edges.sum px py +ℤ z *ℤ pos n) at.step_is
     ∙ sym (value_ahead f.edges.sum px py n)
 
-weight_next : (f : Face) (px py : ℕ) (w : Weight) → IsWeightAt f px py w → w.here +ℤ w.step ≡ value_at f.edges.sum (px + 1) py
+weight_next : (f : Face) (px py : ℕ) (w : WideWeight) → IsWeightAt f px py w → w.here +ℤ w.step ≡ value_at f.edges.sum (px + 1) py
 weight_next f px py w at = ap (λ (z : ℤ). w.here +ℤ z) (sym (times_one w.step)) ∙ weight_ahead f px py 1 w at
 
-rest_next : (f : Face) (px py i : ℕ) (w : Weight) (m : Mean) → IsWeightAt f px py w → IsMeanOf (number_at f px py i) (change_of f i) w m
+rest_next : (f : Face) (px py i : ℕ) (w : WideWeight) (m : Mean) → IsWeightAt f px py w → IsMeanOf (number_at f px py i) (change_of f i) w m
     → m.rest +ℤ m.change ≡ number_at f (px + 1) py i -ℤ pos m.mean *ℤ value_at f.edges.sum (px + 1) py
 rest_next f px py i w m at is =
     ap (λ (z : ℤ). m.rest +ℤ z) (sym (times_one m.change)) ∙ rest_ahead f px py i 1 w m at is
     ∙ ap (λ (z : ℤ). number_at f (px + 1) py i -ℤ pos m.mean *ℤ z) (weight_ahead f px py 1 w at)
 
-weight_advanced : (f : Face) (px py : ℕ) (w v : Weight) → IsWeightAt f px py w → v.here ≡ w.here +ℤ w.step → v.step ≡ w.step → IsWeightAt f (px + 1) py v
+weight_advanced : (f : Face) (px py : ℕ) (w v : WideWeight) → IsWeightAt f px py w → v.here ≡ w.here +ℤ w.step → v.step ≡ w.step → IsWeightAt f (px + 1) py v
 weight_advanced f px py w v at here step = record { here_is = here ∙ weight_next f px py w at; step_is = step ∙ at.step_is }
 
-mean_advanced : (f : Face) (px py i : ℕ) (w v : Weight) (m n : Mean) → IsWeightAt f px py w → IsMeanOf (number_at f px py i) (change_of f i) w m → IsNextOf m n → IsWeightAt f (px + 1) py v → v.step ≡ w.step
+mean_advanced : (f : Face) (px py i : ℕ) (w v : WideWeight) (m n : Mean) → IsWeightAt f px py w → IsMeanOf (number_at f px py i) (change_of f i) w m → IsNextOf m n → IsWeightAt f (px + 1) py v → v.step ≡ w.step
     → IsMeanOf (number_at f (px + 1) py i) (change_of f i) v n
 mean_advanced f px py i w v m n at is next there step = record {
   rest_is = next.rest_is ∙ rest_next f px py i w m at is
@@ -131,7 +132,7 @@ means_advanced f px py m n at red green blue here step = record {
     there : IsWeightAt f (px + 1) py n.weight
     there = weight_advanced f px py m.weight n.weight at.weight here step
 
-rest_fits : (f : Face) (px py i : ℕ) (w : Weight) (m : Mean) → AreBytes (channel f.colours 0 i) (channel f.colours 1 i) (channel f.colours 2 i) → px + 1 ≤ size_limit → py ≤ size_limit → IsWeightAt f px py w → IsMeanOf (number_at f px py i) (change_of f i) w m
+rest_fits : (f : Face) (px py i : ℕ) (w : WideWeight) (m : Mean) → AreBytes (channel f.colours 0 i) (channel f.colours 1 i) (channel f.colours 2 i) → px + 1 ≤ size_limit → py ≤ size_limit → IsWeightAt f px py w → IsMeanOf (number_at f px py i) (change_of f i) w m
     → IsWithin (2 ^ 97) (m.rest +ℤ m.change)
 rest_fits f px py i w m bytes column row at is =
     subst (λ (z : ℤ). IsWithin (2 ^ 97) z) (sym (rest_next f px py i w m at is))
@@ -144,33 +145,6 @@ means_fit f px py m column row at = record {
   blue = rest_fits f px py 2 m.weight m.blue at.bytes.blue column row at.weight at.blue;
   weight = subst (λ (z : ℤ). IsWithin (2 ^ 82) z) (sym (weight_next f px py m.weight at.weight)) (value_within f.edges.sum (px + 1) py column row);
 }
-
--- ---- a mean beside another
-left_less : (number w m : ℤ) → (number -ℤ m *ℤ w) +ℤ w ≡ number -ℤ (m -ℤ pos 1) *ℤ w
-left_less number w m = simp expand (omega (arith, linear, order, times_one w))
-
-left_more : (number w m : ℤ) → (number -ℤ m *ℤ w) -ℤ w ≡ number -ℤ (m +ℤ pos 1) *ℤ w
-left_more number w m = simp expand (omega (arith, linear, order, times_one w))
-
-pub mean_less : (number step : ℤ) (w : Weight) (m n : Mean) → IsMeanOf number step w m → n.mean + 1 ≡ m.mean → n.rest ≡ m.rest +ℤ w.here → n.change ≡ m.change +ℤ w.step → IsMeanOf number step w n
-mean_less number step w m n is mean rest change =
-    let one : pos m.mean -ℤ pos 1 ≡ pos n.mean = omega (arith, ints, mean) in
-    record {
-      rest_is = rest ∙ ap (λ (z : ℤ). z +ℤ w.here) is.rest_is ∙ left_less number w.here (pos m.mean) ∙ ap (λ (z : ℤ). number -ℤ z *ℤ w.here) one;
-      change_is = change ∙ ap (λ (z : ℤ). z +ℤ w.step) is.change_is ∙ left_less step w.step (pos m.mean) ∙ ap (λ (z : ℤ). step -ℤ z *ℤ w.step) one;
-    }
-
-pub mean_more : (number step : ℤ) (w : Weight) (m n : Mean) → IsMeanOf number step w m → n.mean ≡ m.mean + 1 → n.rest ≡ m.rest -ℤ w.here → n.change ≡ m.change -ℤ w.step → IsMeanOf number step w n
-mean_more number step w m n is mean rest change =
-    let one : pos m.mean +ℤ pos 1 ≡ pos n.mean = omega (arith, ints, mean) in
-    record {
-      rest_is = rest ∙ ap (λ (z : ℤ). z -ℤ w.here) is.rest_is ∙ left_more number w.here (pos m.mean) ∙ ap (λ (z : ℤ). number -ℤ z *ℤ w.here) one;
-      change_is = change ∙ ap (λ (z : ℤ). z -ℤ w.step) is.change_is ∙ left_more step w.step (pos m.mean) ∙ ap (λ (z : ℤ). step -ℤ z *ℤ w.step) one;
-    }
-
--- the number of which a mean leaves a rest
-pub number_whole : (number w r m : ℤ) → r ≡ number -ℤ m *ℤ w → r +ℤ m *ℤ w ≡ number
-number_whole number w r m is = omega (arith, order, is)
 
 -- ---- quotients
 mean_is : (n w g : ℕ) → IsMean (pos n) (pos w) g → g ≡ n / w
@@ -297,17 +271,17 @@ channel_between f px py k i j m some first last =
     mean_between (pos (i + j)) (pos i) (pos j) (number_at f (px + i) py k) (value_at f.edges.sum (px + i) py) (number_at f px py k) (value_at f.edges.sum px py) (number_at f (px + (i + j)) py k) (value_at f.edges.sum (px + (i + j)) py) m
     (omega (arith, ints)) (omega (arith, ints)) (omega (arith, ints, some)) refl (mix_between f px py k i j) (value_between f.edges.sum px py i j) first last
 
-here_mean : (f : Face) (px py i n : ℕ) (w : Weight) (m : Mean) → IsWeightAt f px py w → IsMeanOf (number_at f px py i) (change_of f i) w m → Stays m w n → MeanAt f px py i m.mean
+here_mean : (f : Face) (px py i n : ℕ) (w : WideWeight) (m : Mean) → IsWeightAt f px py w → IsMeanOf (number_at f px py i) (change_of f i) w m → Stays m w n → MeanAt f px py i m.mean
 here_mean f px py i n w m at is stays =
     subst (λ (z : ℤ). IsMean (number_at f px py i) z m.mean) at.here_is (left_mean (number_at f px py i) w.here m.rest m.mean is.rest_is stays.here)
 
-there_mean : (f : Face) (px py i n : ℕ) (w : Weight) (m : Mean) → IsWeightAt f px py w → IsMeanOf (number_at f px py i) (change_of f i) w m → Stays m w n → MeanAt f (px + n) py i m.mean
+there_mean : (f : Face) (px py i n : ℕ) (w : WideWeight) (m : Mean) → IsWeightAt f px py w → IsMeanOf (number_at f px py i) (change_of f i) w m → Stays m w n → MeanAt f (px + n) py i m.mean
 there_mean f px py i n w m at is stays =
     subst (λ (z : ℤ). IsMean (number_at f (px + n) py i) z m.mean) (weight_ahead f px py n w at)
     (left_mean (number_at f (px + n) py i) (w.here +ℤ w.step *ℤ pos n) (m.rest +ℤ m.change *ℤ pos n) m.mean (rest_ahead f px py i n w m at is) stays.there)
 
 -- the mean at each pixel up to n further on
-stays_mean : (f : Face) (px py k i j : ℕ) (w : Weight) (m : Mean) → IsWeightAt f px py w → IsMeanOf (number_at f px py k) (change_of f k) w m → Stays m w (i + j) → MeanAt f (px + i) py k m.mean
+stays_mean : (f : Face) (px py k i j : ℕ) (w : WideWeight) (m : Mean) → IsWeightAt f px py w → IsMeanOf (number_at f px py k) (change_of f k) w m → Stays m w (i + j) → MeanAt f (px + i) py k m.mean
 stays_mean f px py k i j w m at is stays = ⊎_elim
     (λ some. channel_between f px py k i j m.mean some (here_mean f px py k (i + j) w m at is stays) (there_mean f px py k (i + j) w m at is stays))
     (λ none. subst (λ (x : ℕ). MeanAt f x py k m.mean) (omega (arith, none)) (here_mean f px py k (i + j) w m at is stays))

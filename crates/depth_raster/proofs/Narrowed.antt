@@ -1,21 +1,20 @@
 -- Edge values in 64 bits along a row.
-use Rattle.std.proofs.Common.{◌≡◌, ℕ, ◌+◌, ◌*◌, ◌≤◌, ◌^◌, Option, Some, None, FitsSigned, to_z, of_z, ap, sym, ◌∙◌, lit<, lit≤, subst, arith}
-use Rattle.std.proofs.lemmas.Int.{to_z-of_z}
-use mir.Syntax.{w64}
+use Rattle.std.proofs.Common.{◌≡◌, ℕ, ◌+◌, ◌*◌, ◌≤◌, ◌^◌, Option, Some, None, ap, sym, ◌∙◌, lit≤, subst, arith}
 use Rattle.std.specs.Prelude.{ℤ, pos, ◌+ℤ◌, ◌*ℤ◌}
 use Rattle.std.specs.Option.{IfSome}
 use Rattle.fx_math.specs.Limits.{size_limit}
 use Rattle.fx_math.specs.Within.{IsWithin}
-use Rattle.fx_math.proofs.Size.{back, within_add, within_mul, within_more}
+use Rattle.fx_math.proofs.Size.{within_add, within_mul, within_more}
 use Rattle.tri_cover.specs.Linears.{value_at, step_of}
 use Rattle.tri_cover.specs.declared.face.Face.{Face}
 use Rattle.tri_cover.specs.declared.linear.Linear.{Linear}
 use Rattle.depth_raster.specs.Edges.{AreValuesAt, AreSlopesOf}
-use Rattle.depth_raster.specs.Narrow.{AreNarrowAt, AreNarrowSlopes, IsNarrowOf, IsLineOf, IsLineAt, DoFit, IsSumOf}
-use Rattle.depth_raster.specs.Small.{AreWithin}
-use Rattle.depth_raster.specs.declared.edges.EdgeValues.{EdgeValues}
-use Rattle.depth_raster.specs.declared.narrow.NarrowLine.{NarrowLine}
-use Rattle.depth_raster.specs.declared.narrow.NarrowValues.{NarrowValues}
+use Rattle.depth_raster.specs.Narrow.{AreNarrowAt, AreNarrowSlopes, IsLineAt}
+use Rattle.edge_values.specs.Narrow.{IsNarrowOf, IsLineOf, DoFit, IsSumOf}
+use Rattle.edge_values.specs.Small.{AreWithin}
+use Rattle.edge_values.specs.declared.values.EdgeValues.{EdgeValues}
+use Rattle.edge_values.specs.declared.narrow.NarrowLine.{NarrowLine}
+use Rattle.edge_values.specs.declared.narrow.NarrowValues.{NarrowValues}
 use Rattle.depth_raster.proofs.Stepped.{value_ahead, value_after}
 
 stepped : (g : Linear) (px py : ℕ) (e d : ℤ) → e ≡ value_at g px py → d ≡ step_of g → e +ℤ d ≡ value_at g (px + 1) py
@@ -74,9 +73,3 @@ narrow_fits f px end py n v l few line are = record {
   second_within = next_fits f.edges.e1 px py n l.start.second l.steps.second v.second few line.start.second_is line.steps.second_is line.small.second_within line.small_steps.second_within are.second_is;
   third_within = next_fits f.edges.e2 px py n l.start.third l.steps.third v.third few line.start.third_is line.steps.third_is line.small.third_within line.small_steps.third_within are.third_is;
 }
-
-pub narrow_sum : (a b : ℤ) → FitsSigned w64 a → FitsSigned w64 b → IsWithin (2 ^ 52) (a +ℤ b) → to_z w64 (of_z w64 (to_z w64 (of_z w64 a) +ℤ to_z w64 (of_z w64 b))) ≡ a +ℤ b
-narrow_sum a b f g within =
-    ap (λ (u : ℤ). to_z w64 (of_z w64 (u +ℤ to_z w64 (of_z w64 b)))) (to_z-of_z w64 a f)
-    ∙ ap (λ (u : ℤ). to_z w64 (of_z w64 (a +ℤ u))) (to_z-of_z w64 b g)
-    ∙ back w64 within (lit< tt)

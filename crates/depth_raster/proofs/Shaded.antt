@@ -14,7 +14,7 @@ use Rattle.tri_cover.specs.declared.hit.Hit.{Hit}
 use Rattle.tri_cover.specs.declared.linear.Linear.{Linear}
 use Rattle.tri_cover.proofs.EdgeLines.{total_value}
 use Rattle.tri_cover.proofs.FaceValues.{two_within}
-use Rattle.span_shading.specs.Mixing.{ahead}
+use Rattle.span_shading.specs.Mixing.{mix, ahead, AreBytes}
 use Rattle.span_shading.specs.Quotients.{IsMean, IsChannel}
 use Rattle.span_shading.specs.Spans.{IsShade, IsNextSpan, DoFit, HasShadeTo}
 use Rattle.span_shading.specs.Sums.{IsNextSum}
@@ -23,11 +23,12 @@ use Rattle.span_shading.specs.declared.lines.Sum.{Sum}
 use Rattle.span_shading.specs.declared.lines.Weight.{Weight}
 use Rattle.span_shading.specs.declared.spans.Shade.{Shade}
 use Rattle.span_shading.specs.declared.spans.Span.{Span}
-use Rattle.depth_raster.specs.Mixing.{mix, mix_of, number_at, change_of, AreBytes, AreColours}
+use Rattle.depth_raster.specs.Mixing.{mix_of, number_at, change_of, AreColours}
 use Rattle.depth_raster.specs.Shading.{IsLineAt, IsMixOf, AreMixes, IsSumAt, IsTotalAt, IsSpanAt, shade_colour}
 use Rattle.depth_raster.specs.Small.{IsSmallLinear, IsSmallFace}
 use Rattle.depth_raster.proofs.Looking.{hit_parts}
-use Rattle.depth_raster.proofs.Mixed.{byte_within, channel_at_covered, hit_shade, number_ahead}
+use Rattle.span_shading.proofs.Sizes.{byte_within}
+use Rattle.depth_raster.proofs.Mixed.{channel_at_covered, hit_shade, number_ahead}
 use Rattle.depth_raster.proofs.Stepped.{place_fits, value_ahead, value_after}
 
 -- ---- how large they are

@@ -1,12 +1,10 @@
--- Linear functions along a row, and sums of numbers of 128 bits.
-use Rattle.std.proofs.Common.{◌≡◌, ℕ, ◌+◌, ◌≤◌, ◌^◌, ap, ◌∙◌, lit<, lit≤, FitsSigned, to_z, of_z, arith}
+-- Linear functions along a row.
+use Rattle.std.proofs.Common.{◌≡◌, ℕ, ◌+◌, ◌≤◌, ◌^◌, ap, ◌∙◌, lit≤, arith}
 use Rattle.std.specs.Prelude.{ℤ, pos, ◌+ℤ◌, ◌*ℤ◌}
-use Rattle.std.proofs.lemmas.Int.{to_z-of_z}
-use mir.Syntax.{w128}
 use Rattle.fx_math.specs.Limits.{size_limit}
 use Rattle.fx_math.specs.Within.{IsWithin}
 use Rattle.fx_math.proofs.Ring.{order, mul-add, times_one}
-use Rattle.fx_math.proofs.Size.{back, within_add, within_mul, within_more}
+use Rattle.fx_math.proofs.Size.{within_add, within_mul, within_more}
 use Rattle.tri_cover.specs.Linears.{value_at, step_of}
 use Rattle.tri_cover.specs.declared.linear.Linear.{Linear}
 use Rattle.tri_cover.proofs.FaceValues.{two_within}
@@ -34,9 +32,3 @@ value_ahead g px py n =
 
 pub value_after : (g : Linear) (px py : ℕ) → value_at g (px + 1) py ≡ value_at g px py +ℤ step_of g
 value_after g px py = value_ahead g px py 1 ∙ ap (λ (z : ℤ). value_at g px py +ℤ z) (times_one (step_of g))
-
-pub small_sum : (a b : ℤ) → FitsSigned w128 a → FitsSigned w128 b → IsWithin (2 ^ 97) (a +ℤ b) → to_z w128 (of_z w128 (to_z w128 (of_z w128 a) +ℤ to_z w128 (of_z w128 b))) ≡ a +ℤ b
-small_sum a b f g within =
-    ap (λ (u : ℤ). to_z w128 (of_z w128 (u +ℤ to_z w128 (of_z w128 b)))) (to_z-of_z w128 a f)
-    ∙ ap (λ (u : ℤ). to_z w128 (of_z w128 (a +ℤ u))) (to_z-of_z w128 b g)
-    ∙ back w128 within (lit< tt)

@@ -15,7 +15,7 @@ use Rattle.depth_raster.specs.declared.blocks.Block.{Block}
 use Rattle.depth_raster.specs.declared.faces.Face.{Face}
 use Rattle.depth_raster.specs.declared.marks.Mark.{Mark}
 use Rattle.depth_raster.proofs.Following.{place_within}
-use Rattle.depth_raster.proofs.Looking.{quotient_before}
+use Rattle.edge_values.proofs.Divided.{quotient_before}
 
 no_deeper : (m n : Mark) → goes_before n m ≡ true → n.depth ≤ m.depth
 no_deeper m n h = grind (arith, nat_tests)

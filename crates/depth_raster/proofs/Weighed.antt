@@ -7,9 +7,9 @@ use Rattle.tri_cover.specs.Linears.{value_at, weight_at}
 use Rattle.tri_cover.specs.declared.face.Face.{Face}
 use Rattle.tri_cover.proofs.EdgeLines.{total_value}
 use Rattle.depth_raster.specs.Narrow.{AreNarrowAt}
-use Rattle.depth_raster.specs.Weighed.{IsSmallWeight, IsWeighedAt, AreInner, AreInnerAt, IsInnerSum, IsInnerSumAt}
-use Rattle.depth_raster.specs.declared.narrow.NarrowValues.{NarrowValues}
-use Rattle.depth_raster.specs.Weights.{are_covering, IsWeightOf}
+use Rattle.depth_raster.specs.Weighed.{IsWeighedAt, AreInnerAt, IsInnerSumAt}
+use Rattle.edge_values.specs.declared.narrow.NarrowValues.{NarrowValues}
+use Rattle.edge_values.specs.Weights.{are_covering, AreInner, IsInnerSum, IsSmallWeight, IsWeightOf}
 
 pub small_weight : (a b c : ℤ) (o : Option ℕ) → IfSome o (IsWeightOf a b c) → IfSome o IsSmallWeight
 small_weight a b c None is = tt

@@ -1,9 +1,8 @@
 -- The edge values of a face along a row of pixels.
-use Rattle.std.specs.Prelude.{◌≡◌, ℕ, ◌^◌, ◌+ℤ◌}
-use Rattle.fx_math.specs.Within.{IsWithin}
+use Rattle.std.specs.Prelude.{◌≡◌, ℕ}
 use Rattle.tri_cover.specs.Linears.{value_at, step_of}
 use Rattle.tri_cover.specs.declared.face.Face.{Face}
-use Rattle.depth_raster.specs.declared.edges.EdgeValues.{EdgeValues}
+use Rattle.edge_values.specs.declared.values.EdgeValues.{EdgeValues}
 
 -- the values are those of the face at the pixel
 pub record AreValuesAt (f : Face) (px py : ℕ) (e : EdgeValues) : Type 0 where
@@ -16,15 +15,3 @@ pub record AreSlopesOf (f : Face) (e : EdgeValues) : Type 0 where
   pub first_is : e.first ≡ step_of f.edges.e0
   pub second_is : e.second ≡ step_of f.edges.e1
   pub third_is : e.third ≡ step_of f.edges.e2
-
--- the values after a step are small
-pub record DoFit (e step : EdgeValues) : Type 0 where
-  pub first_within : IsWithin (2 ^ 82) (e.first +ℤ step.first)
-  pub second_within : IsWithin (2 ^ 82) (e.second +ℤ step.second)
-  pub third_within : IsWithin (2 ^ 82) (e.third +ℤ step.third)
-
--- t is e after a step
-pub record IsSumOf (e step t : EdgeValues) : Type 0 where
-  pub first_is : t.first ≡ e.first +ℤ step.first
-  pub second_is : t.second ≡ e.second +ℤ step.second
-  pub third_is : t.third ≡ e.third +ℤ step.third

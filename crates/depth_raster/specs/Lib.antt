@@ -4,7 +4,6 @@ pub mod Around
 pub mod Later
 pub mod Looks
 pub mod Edges
-pub mod Weights
 pub mod Weighed
 pub mod Small
 pub mod Narrow

@@ -1,10 +1,11 @@
 -- What is asked of a face at a pixel.
-use Rattle.std.specs.Prelude.{◌≡◌, ℕ, ◌+◌, ◌/◌, ◌<◌, ◌≤◌, Option, Some, None, Bool, true, false, pos, ◌<ℤ◌}
+use Rattle.std.specs.Prelude.{◌≡◌, ℕ, ◌+◌, ◌<◌, ◌≤◌, Option, Some, None, Bool, true, false, pos, ◌<ℤ◌}
 use Rattle.tri_cover.specs.declared.face.Face.{Face}
 use Rattle.tri_cover.specs.declared.hit.Hit.{Hit}
 use Rattle.tri_cover.specs.Faces.{face_hit, depth_at, colour_at}
 use Rattle.tri_cover.specs.Linears.{value_at}
 use Rattle.tri_cover.specs.declared.linear.Linear.{Linear}
+use Rattle.edge_values.specs.declared.depths.Depths.{Depths}
 use Rattle.depth_raster.specs.declared.blocks.Block.{Block}
 
 -- The face is hit at the pixel at this depth, before the limit; or it is not hit before the limit.
@@ -26,11 +27,11 @@ IsDepthAt f px py (Some depth) = face_hit f px py ≡ Some (record { depth = dep
 abbrev pub IsMissedTo : Face → (px end py : ℕ) → Type 0
 IsMissedTo f px end py = (x : ℕ) → px ≤ x → x ≤ end → face_hit f x py ≡ None
 
--- the depth of the face, where its edge values have this sum, is one at which it is seen, and before the limit
-pub record IsSeenBefore (f : Face) (limit sum : ℕ) : Type 0 where
-  pub near : f.extent.near ≤ f.dividend / sum
-  pub far : f.dividend / sum ≤ f.extent.far
-  pub before : f.dividend / sum < limit
+-- the depths are those of the face
+pub record AreDepthsOf (f : Face) (t : Depths) : Type 0 where
+  pub dividend_is : t.dividend ≡ f.dividend
+  pub near_is : t.near ≡ f.extent.near
+  pub far_is : t.far ≡ f.extent.far
 
 -- at no pixel of the block the face is hit before the limit
 abbrev pub IsHidden : Face → Block → (limit : ℕ) → Type 0

@@ -1,46 +1,26 @@
 -- The means of a face's channels along a row of pixels.
-use Rattle.std.specs.Prelude.{◌≡◌, ℕ, ◌+◌, ◌^◌, List, [], ◌∷◌, ℤ, pos, ◌+ℤ◌, ◌-ℤ◌, ◌*ℤ◌}
+use Rattle.std.specs.Prelude.{◌≡◌, ℕ, ◌+◌, ◌^◌, List, [], ◌∷◌, ◌+ℤ◌}
 use Rattle.std.specs.Option.{IfSome}
 use Rattle.fx_math.specs.Within.{IsWithin}
 use Rattle.tri_cover.specs.Faces.{face_hit}
 use Rattle.tri_cover.specs.Linears.{value_at, step_of}
 use Rattle.tri_cover.specs.declared.face.Face.{Face}
 use Rattle.depth_raster.specs.Mixing.{number_at, change_of, AreColours}
-use Rattle.span_shading.specs.Quotients.{IsLeft}
+use Rattle.span_shading.specs.Means.{IsMeanOf, IsSmallMean, Stays}
+use Rattle.span_shading.specs.declared.wide.WideWeight.{WideWeight}
 use Rattle.depth_raster.specs.declared.blocks.Block.{Block}
-use Rattle.depth_raster.specs.declared.means.Mean.{Mean}
 use Rattle.depth_raster.specs.declared.means.Means.{Means}
-use Rattle.depth_raster.specs.declared.means.Weight.{Weight}
 
 -- the weight is that of the face at the pixel
-pub record IsWeightAt (f : Face) (px py : ℕ) (w : Weight) : Type 0 where
+pub record IsWeightAt (f : Face) (px py : ℕ) (w : WideWeight) : Type 0 where
   pub here_is : w.here ≡ value_at f.edges.sum px py
   pub step_is : w.step ≡ step_of f.edges.sum
 
--- what the mean leaves of this number, and of this change of it
-pub record IsMeanOf (number step : ℤ) (w : Weight) (m : Mean) : Type 0 where
-  pub rest_is : m.rest ≡ number -ℤ pos m.mean *ℤ w.here
-  pub change_is : m.change ≡ step -ℤ pos m.mean *ℤ w.step
-
--- the mean is the quotient, rounded down
-abbrev pub IsSettled : Mean → Weight → Type 0
-IsSettled m w = IsLeft m.rest w.here
-
--- the numbers are small enough for a settling
-pub record IsSmallMean (m : Mean) : Type 0 where
-  pub rest_within : IsWithin (2 ^ 97) m.rest
-  pub change_within : IsWithin (2 ^ 97) m.change
-
+-- the numbers of all three are small enough for a settling
 pub record AreSmallMeans (m : Means) : Type 0 where
   pub red : IsSmallMean m.red
   pub green : IsSmallMean m.green
   pub blue : IsSmallMean m.blue
-
--- the same mean, at the next pixel of the row
-pub record IsNextOf (m n : Mean) : Type 0 where
-  pub mean_is : n.mean ≡ m.mean
-  pub rest_is : n.rest ≡ m.rest +ℤ m.change
-  pub change_is : n.change ≡ m.change
 
 -- the numbers at the next pixel are small
 pub record DoFit (m : Means) : Type 0 where
@@ -61,12 +41,7 @@ pub record AreMeansAt (f : Face) (px py : ℕ) (m : Means) : Type 0 where
 abbrev pub colour_by : Means → List ℕ
 colour_by m = m.red.mean ∷ m.green.mean ∷ m.blue.mean ∷ []
 
--- the mean is the quotient here, and so many pixels further on
-pub record Stays (m : Mean) (w : Weight) (count : ℕ) : Type 0 where
-  pub here : IsLeft m.rest w.here
-  pub there : IsLeft (m.rest +ℤ m.change *ℤ pos count) (w.here +ℤ w.step *ℤ pos count)
-
--- so are all three
+-- each of the means is the quotient here, and so many pixels further on
 pub record AreEven (m : Means) (count : ℕ) : Type 0 where
   pub red : Stays m.red m.weight count
   pub green : Stays m.green m.weight count

@@ -1,12 +1,9 @@
 -- Weighed sums of channels.
-use Rattle.std.specs.Prelude.{◌≡◌, ℕ, ◌<◌, ◌^◌, List, [], ◌∷◌, ℤ, pos, ◌+ℤ◌, ◌*ℤ◌}
+use Rattle.std.specs.Prelude.{◌≡◌, ℕ, List, [], ◌∷◌, ℤ}
 use Rattle.tri_cover.specs.Hits.{channel}
 use Rattle.tri_cover.specs.Linears.{value_at, step_of}
 use Rattle.tri_cover.specs.declared.face.Face.{Face}
-
--- three values of a channel, weighed by three numbers
-abbrev pub mix : (x y z : ℕ) → (first second third : ℤ) → ℤ
-mix x y z first second third = pos x *ℤ first +ℤ pos y *ℤ second +ℤ pos z *ℤ third
+use Rattle.span_shading.specs.Mixing.{mix, AreBytes}
 
 -- the channel i of the colours of three vertices, weighed by three numbers
 abbrev pub mix_of : List (List ℕ) → (i : ℕ) → (first second third : ℤ) → ℤ
@@ -19,12 +16,6 @@ number_at f px py i = mix_of f.colours i (value_at f.edges.e0 px py) (value_at f
 -- by how much that changes from a pixel to the next one of its row
 abbrev pub change_of : Face → (i : ℕ) → ℤ
 change_of f i = mix_of f.colours i (step_of f.edges.e0) (step_of f.edges.e1) (step_of f.edges.e2)
-
--- three numbers of 8 bits
-pub record AreBytes (x y z : ℕ) : Type 0 where
-  pub first : x < 2 ^ 8
-  pub second : y < 2 ^ 8
-  pub third : z < 2 ^ 8
 
 -- the channels of the colours of three vertices are numbers of 8 bits
 pub record AreColours (colours : List (List ℕ)) : Type 0 where

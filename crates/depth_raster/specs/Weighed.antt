@@ -1,31 +1,14 @@
 -- The sum of the edge values of a face at a pixel.
-use Rattle.std.specs.Prelude.{◌≡◌, ℕ, ◌<◌, ◌≤◌, ◌^◌, Option, false, ℤ, pos, ◌+ℤ◌, ◌≤ℤ◌}
+use Rattle.std.specs.Prelude.{◌≡◌, ℕ, ◌≤◌, Option, false}
 use Rattle.std.specs.Option.{IfSome, IfNone}
 use Rattle.tri_cover.specs.Linears.{value_at}
 use Rattle.tri_cover.specs.declared.face.Face.{Face}
-use Rattle.depth_raster.specs.Weights.{are_covering, IsWeightOf}
-
--- the bounds of such a sum
-pub record IsSmallWeight (sum : ℕ) : Type 0 where
-  pub some : 0 < sum
-  pub bound : sum < 2 ^ 84
+use Rattle.edge_values.specs.Weights.{are_covering, IsWeightOf, AreInner, IsInnerSum}
 
 -- it is the sum of the edge values of the face at the pixel, where it is covered, and none where it is not
 pub record IsWeighedAt (f : Face) (px py : ℕ) (weight : Option ℕ) : Type 0 where
   pub covered : IfSome weight (IsWeightOf (value_at f.edges.e0 px py) (value_at f.edges.e1 px py) (value_at f.edges.e2 px py))
   pub uncovered : IfNone weight (are_covering (value_at f.edges.e0 px py) (value_at f.edges.e1 px py) (value_at f.edges.e2 px py) ≡ false)
-
--- none of three edge values is below 0
-pub record AreInner (first second third : ℤ) : Type 0 where
-  pub first_inner : pos 0 ≤ℤ first
-  pub second_inner : pos 0 ≤ℤ second
-  pub third_inner : pos 0 ≤ℤ third
-
--- none of three edge values is below 0, and this is their sum
-pub record IsInnerSum (first second third : ℤ) (sum : ℕ) : Type 0 where
-  pub inner : AreInner first second third
-  pub is_sum : pos sum ≡ first +ℤ second +ℤ third
-  pub bound : sum < 2 ^ 63
 
 -- none of the edge values of the face at the pixel is below 0
 abbrev pub AreInnerAt : Face → (px py : ℕ) → Type 0

@@ -1,113 +1,101 @@
-//! The edge values of a face along a row, by steps from each pixel to the next.
-ghost use Rattle.std.specs.Prelude.{◌≡◌, ◌<◌, ◌≤◌, ◌^◌, false, IfSome, IfNone};
+//! The edge values of a face at a pixel, and by how much they change from a pixel to the next one of its row.
+ghost use Rattle.std.specs.Prelude.{◌≡◌, ◌<◌, ◌*◌, ◌^◌};
 ghost use Rattle.fx_math.specs.Limits.{size_limit};
 ghost use Rattle.fx_math.specs.Within.{IsWithin};
-ghost use Rattle.depth_raster.specs.Small.{IsNarrow};
-ghost use Rattle.depth_raster.specs.Weights.{AreSmall, are_covering, IsWeightOf};
+ghost use Rattle.tri_cover.specs.Linears.{value_at, step_of};
+ghost use Rattle.edge_values.specs.Small.{AreWithin};
+ghost use Rattle.depth_raster.specs.Edges.{AreValuesAt, AreSlopesOf};
+ghost use Rattle.depth_raster.specs.Narrow.{AreNarrowAt, AreNarrowSlopes, IsLineAt};
+ghost use Rattle.depth_raster.specs.Small.{IsSmallFace, IsSmallLinear};
 
-use crate::narrow::NarrowValues;
-use tri_cover::Face;
+use edge_values::{EdgeValues, NarrowLine, NarrowValues, small_step, small_value};
+use tri_cover::{Face, Linear};
 
-/// The three edge values of a face: at a pixel, or by how much they change from a pixel to the next one of its row.
-#[derive(Clone, Copy)]
-pub(crate) struct EdgeValues {
-    first: i128,
-    second: i128,
-    third: i128,
-    ghost small: { AreSmall first second third },
-}
-
-impl EdgeValues {
-    ghost use Rattle.depth_raster.specs.Narrow.{IsNarrowOf};
-    ghost use Rattle.depth_raster.specs.Edges.{AreValuesAt, AreSlopesOf, DoFit, IsSumOf};
-
-    /// Those at a pixel.
-    pub(crate) fn at(face: &Face, px: u16, py: u16) -> EdgeValues
-        requires x { px < size_limit }
-        requires y { py < size_limit }
-        ensures { AreValuesAt face.now px py result }
-    {
-        EdgeValues {
-            first: face.edges.e0.at(px, py),
-            second: face.edges.e1.at(px, py),
-            third: face.edges.e2.at(px, py),
-        }
-    }
-
-    /// By how much they change from a pixel to the next one of its row.
-    pub(crate) fn steps(face: &Face) -> EdgeValues
-        ensures { AreSlopesOf face.now result }
-    {
-        EdgeValues {
-            first: face.edges.e0.step(),
-            second: face.edges.e1.step(),
-            third: face.edges.e2.step(),
-        }
-    }
-
-    /// Those after a step.
-    pub(crate) fn plus(&self, steps: &EdgeValues) -> EdgeValues
-        requires { DoFit self.now steps.now }
-        ensures { IsSumOf self.now steps.now result }
-    {
-        EdgeValues {
-            first: self.first + steps.first,
-            second: self.second + steps.second,
-            third: self.third + steps.third,
-        }
-    }
-
-    /// The same in 64 bits, where none has a magnitude above the most.
-    pub(crate) fn narrow(&self, most: u64) -> Option<NarrowValues>
-        requires { most ≤ 2 ^ 52 }
-        ensures { IfSome result (IsNarrowOf most self.now) }
-    {
-        let first = narrow(self.first, most)?;
-        let second = narrow(self.second, most)?;
-        let third = narrow(self.third, most)?;
-        Some(NarrowValues {
-            first,
-            second,
-            third,
-        })
-    }
-
-    /// Their sum, where they are those of a pixel that is covered.
-    pub(crate) fn covered(&self) -> Option<u128>
-        ensures some { IfSome result (IsWeightOf self.now.first self.now.second self.now.third) }
-        ensures none { IfNone result (are_covering self.now.first self.now.second self.now.third ≡ false) }
-    {
-        weight(self.first, self.second, self.third)
-    }
-}
-
-/// A number in 64 bits, where it has no magnitude above the most.
-fn narrow(number: i128, most: u64) -> Option<i64>
-    requires { most ≤ 2 ^ 52 }
-    ensures { IfSome result (IsNarrow most number) }
+/// The edge values of a face at a pixel.
+pub(crate) fn values_at(face: &Face, px: u16, py: u16) -> EdgeValues
+    requires x { px < size_limit }
+    requires y { py < size_limit }
+    ensures { AreValuesAt face.now px py result }
 {
-    if number.unsigned_abs() <= u128::from(most) {
-        Some(number as i64)
-    } else {
-        None
+    EdgeValues {
+        first: face.edges.e0.at(px, py),
+        second: face.edges.e1.at(px, py),
+        third: face.edges.e2.at(px, py),
     }
 }
 
-/// The sum of three edge values, where they are those of a pixel that is covered.
-fn weight(first: i128, second: i128, third: i128) -> Option<u128>
-    requires first { IsWithin (2 ^ 82) first }
-    requires second { IsWithin (2 ^ 82) second }
-    requires third { IsWithin (2 ^ 82) third }
-    ensures some { IfSome result (IsWeightOf first second third) }
-    ensures none { IfNone result (are_covering first second third ≡ false) }
+/// By how much the edge values of a face change from a pixel to the next one of its row.
+pub(crate) fn steps_of(face: &Face) -> EdgeValues
+    ensures { AreSlopesOf face.now result }
 {
-    if first < 0 || second < 0 || third < 0 {
-        return None;
+    EdgeValues {
+        first: face.edges.e0.step(),
+        second: face.edges.e1.step(),
+        third: face.edges.e2.step(),
     }
-    let sum = first + second + third;
-    if sum > 0 {
-        Some(sum.unsigned_abs())
-    } else {
-        None
+}
+
+/// The edge values of a face that are small, from a pixel to another of its row.
+pub(crate) fn small_line(face: &Face, px: u16, end: u16, py: u16) -> NarrowLine
+    requires x { px < size_limit }
+    requires end { end < size_limit }
+    requires y { py < size_limit }
+    requires small { IsSmallFace face.now }
+    ensures { IsLineAt face.now px end py result }
+{
+    NarrowLine {
+        start: small_values_at(face, px, py),
+        last: small_values_at(face, end, py),
+        steps: small_steps_of(face),
     }
+}
+
+/// Small edge values of a face at a pixel.
+fn small_values_at(face: &Face, px: u16, py: u16) -> NarrowValues
+    requires x { px < size_limit }
+    requires y { py < size_limit }
+    requires small { IsSmallFace face.now }
+    ensures values { AreNarrowAt face.now px py result }
+    ensures bound { AreWithin (3 * 2 ^ 50) result.first result.second result.third }
+{
+    NarrowValues {
+        first: value(&face.edges.e0, px, py),
+        second: value(&face.edges.e1, px, py),
+        third: value(&face.edges.e2, px, py),
+    }
+}
+
+/// By how much small edge values of a face change from a pixel to the next one of its row.
+fn small_steps_of(face: &Face) -> NarrowValues
+    requires small { IsSmallFace face.now }
+    ensures slopes { AreNarrowSlopes face.now result }
+    ensures bound { AreWithin (2 ^ 40) result.first result.second result.third }
+{
+    NarrowValues {
+        first: step(&face.edges.e0),
+        second: step(&face.edges.e1),
+        third: step(&face.edges.e2),
+    }
+}
+
+/// The value of a small linear function at a pixel of a picture.
+#[inline(always)]
+pub(crate) fn value(linear: &Linear, px: u16, py: u16) -> i64
+    requires px { px < size_limit }
+    requires py { py < size_limit }
+    requires small { IsSmallLinear linear.now }
+    ensures value { result ≡ value_at linear.now px py }
+    ensures bound { IsWithin (3 * 2 ^ 50) result }
+{
+    small_value(linear.a, linear.b, linear.c, px, py)
+}
+
+/// By how much such a value changes from a pixel to the next one of its row.
+#[inline(always)]
+pub(crate) fn step(linear: &Linear) -> i64
+    requires { IsSmallLinear linear.now }
+    ensures value { result ≡ step_of linear.now }
+    ensures bound { IsWithin (2 ^ 40) result }
+{
+    small_step(linear.a)
 }

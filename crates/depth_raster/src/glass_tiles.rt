@@ -6,7 +6,7 @@ ghost use Rattle.depth_raster.specs.Pieces.{IsPieceOf, HasFace};
 ghost use Rattle.depth_raster.specs.Tiles.{glass_within, face_glazes, ColoursFollow};
 
 use crate::blocks::Block;
-use crate::edges::EdgeValues;
+use crate::edges::{steps_of, values_at};
 use crate::hiding::is_hidden;
 use crate::marks::Mark;
 use crate::means::Means;
@@ -92,8 +92,8 @@ fn glaze_row(
     if end <= start {
         return;
     }
-    let steps = EdgeValues::steps(face);
-    let mut values = EdgeValues::at(face, block.left + start, block.first + r);
+    let steps = steps_of(face);
+    let mut values = values_at(face, block.left + start, block.first + r);
     let mut means = Means::at(face, block.left + start, block.first + r, face.colours[0]);
     for q in start..end {
         let place = block.place(q, r);

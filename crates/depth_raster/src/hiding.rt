@@ -6,7 +6,7 @@ ghost use Rattle.tri_cover.specs.Linears.{value_at};
 ghost use Rattle.depth_raster.specs.Looks.{IsHidden, IsBelow};
 
 use crate::blocks::Block;
-use crate::looks::product;
+use edge_values::product;
 use tri_cover::{Face, Linear};
 
 /// Whether the edge values at the corners of a block tell that a face is hit nowhere in it before a depth. Their sum is asked

@@ -17,7 +17,6 @@ pub mod laws;
 mod looks;
 mod marks;
 mod means;
-mod narrow;
 mod opaque;
 mod painting;
 mod panes;

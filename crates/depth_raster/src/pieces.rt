@@ -6,9 +6,9 @@ ghost use Rattle.depth_raster.specs.Pieces.{IsMadeReady, AreMadeReady};
 
 use crate::extents::Extent;
 use crate::faces::Face;
-use crate::looks::about;
 use crate::small::is_small;
 use crate::work::are_many;
+use edge_values::about;
 use fx_math::Lens;
 use pf_model::Tri;
 use std::thread::{Threads, for_each_mut};

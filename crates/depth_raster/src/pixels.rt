@@ -2,20 +2,21 @@
 ghost use Rattle.std.specs.Prelude.{◌≡◌, ℕ, ◌+◌, ◌<◌, ◌^◌, IfSome};
 ghost use Rattle.std.specs.Option.{unwrap_or};
 ghost use Rattle.fx_math.specs.declared.lenses.Lens.{Lens};
+ghost use Rattle.edge_values.specs.Weights.{IsSmallWeight};
 ghost use Rattle.depth_raster.specs.Around.{IsWithin};
 ghost use Rattle.depth_raster.specs.Edges.{AreValuesAt};
 ghost use Rattle.depth_raster.specs.Faces.{glazed_by_face};
 ghost use Rattle.depth_raster.specs.Marks.{mark_over, behind_as};
 ghost use Rattle.depth_raster.specs.Means.{AreMeansAt, AreSmallMeans};
 ghost use Rattle.depth_raster.specs.Pieces.{IsPieceOf, HasFace};
-ghost use Rattle.depth_raster.specs.Weighed.{IsSmallWeight, IsWeighedAt, IsInnerSumAt};
+ghost use Rattle.depth_raster.specs.Weighed.{IsWeighedAt, IsInnerSumAt};
 
-use crate::edges::EdgeValues;
 use crate::glazing::blend;
 use crate::looks::{depth_inside, is_seen, look};
 use crate::marks::Mark;
 use crate::means::Means;
 use crate::pieces::Piece;
+use edge_values::EdgeValues;
 use tri_cover::Face;
 
 /// What a piece of a face makes of a mark at a pixel where the edge values of the face have this sum, if it is covered; none

@@ -3,13 +3,8 @@ ghost use Rattle.std.specs.Prelude.{IsTrue};
 ghost use Rattle.std.specs.Option.{ForSome};
 ghost use Rattle.depth_raster.specs.Small.{IsSmallLinear, IsSmallFace};
 
+use edge_values::are_small;
 use tri_cover::{Face, Linear};
-
-/// The greatest magnitude of the coefficients of a column and a row in a small edge value, 2^39.
-const MOST_SLOPE: u64 = 549_755_813_888;
-
-/// The greatest magnitude of a small edge value's constant, 2^50. At the pixels of a picture it has at most 2^52 then.
-const MOST_CONSTANT: u128 = 1_125_899_906_842_624;
 
 /// Whether the edge values of a face are small, where there is one.
 pub(crate) fn is_small(ready: &Option<Face>) -> bool
@@ -32,7 +27,5 @@ fn is_small_face(face: &Face) -> bool
 fn is_small_linear(linear: &Linear) -> bool
     ensures { IsTrue result → IsSmallLinear linear.now }
 {
-    linear.a.unsigned_abs() <= MOST_SLOPE
-        && linear.b.unsigned_abs() <= MOST_SLOPE
-        && linear.c.unsigned_abs() <= MOST_CONSTANT
+    are_small(linear.a, linear.b, linear.c)
 }

@@ -1,13 +1,13 @@
 //! The colours of small faces along a row, in 64 bits.
-ghost use Rattle.std.specs.Prelude.{◌≡◌, ◌<◌, ◌^◌};
+ghost use Rattle.std.specs.Prelude.{◌<◌};
 ghost use Rattle.fx_math.specs.Limits.{size_limit};
-ghost use Rattle.fx_math.specs.Within.{IsWithin};
-ghost use Rattle.tri_cover.specs.Linears.{value_at, step_of};
 ghost use Rattle.span_shading.specs.Sums.{IsSumOf};
-ghost use Rattle.depth_raster.specs.Mixing.{AreBytes, AreColours};
+ghost use Rattle.span_shading.specs.Mixing.{AreBytes};
+ghost use Rattle.depth_raster.specs.Mixing.{AreColours};
 ghost use Rattle.depth_raster.specs.Shading.{IsLineAt, IsSpanAt, AreMixes};
 ghost use Rattle.depth_raster.specs.Small.{IsSmallLinear, IsSmallFace};
 
+use crate::edges::{step, value};
 use span_shading::{Line, Span, Sum, Weight};
 use tri_cover::{Face, Linear};
 
@@ -38,26 +38,6 @@ fn line_at(edge: &Linear, px: u16, py: u16) -> Line
         here: value(edge, px, py),
         step: step(edge),
     }
-}
-
-#[inline(always)]
-fn value(edge: &Linear, px: u16, py: u16) -> i64
-    requires small { IsSmallLinear edge.now }
-    requires x { px < size_limit }
-    requires y { py < size_limit }
-    ensures value { result ≡ value_at edge.now px py }
-    ensures bound { IsWithin (2 ^ 52) result }
-{
-    edge.at(px, py) as i64
-}
-
-#[inline(always)]
-fn step(edge: &Linear) -> i64
-    requires { IsSmallLinear edge.now }
-    ensures value { result ≡ step_of edge.now }
-    ensures bound { IsWithin (2 ^ 40) result }
-{
-    edge.step() as i64
 }
 
 /// The channels of vertices, weighed by three edge values.

@@ -1,9 +1,10 @@
 //! The channels of a face's vertices, each weighed by its edge value.
-ghost use Rattle.std.specs.Prelude.{◌≡◌, ◌<◌, ◌^◌, pos, ◌+ℤ◌, ◌*ℤ◌};
+ghost use Rattle.std.specs.Prelude.{◌<◌, ◌^◌};
 ghost use Rattle.fx_math.specs.Limits.{size_limit};
 ghost use Rattle.fx_math.specs.Within.{IsWithin};
-ghost use Rattle.depth_raster.specs.Mixing.{mix, AreBytes, AreColours};
+ghost use Rattle.depth_raster.specs.Mixing.{AreColours};
 
+use span_shading::wide_mix;
 use tri_cover::Face;
 
 /// The weighed sums of a face's channels: at a pixel, or by how much they change from a pixel to the next one of its row.
@@ -56,42 +57,9 @@ impl Sums {
     {
         let [x, y, z] = *colours;
         Sums {
-            red: mix(x[0], y[0], z[0], first, second, third),
-            green: mix(x[1], y[1], z[1], first, second, third),
-            blue: mix(x[2], y[2], z[2], first, second, third),
+            red: wide_mix(x[0], y[0], z[0], first, second, third),
+            green: wide_mix(x[1], y[1], z[1], first, second, third),
+            blue: wide_mix(x[2], y[2], z[2], first, second, third),
         }
     }
-}
-
-/// Three values of a channel, weighed by three numbers.
-#[inline(always)]
-fn mix(x: u8, y: u8, z: u8, first: i128, second: i128, third: i128) -> i128
-    requires first { IsWithin (2 ^ 82) first }
-    requires second { IsWithin (2 ^ 82) second }
-    requires third { IsWithin (2 ^ 82) third }
-    ensures value { result ≡ mix x y z first second third }
-    ensures bound { IsWithin (2 ^ 92) result }
-    ensures bytes { AreBytes x y z }
-{
-    sum_of(weighed(x, first), weighed(y, second), weighed(z, third))
-}
-
-#[inline(always)]
-fn weighed(channel: u8, number: i128) -> i128
-    requires { IsWithin (2 ^ 82) number }
-    ensures value { result ≡ pos channel *ℤ number }
-    ensures bound { IsWithin (2 ^ 90) result }
-{
-    i128::from(channel) * number
-}
-
-#[inline(always)]
-fn sum_of(x: i128, y: i128, z: i128) -> i128
-    requires x { IsWithin (2 ^ 90) x }
-    requires y { IsWithin (2 ^ 90) y }
-    requires z { IsWithin (2 ^ 90) z }
-    ensures value { result ≡ x +ℤ y +ℤ z }
-    ensures bound { IsWithin (2 ^ 92) result }
-{
-    x + y + z
 }

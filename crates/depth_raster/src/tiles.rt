@@ -2,6 +2,7 @@
 ghost use Rattle.std.specs.Prelude.{◌≡◌, ℕ, ◌+◌, ◌-◌, ◌<◌, ◌≤◌, ◌^◌, true, All, IfSome, length, slice_set, slice_index_or};
 ghost use Rattle.fx_math.specs.Limits.{size_limit};
 ghost use Rattle.fx_math.specs.declared.lenses.Lens.{Lens};
+ghost use Rattle.edge_values.specs.Weights.{IsSmallWeight};
 ghost use Rattle.depth_raster.specs.Around.{IsWithin};
 ghost use Rattle.depth_raster.specs.Blocks.{IsBlockOf, size_of};
 ghost use Rattle.depth_raster.specs.Following.{Follows, RowFollows, SpanRelates};
@@ -12,18 +13,18 @@ ghost use Rattle.depth_raster.specs.Runs.{IsRunOf};
 ghost use Rattle.depth_raster.specs.Small.{IsSmallFace};
 ghost use Rattle.depth_raster.specs.Spans.{LiesIn, becomes};
 ghost use Rattle.depth_raster.specs.Tiles.{mark_in, within, face_over, IsNoNearer, MarksFollow};
-ghost use Rattle.depth_raster.specs.Weighed.{IsSmallWeight, IsWeighedAt, IsInnerSumAt, AreInnerTo};
+ghost use Rattle.depth_raster.specs.Weighed.{IsWeighedAt, IsInnerSumAt, AreInnerTo};
 
 use crate::blocks::Block;
-use crate::edges::EdgeValues;
+use crate::edges::{small_line, steps_of, values_at};
 use crate::hiding::{is_beyond, is_hidden};
 use crate::last::is_after;
 use crate::marks::Mark;
-use crate::narrow::{NarrowLine, NarrowValues};
 use crate::pieces::Piece;
 use crate::pixels::{limit, nearer, nearer_inside};
 use crate::runs::Run;
 use crate::tile::Tile;
+use edge_values::{NarrowLine, NarrowValues};
 use fx_math::Lens;
 use tri_cover::Face;
 
@@ -165,7 +166,7 @@ fn line_of(piece: &Piece, face: &Face, px: u16, end: u16, py: u16) -> Option<Nar
     ensures { IfSome result (IsLineAt face.now px end py) }
 {
     if piece.small {
-        Some(NarrowLine::small(face, px, end, py))
+        Some(small_line(face, px, end, py))
     } else {
         judged_line(face, px, end, py)
     }
@@ -181,9 +182,9 @@ fn judged_line(face: &Face, px: u16, end: u16, py: u16) -> Option<NarrowLine>
     ensures { IfSome result (IsLineAt face.now px end py) }
 {
     NarrowLine::of(
-        &EdgeValues::at(face, px, py),
-        &EdgeValues::at(face, end, py),
-        &EdgeValues::steps(face),
+        &values_at(face, px, py),
+        &values_at(face, end, py),
+        &steps_of(face),
     )
 }
 
@@ -292,8 +293,8 @@ fn draw_wide(marks: &mut [Mark], block: &Block, lens: &Lens, piece: &Piece, face
     ensures { SpanRelates block.now (mark_in block.now marks.old) (mark_in block.now marks.new)
         (becomes (within block.now (face_over lens.now piece.now.face))) run.now.r run.now.start run.now.end }
 {
-    let steps = EdgeValues::steps(face);
-    let mut values = EdgeValues::at(face, block.left + run.start, block.first + run.r);
+    let steps = steps_of(face);
+    let mut values = values_at(face, block.left + run.start, block.first + run.r);
     for q in run.start..run.end {
         draw_pixel(marks, block.place(q, run.r), piece, face, values.covered());
         values = values.plus(&steps);

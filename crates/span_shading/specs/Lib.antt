@@ -1,3 +1,4 @@
+pub mod Means
 pub mod Mixing
 pub mod Quotients
 pub mod Spans

@@ -41,7 +41,7 @@ impl Sum {
     {
         Sum {
             here: mixed(x, y, z, first.here, second.here, third.here),
-            step: mixed_step(x, y, z, first.step, second.step, third.step),
+            step: mixed(x, y, z, first.step, second.step, third.step),
         }
     }
 
@@ -78,7 +78,7 @@ impl Weight {
     {
         Weight {
             here: total(first.here, second.here, third.here),
-            step: total_step(first.step, second.step, third.step),
+            step: total(first.step, second.step, third.step),
         }
     }
 
@@ -101,11 +101,11 @@ impl Weight {
         ensures value { result ≡ ahead self.now.here self.now.step count }
         ensures bound { IsWithin (15 * 2 ^ 50) result }
     {
-        self.here + near(self.step, count)
+        self.here + far(self.step, count)
     }
 }
 
-/// Three values of a channel, weighed by three numbers.
+/// Three values of a channel, weighed by three edge values or by their steps.
 #[inline(always)]
 fn mixed(x: u8, y: u8, z: u8, first: i64, second: i64, third: i64) -> i64
     requires first { IsWithin (2 ^ 52) first }
@@ -137,42 +137,7 @@ fn sum_of(x: i64, y: i64, z: i64) -> i64
     x + y + z
 }
 
-/// The same for steps, which are smaller.
-#[inline(always)]
-fn mixed_step(x: u8, y: u8, z: u8, first: i64, second: i64, third: i64) -> i64
-    requires first { IsWithin (2 ^ 40) first }
-    requires second { IsWithin (2 ^ 40) second }
-    requires third { IsWithin (2 ^ 40) third }
-    ensures value { result ≡ mix x y z first second third }
-    ensures bound { IsWithin (3 * 2 ^ 48) result }
-{
-    sum_of_steps(
-        weighed_step(x, first),
-        weighed_step(y, second),
-        weighed_step(z, third),
-    )
-}
-
-#[inline(always)]
-fn weighed_step(channel: u8, number: i64) -> i64
-    requires { IsWithin (2 ^ 40) number }
-    ensures value { result ≡ pos channel *ℤ number }
-    ensures bound { IsWithin (2 ^ 48) result }
-{
-    i64::from(channel) * number
-}
-
-#[inline(always)]
-fn sum_of_steps(x: i64, y: i64, z: i64) -> i64
-    requires x { IsWithin (2 ^ 48) x }
-    requires y { IsWithin (2 ^ 48) y }
-    requires z { IsWithin (2 ^ 48) z }
-    ensures value { result ≡ x +ℤ y +ℤ z }
-    ensures bound { IsWithin (3 * 2 ^ 48) result }
-{
-    x + y + z
-}
-
+/// The sum of three edge values or of their steps.
 #[inline(always)]
 fn total(x: i64, y: i64, z: i64) -> i64
     requires x { IsWithin (2 ^ 52) x }
@@ -184,35 +149,13 @@ fn total(x: i64, y: i64, z: i64) -> i64
     x + y + z
 }
 
-#[inline(always)]
-fn total_step(x: i64, y: i64, z: i64) -> i64
-    requires x { IsWithin (2 ^ 40) x }
-    requires y { IsWithin (2 ^ 40) y }
-    requires z { IsWithin (2 ^ 40) z }
-    ensures value { result ≡ x +ℤ y +ℤ z }
-    ensures bound { IsWithin (3 * 2 ^ 40) result }
-{
-    x + y + z
-}
-
-/// By how much a weighed sum changes over so many pixels.
+/// By how much a number changes over so many pixels.
 #[inline(always)]
 fn far(step: i64, count: u16) -> i64
     requires step { IsWithin (3 * 2 ^ 48) step }
     requires count { count < 2 ^ 10 }
     ensures value { result ≡ step *ℤ pos count }
     ensures bound { IsWithin (3 * 2 ^ 58) result }
-{
-    step * i64::from(count)
-}
-
-/// By how much a weight changes over so many pixels.
-#[inline(always)]
-fn near(step: i64, count: u16) -> i64
-    requires step { IsWithin (3 * 2 ^ 40) step }
-    requires count { count < 2 ^ 10 }
-    ensures value { result ≡ step *ℤ pos count }
-    ensures bound { IsWithin (3 * 2 ^ 50) result }
 {
     step * i64::from(count)
 }

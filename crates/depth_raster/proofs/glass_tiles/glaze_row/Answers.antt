@@ -20,7 +20,7 @@ loop-q-init c =
       drawn = pixels_skipped b (colour_in b a.colours.now) (glass_within b a.marks.now (face_glazes a.lens.now f)) a.r c.columns_from-start.result
           (λ q before column. glazed_missed a.lens.now (b.left + q) (b.first + a.r) f (behind_as (mark_in b a.marks.now q a.r)) (colour_in b a.colours.now q a.r)
           (c.requires.ready.extent.left_of (b.left + q) (b.first + a.r) (omega (arith, column, c.requires.block.columns)) (omega (arith, c.requires.row, c.requires.block.rows)) (omega (arith, before, c.columns_from-start.ensures))));
-      values = c.at-values.ensures;
+      values = c.values_at-values.ensures;
       means = c.at-means.ensures;
     }
 
@@ -52,7 +52,7 @@ loop-q-preserved c =
           ∙ ap (λ (j : ℕ). face_glazes a.lens.now a.piece.now.face (b.left + q) (b.first + a.r) (get_or a.marks.now j no_mark) (get_or c.loop-q.colours place []))
           c.place-place.ensures);
       values = subst (λ (n : ℕ). AreValuesAt a.face.now n (b.first + a.r) c.plus-values.result) (omega arith)
-          (values_next a.face.now (b.left + q) (b.first + a.r) c.loop-q.values c.steps-steps.result c.plus-values.result c.loop-q.invariant.values c.steps-steps.ensures c.plus-values.ensures);
+          (values_next a.face.now (b.left + q) (b.first + a.r) c.loop-q.values c.steps_of-steps.result c.plus-values.result c.loop-q.invariant.values c.steps_of-steps.ensures c.plus-values.ensures);
       means = subst (λ (n : ℕ). AreMeansAt a.face.now n (b.first + a.r) c.advance.new.self) (omega arith)
           (c.advance.ensures a.face.now (b.left + q) (b.first + a.r) (c.glazed-glazed.ensures.means (b.left + q) (b.first + a.r) c.loop-q.invariant.means));
     }
@@ -61,7 +61,7 @@ pub plus-values-requires : goal.plus-values-requires
 plus-values-requires c =
     let a = c.args in
     let b = a.block.now in
-    values_fit a.face.now (b.left + c.loop-q.q) (b.first + a.r) c.loop-q.values c.steps-steps.result c.loop-q.invariant.values c.steps-steps.ensures
+    values_fit a.face.now (b.left + c.loop-q.q) (b.first + a.r) c.loop-q.values c.steps_of-steps.result c.loop-q.invariant.values c.steps_of-steps.ensures
     (omega (arith, c.columns_to-end.ensures, c.requires.block.columns, a.lens.now.in_range.most_width)) (omega (arith, c.requires.row, c.requires.block.rows, a.lens.now.in_range.most_height))
 
 pub advance-requires : goal.advance-requires

@@ -2,7 +2,7 @@ use Rattle.std.proofs.Common.{◌≡◌, ℕ, Option, true, false, sym, ◌∙�
 use Rattle.std.specs.Option.{IfSome, IfNone}
 use Rattle.std.proofs.lemmas.Bool.{both_ways}
 use Rattle.tri_cover.specs.Faces.{is_covered}
-use Rattle.depth_raster.specs.Weights.{are_covering, IsWeightOf}
+use Rattle.edge_values.specs.Weights.{are_covering, IsWeightOf}
 use Rattle.depth_raster.proofs.Edged.{covering, weight_is}
 use Rattle.depth_raster.proofs.Looking.{hit_parts, seen}
 use Rattle.depth_raster.proofs.looks.is_seen.Goals as goal
@@ -14,7 +14,7 @@ returns-in-Some c = λ px py are inside.
     let v = a.values.now in
     let sum = subst (λ (o : Option ℕ). IfSome o (IsWeightOf v.first v.second v.third)) c.in-Some.is c.covered.ensures.some in
     let covered : is_covered f px py ≡ true = sym (covering f px py v are) ∙ sum.covering in
-    seen f px py a.limit c.in-Some.sum c.is_before.result inside covered (weight_is f px py c.in-Some.sum v are sum) c.is_before.ensures
+    seen f px py a.limit c.in-Some.sum c.depths_of.result c.are_before.result inside covered (weight_is f px py c.in-Some.sum v are sum) c.depths_of.ensures c.are_before.ensures
 
 pub returns-in-None : goal.returns-in-None
 returns-in-None c = λ px py are inside h hits.

@@ -2,7 +2,7 @@ use Rattle.std.proofs.Common.{◌+◌, ◌-◌, Option, subst, arith}
 use Rattle.std.specs.Option.{IfSome}
 use Rattle.depth_raster.specs.Narrow.{IsLineAt}
 use Rattle.depth_raster.specs.Tiles.{mark_in, within, face_over}
-use Rattle.depth_raster.specs.declared.narrow.NarrowLine.{NarrowLine}
+use Rattle.edge_values.specs.declared.narrow.NarrowLine.{NarrowLine}
 use Rattle.depth_raster.proofs.Skipped.{missed_left, missed_right, pixels_skipped, pixels_rest}
 use Rattle.depth_raster.proofs.Spanned.{row_by_span}
 use Rattle.depth_raster.proofs.tiles.draw_row.Goals as goal

@@ -2,7 +2,7 @@ use Rattle.std.proofs.Common.{ℕ, Option, get_or, set, ap, sym, ◌∙◌, subs
 use Rattle.std.specs.Option.{IfSome, IfNone}
 use Rattle.std.proofs.lemmas.List.{set-get_or}
 use Rattle.depth_raster.specs.Marks.{no_mark}
-use Rattle.depth_raster.specs.Weighed.{AreInner, IsInnerSum}
+use Rattle.edge_values.specs.Weights.{AreInner, IsInnerSum}
 use Rattle.depth_raster.proofs.Looking.{not_inner}
 use Rattle.depth_raster.proofs.Readied.{face_hits}
 use Rattle.depth_raster.proofs.Skipped.{mark_missed}

@@ -17,7 +17,7 @@ loop-q-init c =
     let b = a.block.now in
     record {
       drawn = none_spanned b (mark_in b a.marks.now) (becomes (within b (face_over a.lens.now a.piece.now.face))) a.run.now.r a.run.now.start;
-      values = c.at-values.ensures;
+      values = c.values_at-values.ensures;
     }
 
 pub draw_pixel-requires-clause-weight : goal.draw_pixel-requires-clause-weight
@@ -50,14 +50,14 @@ loop-q-preserved c =
           (span_written (λ (m : Mark). m) no_mark b (mark_in b a.marks.now) c.loop-q.marks (becomes g) r a.run.now.start q place (g q r (get_or c.loop-q.marks place no_mark))
           c.loop-q.invariant.drawn (omega (arith, c.requires.len)) (omega (arith, c.loop-q.auto.q)) column c.requires.run.row c.place.ensures refl);
       values = subst (λ (n : ℕ). AreValuesAt f n (b.first + r) c.plus-values.result) (omega arith)
-          (values_next f (b.left + q) (b.first + r) v c.steps-steps.result c.plus-values.result are c.steps-steps.ensures c.plus-values.ensures);
+          (values_next f (b.left + q) (b.first + r) v c.steps_of-steps.result c.plus-values.result are c.steps_of-steps.ensures c.plus-values.ensures);
     }
 
 pub plus-values-requires : goal.plus-values-requires
 plus-values-requires c =
     let a = c.args in
     let b = a.block.now in
-    values_fit a.face.now (b.left + c.loop-q.q) (b.first + a.run.now.r) c.loop-q.values c.steps-steps.result c.loop-q.invariant.values c.steps-steps.ensures
+    values_fit a.face.now (b.left + c.loop-q.q) (b.first + a.run.now.r) c.loop-q.values c.steps_of-steps.result c.loop-q.invariant.values c.steps_of-steps.ensures
     (omega (arith, c.loop-q-test.true, c.requires.run.within, c.requires.block.columns, a.lens.now.in_range.most_width)) (omega (arith, c.requires.run.row, c.requires.block.rows, a.lens.now.in_range.most_height))
 
 pub returns : goal.returns

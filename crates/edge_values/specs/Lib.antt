@@ -1,0 +1,5 @@
+pub mod Narrow
+pub mod Seen
+pub mod Small
+pub mod Steps
+pub mod Weights
