@@ -5,7 +5,7 @@ use Rattle.fx_math.specs.declared.lenses.Lens.{Lens}
 use Rattle.tri_cover.specs.Picture.{nearer}
 use Rattle.depth_raster.specs.Blocks.{IsBlockOf, colour_in}
 use Rattle.depth_raster.specs.Marks.{seen_as}
-use Rattle.depth_raster.specs.Pieces.{AreRanked, fragments_by, pieces_over, IsColoured, settled}
+use Rattle.depth_raster.specs.Pieces.{AreRanked, fragments_by, pieces_over, IsColoured}
 use Rattle.depth_raster.specs.Slots.{slots_over}
 use Rattle.depth_raster.specs.Strips.{AreTilesOf, TilesRelate, IsStripOf, StripRelates}
 use Rattle.depth_raster.specs.Tiles.{mark_in, MarksFollow, IsPainted, IsAt, IsBegun, IsDrawn, IsDrawnFrom}
@@ -24,13 +24,13 @@ AreOver lens ps ss t = (q r : ℕ) → IsAt t q r → (m : Mark) → slots_over 
 
 -- one pixel of a tile: its mark before, with the pieces, and after; its colour before and after
 record IsPixelDrawn (lens : Lens) (px py : ℕ) (back : List ℕ) (ps : List Piece) (m n : Mark) (c d : List ℕ) : Type 0 where
-  marked : n ≡ settled (pieces_over lens ps px py m)
+  marked : n ≡ pieces_over lens ps px py m
   coloured : IsColoured lens px py back ps (pieces_over lens ps px py m) c d
 
 pixel_drawn : (lens : Lens) (back : List ℕ) (ps : List Piece) (ss : List Slot) (a b c : Tile) → AreOver lens ps ss a → MarksFollow (slots_over lens ps ss) a b → IsPainted lens back ps b c → (q r : ℕ) → IsAt a q r →
     IsPixelDrawn lens (a.block.left + q) (a.block.first + r) back ps (mark_in a.block a.marks.items q r) (mark_in c.block c.marks.items q r) (colour_in a.block a.colours.items q r) (colour_in c.block c.colours.items q r)
 pixel_drawn lens back ps ss a b c slots h k q r at = record {
-  marked = ap (λ (d : Block). mark_in d c.marks.items q r) k.block ∙ k.marks q r column row ∙ ap settled marked;
+  marked = ap (λ (d : Block). mark_in d c.marks.items q r) k.block ∙ ap (λ (ms : List Mark). mark_in b.block ms q r) k.marks ∙ marked;
   coloured =
       subst (λ (d : Block). IsColoured lens px py back ps over (colour_in a.block a.colours.items q r) (colour_in d c.colours.items q r)) (sym k.block)
       (subst (λ (cs : List (List ℕ)). IsColoured lens px py back ps over (colour_in a.block cs q r) (colour_in b.block c.colours.items q r)) h.colours
@@ -67,7 +67,6 @@ tile_drawn_over lens back ps ss a b c slots ranks h k = record {
   seen = λ q r at none.
       pixel_seen lens (a.block.left + q) (a.block.first + r) back ps (mark_in a.block a.marks.items q r) (mark_in c.block c.marks.items q r)
       (colour_in a.block a.colours.items q r) (colour_in c.block c.colours.items q r) ranks none (pixel_drawn lens back ps ss a b c slots h k q r at);
-  settled = λ q r at. ap (λ (m : Mark). m.rank) (pixel_drawn lens back ps ss a b c slots h k q r at).marked;
   blank = λ q r at none blank.
       let px = a.block.left + q in
       let py = a.block.first + r in
@@ -80,7 +79,7 @@ tile_drawn_over lens back ps ss a b c slots ranks h k = record {
 -- ---- a drawing and how it starts
 begun_block : (first : Bool) (t start : Tile) → IsBegun first t start → start.block ≡ t.block
 begun_block true t start begun = (begun.cleared refl).block
-begun_block false t start begun = ap (λ (u : Tile). u.block) (begun.kept refl)
+begun_block false t start begun = (begun.settled refl).block
 
 pub drawn_block : (lens : Lens) (back : List ℕ) (ps : List Piece) (first : Bool) (before after : Tile) → IsDrawnFrom lens back ps first before after → after.block ≡ before.block
 drawn_block lens back ps first before after h = h.drawn.block ∙ begun_block first before h.start h.begun

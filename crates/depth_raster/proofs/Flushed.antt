@@ -3,17 +3,16 @@ use Rattle.std.proofs.Common.{◌≡◌, ℕ, ◌+◌, ◌%◌, ◌<◌, Bool, t
 use Rattle.std.specs.Prelude.{fold}
 use Rattle.std.specs.Option.{option_map_or}
 use Rattle.std.specs.List.{cons_option}
-use Rattle.std.proofs.lemmas.Bool.{false≢true}
 use Rattle.std.proofs.lemmas.List.Elements.{filter_map-append}
 use Rattle.std.proofs.lemmas.List.Sums.{fold-append}
 use Rattle.fx_math.specs.declared.lenses.Lens.{Lens}
 use Rattle.tri_cover.specs.Picture.{Fragment, nearer}
 use Rattle.depth_raster.specs.Batches.{IsWithFace}
 use Rattle.depth_raster.specs.Blocks.{colour_in}
-use Rattle.depth_raster.specs.Canvas.{tile_at, seen_at, seen_from, mark_at, colour_at, IsOpen, IsUnderway, drawn_with, Draws, face_drawn}
+use Rattle.depth_raster.specs.Canvas.{tile_at, seen_at, seen_from, mark_at, colour_at, drawn_with, Draws, face_drawn}
 use Rattle.depth_raster.specs.Faces.{fragment_by, over}
 use Rattle.depth_raster.specs.Marks.{nothing, no_mark, seen_as}
-use Rattle.depth_raster.specs.Pieces.{fragments_by}
+use Rattle.depth_raster.specs.Pieces.{fragments_by, settled}
 use Rattle.depth_raster.specs.Strips.{StripsRelate, AreStrips}
 use Rattle.depth_raster.specs.Tiles.{mark_in, seen_in, IsAt, IsCleared, IsBegun, IsDrawn, IsDrawnFrom}
 use Rattle.depth_raster.specs.declared.blocks.Block.{Block}
@@ -48,8 +47,8 @@ record StartsAt (first : Bool) (before : List Strip) (px py : ℕ) (t start : Ti
 cleared_mark : (t start : Tile) (q r : ℕ) → IsCleared t start → IsAt t q r → mark_in start.block start.marks.items q r ≡ nothing
 cleared_mark t start q r is at = ap (λ (d : Block). mark_in d start.marks.items q r) is.block ∙ is.marks q r at.column at.row
 
-starts_at : (lens : Lens) (before : List Strip) (px py : ℕ) (first : Bool) (t start : Tile) → IsUnderway lens first before → px < lens.w → py < lens.h → IsTileAt before px py t → IsBegun first t start → StartsAt first before px py t start
-starts_at lens before px py true t start opened column row at begun =
+starts_at : (lens : Lens) (before : List Strip) (px py : ℕ) (first : Bool) (t start : Tile) → AreStrips lens before → px < lens.w → py < lens.h → IsTileAt before px py t → IsBegun first t start → StartsAt first before px py t start
+starts_at lens before px py true t start are column row at begun =
     let is = begun.cleared refl in
     let mark = cleared_mark t start (px % 16) (py % 16) is at.at in
     record {
@@ -57,12 +56,21 @@ starts_at lens before px py true t start opened column row at begun =
       unranked = ap (λ (m : Mark). m.rank) mark;
       seen = ap (λ (m : Mark). seen_as m (colour_in start.block start.colours.items (px % 16) (py % 16))) mark;
     }
-starts_at lens before px py false t start opened column row at begun =
-    let is = begun.kept refl in
+starts_at lens before px py false t start are column row at begun =
+    let is = begun.settled refl in
+    let q = px % 16 in
+    let r = py % 16 in
+    let mark : mark_in start.block start.marks.items q r ≡ settled (mark_in t.block t.marks.items q r) =
+    ap (λ (d : Block). mark_in d start.marks.items q r) is.block ∙ is.marks q r at.at.column at.at.row in
+    let colour : colour_in start.block start.colours.items q r ≡ colour_in t.block t.colours.items q r =
+    ap (λ (d : Block). colour_in d start.colours.items q r) is.block ∙ ap (λ (cs : List (List ℕ)). colour_in t.block cs q r) is.colours in
     record {
-      block = ap (λ (u : Tile). u.block) is;
-      unranked = ap (λ (u : Tile). (mark_in u.block u.marks.items (px % 16) (py % 16)).rank) is ∙ ap (λ (m : Mark). m.rank) (sym (mark_is before px py t at.is)) ∙ opened.unranked refl px py column row;
-      seen = ap (λ (u : Tile). seen_in u (px % 16) (py % 16)) is ∙ sym (seen_is before px py t at.is);
+      block = is.block;
+      unranked = ap (λ (m : Mark). m.rank) mark;
+      seen =
+          ap (λ (m : Mark). seen_as m (colour_in start.block start.colours.items q r)) mark
+          ∙ ap (λ (c : List ℕ). seen_as (mark_in t.block t.marks.items q r) c) colour
+          ∙ sym (seen_is before px py t at.is);
     }
 
 -- a pixel before and after a drawing: its tile as the drawing starts, and then
@@ -77,11 +85,11 @@ record IsDrawnAt (lens : Lens) (back : List ℕ) (ps : List Piece) (first : Bool
   is : tile_at after px py ≡ Some new
   drawn : IsDrawn lens back ps start new
 
-drawn_at : (lens : Lens) (back : List ℕ) (ps : List Piece) (first : Bool) (before after : List Strip) → IsUnderway lens first before → length after ≡ length before → StripsRelate (IsDrawnFrom lens back ps first) before after → (px py : ℕ) → px < lens.w → py < lens.h → IsDrawnAt lens back ps first before after px py
-drawn_at lens back ps first before after opened long each px py column row =
-    let at = tiles_at (IsDrawnFrom lens back ps first) lens before after opened.parts long each px py column row in
+drawn_at : (lens : Lens) (back : List ℕ) (ps : List Piece) (first : Bool) (before after : List Strip) → AreStrips lens before → length after ≡ length before → StripsRelate (IsDrawnFrom lens back ps first) before after → (px py : ℕ) → px < lens.w → py < lens.h → IsDrawnAt lens back ps first before after px py
+drawn_at lens back ps first before after are long each px py column row =
+    let at = tiles_at (IsDrawnFrom lens back ps first) lens before after are long each px py column row in
     let h = at.related in
-    let starts = starts_at lens before px py first at.old h.start opened column row at.stands h.begun in
+    let starts = starts_at lens before px py first at.old h.start are column row at.stands h.begun in
     record {
       start = h.start;
       new = at.new;
@@ -97,9 +105,9 @@ drawn_at lens back ps first before after opened long each px py column row =
       drawn = h.drawn;
     }
 
-pub flushed_seen : (lens : Lens) (back : List ℕ) (ps : List Piece) (first : Bool) (before after : List Strip) → IsUnderway lens first before → length after ≡ length before → StripsRelate (IsDrawnFrom lens back ps first) before after → (px py : ℕ) → px < lens.w → py < lens.h → seen_at after px py ≡ drawn_with lens first before ps px py
-flushed_seen lens back ps first before after opened long each px py column row =
-    let at = drawn_at lens back ps first before after opened long each px py column row in
+pub flushed_seen : (lens : Lens) (back : List ℕ) (ps : List Piece) (first : Bool) (before after : List Strip) → AreStrips lens before → length after ≡ length before → StripsRelate (IsDrawnFrom lens back ps first) before after → (px py : ℕ) → px < lens.w → py < lens.h → seen_at after px py ≡ drawn_with lens first before ps px py
+flushed_seen lens back ps first before after are long each px py column row =
+    let at = drawn_at lens back ps first before after are long each px py column row in
     let q = px % 16 in
     let r = py % 16 in
     seen_is after px py at.new at.is
@@ -108,30 +116,16 @@ flushed_seen lens back ps first before after opened long each px py column row =
     ∙ ap (λ (x : ℕ). fold nearer (seen_from first before px py) (fragments_by lens x (at.start.block.first + r) ps)) at.left
     ∙ ap (λ (y : ℕ). fold nearer (seen_from first before px py) (fragments_by lens px y ps)) at.top
 
-pub flushed_open : (lens : Lens) (back : List ℕ) (ps : List Piece) (first : Bool) (before after : List Strip) → IsUnderway lens first before → length after ≡ length before → StripsRelate (IsDrawnFrom lens back ps first) before after → IsOpen lens after
-flushed_open lens back ps first before after opened long each = record {
-  parts = strips_kept (IsDrawnFrom lens back ps first) lens before after (λ s t h. drawn_block lens back ps first s t h) opened.parts long each;
-  unranked = λ px py column row.
-      let at = drawn_at lens back ps first before after opened long each px py column row in
-      ap (λ (m : Mark). m.rank) (mark_is after px py at.new at.is) ∙ at.drawn.settled (px % 16) (py % 16) at.at;
-}
+pub flushed_open : (lens : Lens) (back : List ℕ) (ps : List Piece) (first : Bool) (before after : List Strip) → AreStrips lens before → length after ≡ length before → StripsRelate (IsDrawnFrom lens back ps first) before after → AreStrips lens after
+flushed_open lens back ps first before after are long each = strips_kept (IsDrawnFrom lens back ps first) lens before after (λ s t h. drawn_block lens back ps first s t h) are long each
 
-pub flushed_blank : (lens : Lens) (back : List ℕ) (ps : List Piece) (first : Bool) (before after : List Strip) → IsUnderway lens first before → length after ≡ length before → StripsRelate (IsDrawnFrom lens back ps first) before after → (px py : ℕ) → px < lens.w → py < lens.h → seen_at after px py ≡ None → colour_at after px py ≡ back
-flushed_blank lens back ps first before after opened long each px py column row none =
-    let at = drawn_at lens back ps first before after opened long each px py column row in
+pub flushed_blank : (lens : Lens) (back : List ℕ) (ps : List Piece) (first : Bool) (before after : List Strip) → AreStrips lens before → length after ≡ length before → StripsRelate (IsDrawnFrom lens back ps first) before after → (px py : ℕ) → px < lens.w → py < lens.h → seen_at after px py ≡ None → colour_at after px py ≡ back
+flushed_blank lens back ps first before after are long each px py column row none =
+    let at = drawn_at lens back ps first before after are long each px py column row in
     colour_is after px py at.new at.is
     ∙ at.drawn.blank (px % 16) (py % 16) at.at at.unranked (sym (seen_is after px py at.new at.is) ∙ none)
 
 -- before the first drawing nothing is seen, and afterwards the marks count
-pub underway_first : (lens : Lens) (first : Bool) (strips : List Strip) → first ≡ true → AreStrips lens strips → IsUnderway lens first strips
-underway_first lens first strips is are = record {
-  parts = are;
-  unranked = λ later. absurd (false≢true (sym later ∙ is));
-}
-
-pub underway_later : (lens : Lens) (first : Bool) (strips : List Strip) → IsOpen lens strips → IsUnderway lens first strips
-underway_later lens first strips opened = record { parts = opened.parts; unranked = λ later. opened.unranked }
-
 pub first_seen : (lens : Lens) (first : Bool) (strips : List Strip) (ps : List Piece) (px py : ℕ) → first ≡ true → ps ≡ [] → drawn_with lens first strips ps px py ≡ None
 first_seen lens first strips ps px py is empty =
     ap (λ (b : Bool). drawn_with lens b strips ps px py) is ∙ ap (λ (qs : List Piece). drawn_with lens true strips qs px py) empty

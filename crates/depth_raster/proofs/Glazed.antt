@@ -7,7 +7,7 @@ use Rattle.fx_math.specs.declared.lenses.Lens.{Lens}
 use Rattle.tri_cover.specs.Picture.{Fragment}
 use Rattle.depth_raster.specs.Batches.{IsWithFace}
 use Rattle.depth_raster.specs.Blocks.{colour_in}
-use Rattle.depth_raster.specs.Canvas.{mark_at, colour_at, behind_at, IsOpen, glazed_with, Glazes, face_glazed}
+use Rattle.depth_raster.specs.Canvas.{mark_at, colour_at, behind_at, glazed_with, Glazes, face_glazed}
 use Rattle.depth_raster.specs.Faces.{fragment_by, glazed_by_face}
 use Rattle.depth_raster.specs.Marks.{behind_as}
 use Rattle.depth_raster.specs.Strips.{AreTilesOf, TilesRelate, StripsRelate, AreStrips}
@@ -99,11 +99,8 @@ flushed_glass lens ps before after are long each = record {
       ∙ ap (pieces_glazes lens ps px py (mark_at before px py)) (sym (colour_is before px py at.old at.stands.is));
 }
 
-pub flushed_glass_open : (lens : Lens) (ps : List Piece) (before after : List Strip) → IsOpen lens before → length after ≡ length before → StripsRelate (ColoursFollow (pieces_glazes lens ps)) before after → IsOpen lens after
-flushed_glass_open lens ps before after opened long each = record {
-  parts = strips_kept (ColoursFollow (pieces_glazes lens ps)) lens before after (λ s t h. h.block) opened.parts long each;
-  unranked = λ px py column row. ap (λ (m : Mark). m.rank) (marks_stay lens ps before after opened.parts long each px py column row) ∙ opened.unranked px py column row;
-}
+pub flushed_glass_open : (lens : Lens) (ps : List Piece) (before after : List Strip) → AreStrips lens before → length after ≡ length before → StripsRelate (ColoursFollow (pieces_glazes lens ps)) before after → AreStrips lens after
+flushed_glass_open lens ps before after are long each = strips_kept (ColoursFollow (pieces_glazes lens ps)) lens before after (λ s t h. h.block) are long each
 
 pub nothing_glazed : (lens : Lens) (strips : List Strip) (ps : List Piece) → Glazes lens strips ps strips ps kept
 nothing_glazed lens strips ps = record { behind = λ px py column row. refl; colours = λ px py column row. refl }

@@ -16,15 +16,15 @@ use Rattle.tri_cover.specs.Picture.{Fragment, fragments, nearer, opaque_fragment
 use Rattle.draw_list.specs.declared.items.Item.{Item}
 use Rattle.draw_list.specs.declared.items.Tint.{Tint}
 use Rattle.draw_list.specs.Lists.{Drawables, instances_in}
-use Rattle.depth_raster.specs.Canvas.{seen_at, mark_at, colour_at, IsOpen, drawn_with, glazed_with, Draws, Glazes, glass_glazed}
+use Rattle.depth_raster.specs.Canvas.{seen_at, mark_at, colour_at, drawn_with, glazed_with, Draws, Glazes, glass_glazed}
 use Rattle.depth_raster.specs.Drawing.{opaque_over, glass_glazes}
-use Rattle.depth_raster.specs.InPieces.{IsSound, GroundIn, GlassIn, HasDrawn, held}
+use Rattle.depth_raster.specs.InPieces.{GroundIn, GlassIn, HasDrawn, held}
 use Rattle.depth_raster.specs.Marks.{seen_as, behind_as}
 use Rattle.depth_raster.specs.Strips.{AreStrips}
 use Rattle.depth_raster.specs.declared.pieces.Piece.{Piece}
 use Rattle.depth_raster.specs.declared.strip.Strip.{Strip}
 use Rattle.depth_raster.proofs.Finals.{seen_parts, picture_at}
-use Rattle.depth_raster.proofs.Flushed.{underway_first, first_seen}
+use Rattle.depth_raster.proofs.Flushed.{first_seen}
 use Rattle.depth_raster.proofs.Items.{take_suc, opaque_append, opaque_none}
 use Rattle.depth_raster.proofs.Listed.{item_listed, item_absent}
 
@@ -103,7 +103,7 @@ ground_more lens first first' strips strips' ps ps' xs zs ground draws px py col
 
 -- the last of the ground is drawn
 pub record IsEnded (lens : Lens) (back : List ℕ) (first : Bool) (strips : List Strip) (ps : List Piece) (strips' : List Strip) (ps' : List Piece) : Type 0 where
-  pub sound : IsOpen lens strips'
+  pub sound : AreStrips lens strips'
   pub empty : ps' ≡ []
   pub drawn : (px py : ℕ) → px < lens.w → py < lens.h → seen_at strips' px py ≡ drawn_with lens first strips ps px py
   pub blank : (px py : ℕ) → px < lens.w → py < lens.h → seen_at strips' px py ≡ None → colour_at strips' px py ≡ back
@@ -111,7 +111,7 @@ pub record IsEnded (lens : Lens) (back : List ℕ) (first : Bool) (strips : List
 ground_ended : (lens : Lens) (back : List ℕ) (first : Bool) (strips strips' : List Strip) (ps ps' : List Piece) (xs : List Instance) → GroundIn lens first strips ps xs → IsEnded lens back first strips ps strips' ps' → GlassIn lens back strips' ps' xs []
 unfolding glass_glazes
 ground_ended lens back first strips strips' ps ps' xs ground is px py column row =
-    let parts : seen_at strips' px py ≡ seen_as (mark_at strips' px py) (colour_at strips' px py) = seen_parts lens strips' is.sound.parts px py column row in
+    let parts : seen_at strips' px py ≡ seen_as (mark_at strips' px py) (colour_at strips' px py) = seen_parts lens strips' is.sound px py column row in
     record {
       mark = mark_at strips' px py;
       colour = colour_at strips' px py;
@@ -209,14 +209,3 @@ ground_pictured lens back first strips strips' ps ps' xs h ended px py column ro
 pub glass_pictured : (lens : Lens) (back : List ℕ) (first : Bool) (strips strips' : List Strip) (ps : List Piece) (xs : List Instance) → HasDrawn (held lens back true first strips ps) xs (sorted is_drawn_before (filter is_glass xs)) → Glazes lens strips ps strips' [] (λ behind px py under. under) → (px py : ℕ) → px < lens.w → py < lens.h → colour_at strips' px py ≡ picture lens back xs px py
 glass_pictured lens back first strips strips' ps xs h glazes px py column row =
     glazes.colours px py column row ∙ glass_shown lens back strips ps xs (h.glass refl) px py column row
-
--- ---- the renderer's strips
-pub sound_parts : (glazing : Bool) (lens : Lens) (first : Bool) (strips : List Strip) → IsSound glazing lens first strips → AreStrips lens strips
-sound_parts true lens first strips is = (is.opened refl).parts
-sound_parts false lens first strips is = (is.underway refl).parts
-
-pub begun : (lens : Lens) (first : Bool) (strips : List Strip) → first ≡ true → AreStrips lens strips → IsSound false lens first strips
-begun lens first strips is are = record {
-  underway = λ no. underway_first lens first strips is are;
-  opened = λ yes. absurd (false≢true yes);
-}

@@ -14,7 +14,7 @@ use Rattle.depth_raster.specs.declared.marks.Mark.{Mark}
 use Rattle.depth_raster.specs.declared.pieces.Piece.{Piece}
 use Rattle.depth_raster.specs.Faces.{fragment_in, fragment_by}
 use Rattle.depth_raster.specs.Marks.{goes_before, lesser, mark_of, mark_with, mark_over, seen_as}
-use Rattle.depth_raster.specs.Pieces.{AreRanked, fragments_by, pieces_over, IsColoured, settled}
+use Rattle.depth_raster.specs.Pieces.{AreRanked, fragments_by, pieces_over, IsColoured}
 use Rattle.depth_raster.proofs.Depths.{hit_small}
 
 -- what is seen at a mark of this depth, place and number
@@ -132,8 +132,8 @@ module _ (lens : Lens) (px py : ℕ) (ps : List Piece) (m₀ : Mark) (c₀ : Lis
       }
 
   -- the colours
-  picked_seen : (back c : List ℕ) (n : ℕ) (m : Mark) (seen : Option Fragment) → IsPicked lens px py ps m₀ c₀ n m seen → IsColoured lens px py back ps m c₀ c → seen_as (settled m) c ≡ seen
-  picked_seen back c n m seen (kept e s) is = ap (λ (n : Mark). seen_as (settled n) c) e ∙ by (nat_lt m₀.depth 2147483648) refl ∙ sym s
+  picked_seen : (back c : List ℕ) (n : ℕ) (m : Mark) (seen : Option Fragment) → IsPicked lens px py ps m₀ c₀ n m seen → IsColoured lens px py back ps m c₀ c → seen_as m c ≡ seen
+  picked_seen back c n m seen (kept e s) is = ap (λ (n : Mark). seen_as n c) e ∙ by (nat_lt m₀.depth 2147483648) refl ∙ sym s
     where
       by : (t : Bool) → t ≡ nat_lt m₀.depth 2147483648 → cond t (Some (shown m₀.depth m₀.place m₀.number c)) None ≡ cond t (Some (shown m₀.depth m₀.place m₀.number c₀)) None
       by true below =
@@ -143,14 +143,14 @@ module _ (lens : Lens) (px py : ℕ) (ps : List Piece) (m₀ : Mark) (c₀ : Lis
   picked_seen back c n m seen (picked k p h l at r hits e s) is =
       let below : nat_lt (h.depth - p.face.shift) 2147483648 ≡ true = let b = hit_small lens px py [] p.face.tri h hits in grind (arith, nat_tests) in
       let same : c ≡ h.colour = is.fresh k p h (ap (λ (n : Mark). n.rank) e ∙ r) at hits in
-      ap (λ (n : Mark). seen_as (settled n) c) e
+      ap (λ (n : Mark). seen_as n c) e
       ∙ ap (λ (t : Bool). cond t (Some (shown (h.depth - p.face.shift) p.face.place p.face.number c)) None) below
       ∙ ap (λ (d : List ℕ). Some (shown (h.depth - p.face.shift) p.face.place p.face.number d)) same
       ∙ sym s
 
-  -- what is seen after pieces are drawn over settled marks, and coloured
+  -- what is seen after pieces are drawn over marks of no rank, and coloured
   pub pieces_seen : (back c : List ℕ) → AreRanked ps → IsColoured lens px py back ps (pieces_over lens ps px py m₀) c₀ c →
-      seen_as (settled (pieces_over lens ps px py m₀)) c ≡ fold nearer (seen_as m₀ c₀) (fragments_by lens px py ps)
+      seen_as (pieces_over lens ps px py m₀) c ≡ fold nearer (seen_as m₀ c₀) (fragments_by lens px py ps)
   pieces_seen back c ranks is =
       picked_seen back c (length ps) (pieces_over lens ps px py m₀) (fold nearer (seen_as m₀ c₀) (fragments_by lens px py ps)) (all_picked ranks) is
 

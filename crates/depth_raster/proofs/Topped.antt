@@ -36,7 +36,7 @@ unfolding mark_over
 over_depth lens px py f m = with_depth m (mark_by lens px py f)
 
 -- what holds at the pixels of a block holds of all its marks
-all_marks : (P : Mark → Type 0) (b : Block) (marks : List Mark) → length marks ≡ size_of b → ((q r : ℕ) → q < b.width → r < b.rows → P (mark_in b marks q r)) → All P marks
+pub all_marks : (P : Mark → Type 0) (b : Block) (marks : List Mark) → length marks ≡ size_of b → ((q r : ℕ) → q < b.width → r < b.rows → P (mark_in b marks q r)) → All P marks
 all_marks P b marks whole each i d below = ⊎_elim
     (λ some.
     let q = i % b.width in

@@ -1,5 +1,5 @@
 -- A picture in strips, pixel by pixel, and what is still to be drawn in it.
-use Rattle.std.specs.Prelude.{◌≡◌, ℕ, ◌/◌, ◌%◌, ◌<◌, Bool, false, if◌then◌else◌, List, [], fold, Option, None, option_and_then, slice_get}
+use Rattle.std.specs.Prelude.{◌≡◌, ℕ, ◌/◌, ◌%◌, ◌<◌, Bool, if◌then◌else◌, List, [], fold, Option, None, option_and_then, slice_get}
 use Rattle.std.specs.Option.{option_map_or}
 use Rattle.fx_math.specs.declared.lenses.Lens.{Lens}
 use Rattle.tri_cover.specs.Picture.{Fragment, nearer}
@@ -10,7 +10,6 @@ use Rattle.depth_raster.specs.Faces.{over, glazed_by_face}
 use Rattle.depth_raster.specs.Following.{Follows}
 use Rattle.depth_raster.specs.Marks.{no_mark, behind_as}
 use Rattle.depth_raster.specs.Pieces.{fragments_by, pieces_glaze}
-use Rattle.depth_raster.specs.Strips.{AreStrips}
 use Rattle.depth_raster.specs.Tiles.{mark_in, seen_in}
 use Rattle.depth_raster.specs.declared.faces.Face.{Face}
 use Rattle.depth_raster.specs.declared.marks.Mark.{Mark}
@@ -41,16 +40,6 @@ colour_at strips px py = option_map_or (λ t. colour_in t.block t.colours.items 
 -- what glass there has behind it
 abbrev pub behind_at : List Strip → (px py : ℕ) → Option Fragment
 behind_at strips px py = behind_as (mark_at strips px py)
-
--- The strips are those of the lens's picture, and no mark has a rank.
-pub record IsOpen (lens : Lens) (strips : List Strip) : Type 0 where
-  pub parts : AreStrips lens strips
-  pub unranked : (px py : ℕ) → px < lens.w → py < lens.h → (mark_at strips px py).rank ≡ 0
-
--- The same while opaque pieces are drawn: before the first drawing the marks count for nothing.
-pub record IsUnderway (lens : Lens) (first : Bool) (strips : List Strip) : Type 0 where
-  pub parts : AreStrips lens strips
-  pub unranked : first ≡ false → (px py : ℕ) → px < lens.w → py < lens.h → (mark_at strips px py).rank ≡ 0
 
 -- what is seen at a pixel once opaque pieces are drawn
 abbrev pub drawn_with : Lens → (first : Bool) → List Strip → List Piece → (px py : ℕ) → Option Fragment

@@ -5,7 +5,7 @@ use Rattle.fx_math.specs.declared.lenses.Lens.{Lens}
 use Rattle.pf_model.specs.Walks.{Instance}
 use Rattle.tri_cover.specs.Glass.{is_opaque, is_glass, is_drawn_before}
 use Rattle.tri_cover.specs.Sorting.{sorted}
-use Rattle.depth_raster.specs.Canvas.{behind_at, IsOpen, IsUnderway, drawn_with, glazed_with}
+use Rattle.depth_raster.specs.Canvas.{behind_at, drawn_with, glazed_with}
 use Rattle.depth_raster.specs.Drawing.{opaque_over, glass_glazes}
 use Rattle.depth_raster.specs.Marks.{seen_as, behind_as}
 use Rattle.depth_raster.specs.declared.marks.Mark.{Mark}
@@ -21,11 +21,6 @@ pub record PieceWork : Type 0 where
   pub first : Bool
   pub strips : List Strip
   pub pieces : List Piece
-
--- the strips are ready for glass once it has come, and for opaque pieces before
-pub record IsSound (glazing : Bool) (lens : Lens) (first : Bool) (strips : List Strip) : Type 0 where
-  pub underway : glazing ≡ false → IsUnderway lens first strips
-  pub opened : glazing ≡ true → IsOpen lens strips
 
 -- at each pixel the nearest hit of the opaque instances among xs is drawn
 abbrev pub GroundIn : Lens → (first : Bool) → List Strip → List Piece → (xs : List Instance) → Type 0

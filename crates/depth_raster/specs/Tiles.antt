@@ -93,11 +93,10 @@ kept_within back b marks q r before after = after ≡ kept_colour back (mark_in 
 abbrev pub hit_within : Lens → Piece → Block → (q r : ℕ) → (before after : List ℕ) → Type 0
 hit_within lens p b q r before after = IfSome (hit lens (b.left + q) (b.first + r) [] p.face.tri) (λ h. after ≡ h.colour)
 
--- the colours after pieces are drawn, and the marks without their ranks
+-- the colours after pieces are drawn; the marks stay
 pub record IsPainted (lens : Lens) (back : List ℕ) (ps : List Piece) (before after : Tile) : Type 0 where
   pub block : after.block ≡ before.block
-  pub marks : Follows before.block.width before.block.rows (mark_in before.block before.marks.items)
-      (mark_in before.block after.marks.items) (λ q r m. settled m)
+  pub marks : after.marks.items ≡ before.marks.items
   pub colours : Relates before.block (colour_in before.block before.colours.items) (colour_in before.block after.colours.items)
       (painted_within lens back ps before.block before.marks.items)
 
@@ -110,20 +109,25 @@ pub record IsAt (t : Tile) (q r : ℕ) : Type 0 where
   pub column : q < t.block.width
   pub row : r < t.block.rows
 
--- Pieces are drawn over a tile whose marks have no rank, and none has one after; where nothing is seen then, the colour is
--- the background's.
+-- Pieces are drawn over a tile whose marks have no rank; where nothing is seen then, the colour is the background's.
 pub record IsDrawn (lens : Lens) (back : List ℕ) (ps : List Piece) (before after : Tile) : Type 0 where
   pub block : after.block ≡ before.block
   pub seen : (q r : ℕ) → IsAt before q r → (mark_in before.block before.marks.items q r).rank ≡ 0
       → seen_in after q r ≡ fold nearer (seen_in before q r) (fragments_by lens (before.block.left + q) (before.block.first + r) ps)
-  pub settled : (q r : ℕ) → IsAt before q r → (mark_in after.block after.marks.items q r).rank ≡ 0
   pub blank : (q r : ℕ) → IsAt before q r → (mark_in before.block before.marks.items q r).rank ≡ 0 → seen_in after q r ≡ None
       → colour_in after.block after.colours.items q r ≡ back
 
--- a tile as its drawing starts: before the first one it is cleared, before a later one it stays as it is
+-- the marks have no rank any more; all else stays
+pub record IsSettled (before after : Tile) : Type 0 where
+  pub block : after.block ≡ before.block
+  pub colours : after.colours.items ≡ before.colours.items
+  pub marks : Follows before.block.width before.block.rows (mark_in before.block before.marks.items)
+      (mark_in before.block after.marks.items) (λ q r m. settled m)
+
+-- a tile as its drawing starts: before the first one it is cleared, before a later one its marks lose their ranks
 pub record IsBegun (first : Bool) (before after : Tile) : Type 0 where
   pub cleared : first ≡ true → IsCleared before after
-  pub kept : first ≡ false → after ≡ before
+  pub settled : first ≡ false → IsSettled before after
 
 -- pieces are drawn over a tile, which is cleared before the first drawing
 pub record IsDrawnFrom (lens : Lens) (back : List ℕ) (ps : List Piece) (first : Bool) (before after : Tile) : Type 0 where

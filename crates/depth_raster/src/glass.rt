@@ -6,7 +6,8 @@ ghost use Rattle.draw_list.specs.Items.{instance_of_item};
 ghost use Rattle.draw_list.specs.Lists.{instances_in};
 ghost use Rattle.tri_cover.specs.Glass.{is_glass, is_drawn_before};
 ghost use Rattle.tri_cover.specs.Sorting.{sorted};
-ghost use Rattle.depth_raster.specs.Canvas.{IsOpen, Glazes, face_glazed, instance_glazed, glass_glazed};
+ghost use Rattle.depth_raster.specs.Canvas.{Glazes, face_glazed, instance_glazed, glass_glazed};
+ghost use Rattle.depth_raster.specs.Strips.{AreStrips};
 
 use crate::batch::Batch;
 use crate::faces::Face;
@@ -27,8 +28,8 @@ pub(crate) fn draw_glass<R: Threads + Sync>(
     lens: &Lens,
     list: &DrawList,
 )
-    requires sound { IsOpen lens.now strips.old }
-    ensures sound { IsOpen lens.now strips.new }
+    requires sound { AreStrips lens.now strips.old }
+    ensures sound { AreStrips lens.now strips.new }
     ensures glass { Glazes lens.now strips.old batch.old.pieces.items strips.new batch.new.pieces.items
         (glass_glazed lens.now (sorted is_drawn_before (filter is_glass (instances_in list.now)))) }
 {
@@ -52,8 +53,8 @@ fn draw_pane<R: Threads + Sync>(
     list: &DrawList,
     number: usize,
 )
-    requires sound { IsOpen lens.now strips.old }
-    ensures sound { IsOpen lens.now strips.new }
+    requires sound { AreStrips lens.now strips.old }
+    ensures sound { AreStrips lens.now strips.new }
     ensures glass { Glazes lens.now strips.old batch.old.pieces.items strips.new batch.new.pieces.items
         (glass_glazed lens.now (option_to_list (slice_get (instances_in list.now) number))) }
 {
@@ -72,9 +73,9 @@ fn draw_item<R: Threads + Sync>(
     list: &DrawList,
     item: &Item,
 )
-    requires sound { IsOpen lens.now strips.old }
+    requires sound { AreStrips lens.now strips.old }
     requires joint { item.now.joint < length list.now.joints.lists }
-    ensures sound { IsOpen lens.now strips.new }
+    ensures sound { AreStrips lens.now strips.new }
     ensures glass { Glazes lens.now strips.old batch.old.pieces.items strips.new batch.new.pieces.items
         (instance_glazed lens.now (instance_of_item list.now.joints.lists list.now.kept.tris item.now)) }
 {
@@ -98,8 +99,8 @@ fn draw_face<R: Threads + Sync>(
     lens: &Lens,
     face: Face,
 )
-    requires sound { IsOpen lens.now strips.old }
-    ensures sound { IsOpen lens.now strips.new }
+    requires sound { AreStrips lens.now strips.old }
+    ensures sound { AreStrips lens.now strips.new }
     ensures glass { Glazes lens.now strips.old batch.old.pieces.items strips.new batch.new.pieces.items
         (face_glazed lens.now face) }
 {
@@ -109,8 +110,8 @@ fn draw_face<R: Threads + Sync>(
 
 /// Draws a full batch.
 fn make_room<R: Threads + Sync>(rt: &R, strips: &mut [Strip], batch: &mut Batch, lens: &Lens)
-    requires sound { IsOpen lens.now strips.old }
-    ensures sound { IsOpen lens.now strips.new }
+    requires sound { AreStrips lens.now strips.old }
+    ensures sound { AreStrips lens.now strips.new }
     ensures room { length batch.new.pieces.items < 16384 }
     ensures glass { Glazes lens.now strips.old batch.old.pieces.items strips.new batch.new.pieces.items
         (λ behind px py under. under) }
@@ -122,8 +123,8 @@ fn make_room<R: Threads + Sync>(rt: &R, strips: &mut [Strip], batch: &mut Batch,
 
 /// Draws the pieces of glass of a batch, which has none then.
 pub(crate) fn flush<R: Threads + Sync>(rt: &R, strips: &mut [Strip], batch: &mut Batch, lens: &Lens)
-    requires sound { IsOpen lens.now strips.old }
-    ensures sound { IsOpen lens.now strips.new }
+    requires sound { AreStrips lens.now strips.old }
+    ensures sound { AreStrips lens.now strips.new }
     ensures empty { batch.new.pieces.items ≡ [] }
     ensures glass { Glazes lens.now strips.old batch.old.pieces.items strips.new []
         (λ behind px py under. under) }

@@ -4,8 +4,9 @@ ghost use Rattle.std.specs.Option.{option_to_list};
 ghost use Rattle.std.specs.List.{slice_get};
 ghost use Rattle.draw_list.specs.Items.{instance_of_item};
 ghost use Rattle.draw_list.specs.Lists.{instances_in};
-ghost use Rattle.depth_raster.specs.Canvas.{IsOpen, IsUnderway, Draws, drawn_with, seen_at, colour_at, face_drawn};
+ghost use Rattle.depth_raster.specs.Canvas.{Draws, drawn_with, seen_at, colour_at, face_drawn};
 ghost use Rattle.depth_raster.specs.Drawing.{instance_over, opaque_over};
+ghost use Rattle.depth_raster.specs.Strips.{AreStrips};
 
 use crate::batch::Batch;
 use crate::faces::Face;
@@ -26,8 +27,8 @@ pub(crate) fn draw_opaque<R: Threads + Sync>(
     back: [u8; 3],
     list: &DrawList,
 )
-    requires sound { IsUnderway lens.now batch.old.is_first strips.old }
-    ensures sound { IsUnderway lens.now batch.new.is_first strips.new }
+    requires sound { AreStrips lens.now strips.old }
+    ensures sound { AreStrips lens.now strips.new }
     ensures drawn { Draws lens.now batch.old.is_first strips.old batch.old.pieces.items
         batch.new.is_first strips.new batch.new.pieces.items (opaque_over lens.now (instances_in list.now)) }
 {
@@ -46,8 +47,8 @@ fn draw_numbered<R: Threads + Sync>(
     list: &DrawList,
     number: usize,
 )
-    requires sound { IsUnderway lens.now batch.old.is_first strips.old }
-    ensures sound { IsUnderway lens.now batch.new.is_first strips.new }
+    requires sound { AreStrips lens.now strips.old }
+    ensures sound { AreStrips lens.now strips.new }
     ensures drawn { Draws lens.now batch.old.is_first strips.old batch.old.pieces.items
         batch.new.is_first strips.new batch.new.pieces.items
         (opaque_over lens.now (option_to_list (slice_get (instances_in list.now) number))) }
@@ -68,9 +69,9 @@ fn draw_if_opaque<R: Threads + Sync>(
     list: &DrawList,
     item: &Item,
 )
-    requires sound { IsUnderway lens.now batch.old.is_first strips.old }
+    requires sound { AreStrips lens.now strips.old }
     requires joint { item.now.joint < length list.now.joints.lists }
-    ensures sound { IsUnderway lens.now batch.new.is_first strips.new }
+    ensures sound { AreStrips lens.now strips.new }
     ensures drawn { Draws lens.now batch.old.is_first strips.old batch.old.pieces.items
         batch.new.is_first strips.new batch.new.pieces.items
         (opaque_over lens.now (instance_of_item list.now.joints.lists list.now.kept.tris item.now ∷ [])) }
@@ -91,9 +92,9 @@ fn draw_item<R: Threads + Sync>(
     list: &DrawList,
     item: &Item,
 )
-    requires sound { IsUnderway lens.now batch.old.is_first strips.old }
+    requires sound { AreStrips lens.now strips.old }
     requires joint { item.now.joint < length list.now.joints.lists }
-    ensures sound { IsUnderway lens.now batch.new.is_first strips.new }
+    ensures sound { AreStrips lens.now strips.new }
     ensures drawn { Draws lens.now batch.old.is_first strips.old batch.old.pieces.items
         batch.new.is_first strips.new batch.new.pieces.items
         (instance_over lens.now (instance_of_item list.now.joints.lists list.now.kept.tris item.now)) }
@@ -118,8 +119,8 @@ fn draw_face<R: Threads + Sync>(
     back: [u8; 3],
     face: Face,
 )
-    requires sound { IsUnderway lens.now batch.old.is_first strips.old }
-    ensures sound { IsUnderway lens.now batch.new.is_first strips.new }
+    requires sound { AreStrips lens.now strips.old }
+    ensures sound { AreStrips lens.now strips.new }
     ensures drawn { Draws lens.now batch.old.is_first strips.old batch.old.pieces.items
         batch.new.is_first strips.new batch.new.pieces.items (face_drawn lens.now face) }
 {
@@ -135,8 +136,8 @@ fn make_room<R: Threads + Sync>(
     lens: &Lens,
     back: [u8; 3],
 )
-    requires sound { IsUnderway lens.now batch.old.is_first strips.old }
-    ensures sound { IsUnderway lens.now batch.new.is_first strips.new }
+    requires sound { AreStrips lens.now strips.old }
+    ensures sound { AreStrips lens.now strips.new }
     ensures room { length batch.new.pieces.items < 16384 }
     ensures drawn { Draws lens.now batch.old.is_first strips.old batch.old.pieces.items
         batch.new.is_first strips.new batch.new.pieces.items (λ px py drawn. drawn) }
@@ -154,8 +155,8 @@ pub(crate) fn flush<R: Threads + Sync>(
     lens: &Lens,
     back: [u8; 3],
 )
-    requires sound { IsUnderway lens.now batch.old.is_first strips.old }
-    ensures sound { IsOpen lens.now strips.new }
+    requires sound { AreStrips lens.now strips.old }
+    ensures sound { AreStrips lens.now strips.new }
     ensures later { batch.new.is_first ≡ false }
     ensures empty { batch.new.pieces.items ≡ [] }
     ensures drawn { (px py : ℕ) → px < lens.now.w → py < lens.now.h

@@ -9,7 +9,7 @@ ghost use Rattle.depth_raster.specs.Pieces.{IsPieceOf, settled, kept_colour};
 ghost use Rattle.depth_raster.specs.Runs.{IsRunOf};
 ghost use Rattle.depth_raster.specs.Shading.{IsSpanAt, shade_colour};
 ghost use Rattle.depth_raster.specs.Small.{IsSmallFace};
-ghost use Rattle.depth_raster.specs.Tiles.{mark_in, painted_within, kept_within, hit_within, HaveRank, IsCleared, IsFilled, IsPainted};
+ghost use Rattle.depth_raster.specs.Tiles.{mark_in, painted_within, kept_within, hit_within, HaveRank, IsCleared, IsSettled, IsFilled, IsPainted};
 
 use crate::blocks::Block;
 use crate::marks::{Mark, NOTHING};
@@ -80,6 +80,24 @@ fn paint_marked(tile: &mut Tile, lens: &Lens, back: [u8; 3], pieces: &[Piece])
     let block = tile.block;
     tile.plain = None;
     paint_rows(&mut tile.colours, &tile.marks, &block, lens, back, pieces);
+}
+
+/// Takes the ranks from the marks of a tile, before pieces of other ranks are drawn. A blank one has none.
+pub(crate) fn settle_tile(tile: &mut Tile)
+    ensures { IsSettled tile.old tile.new }
+{
+    if tile.blank {
+        return;
+    }
+    settle_marked(tile);
+}
+
+/// Takes the ranks from the marks of a tile that is not blank.
+fn settle_marked(tile: &mut Tile)
+    requires marked { tile.old.blank ≡ false }
+    ensures { IsSettled tile.old tile.new }
+{
+    let block = tile.block;
     settle(&mut tile.marks, &block);
     tile.last = None;
 }

@@ -8,8 +8,8 @@ ghost use Rattle.tri_cover.specs.Glass.{is_opaque, is_glass, is_drawn_before};
 ghost use Rattle.tri_cover.specs.Picture.{picture};
 ghost use Rattle.tri_cover.specs.Sorting.{sorted};
 ghost use Rattle.draw_list.specs.Lists.{instances_in};
-ghost use Rattle.depth_raster.specs.Canvas.{IsUnderway, colour_at};
-ghost use Rattle.depth_raster.specs.InPieces.{IsSound, HasDrawn, held, joined, glass_in_turn, IsGlassInOrder};
+ghost use Rattle.depth_raster.specs.Canvas.{colour_at};
+ghost use Rattle.depth_raster.specs.InPieces.{HasDrawn, held, joined, glass_in_turn, IsGlassInOrder};
 ghost use Rattle.depth_raster.specs.Strips.{AreStrips};
 
 use crate::batch::Batch;
@@ -50,13 +50,14 @@ impl Drop for PieceRaster {
 }
 
 impl Model for PieceRaster {
-    ghost use Rattle.depth_raster.specs.InPieces.{PieceWork, IsSound, held};
+    ghost use Rattle.depth_raster.specs.InPieces.{PieceWork, held};
+    ghost use Rattle.depth_raster.specs.Strips.{AreStrips};
 
     ghost Value = { PieceWork };
 
     ghost view = { λ r. held r.lens r.back r.glazing r.batch.is_first r.strips.items r.batch.pieces.items };
 
-    ghost invariant = { λ r. IsSound r.glazing r.lens r.batch.is_first r.strips.items };
+    ghost invariant = { λ r. AreStrips r.lens r.strips.items };
 }
 
 impl PieceRaster {
@@ -152,8 +153,8 @@ fn add_piece<R: Threads + Sync>(
     back: [u8; 3],
     list: &DrawList,
 ) -> bool
-    requires sound { IsSound glazing lens.now batch.old.is_first strips.old }
-    ensures sound { IsSound result lens.now batch.new.is_first strips.new }
+    requires sound { AreStrips lens.now strips.old }
+    ensures sound { AreStrips lens.now strips.new }
     ensures drawn { (xs ys : List Instance)
         → HasDrawn (held lens.now back glazing batch.old.is_first strips.old batch.old.pieces.items) xs ys
         → (glazing ≡ true → filter is_opaque (instances_in list.now) ≡ [])
@@ -183,8 +184,8 @@ fn add_ground<R: Threads + Sync>(
     back: [u8; 3],
     list: &DrawList,
 ) -> bool
-    requires sound { IsUnderway lens.now batch.old.is_first strips.old }
-    ensures sound { IsSound result lens.now batch.new.is_first strips.new }
+    requires sound { AreStrips lens.now strips.old }
+    ensures sound { AreStrips lens.now strips.new }
     ensures drawn { (xs ys : List Instance)
         → HasDrawn (held lens.now back false batch.old.is_first strips.old batch.old.pieces.items) xs ys
         → HasDrawn (held lens.now back result batch.new.is_first strips.new batch.new.pieces.items)
@@ -232,7 +233,7 @@ fn end_picture<R: Threads + Sync>(
     back: [u8; 3],
     image: &mut Image,
 )
-    requires sound { IsSound glazing lens.now batch.old.is_first strips.old }
+    requires sound { AreStrips lens.now strips.old }
     requires width { image.old.width ≡ lens.now.w }
     requires height { image.old.height ≡ lens.now.h }
     ensures strips { AreStrips lens.now strips.new }
@@ -259,7 +260,7 @@ fn draw_rest<R: Threads + Sync>(
     lens: &Lens,
     back: [u8; 3],
 )
-    requires sound { IsSound glazing lens.now batch.old.is_first strips.old }
+    requires sound { AreStrips lens.now strips.old }
     ensures strips { AreStrips lens.now strips.new }
     ensures empty { batch.new.pieces.items ≡ [] }
     ensures colours { (xs : List Instance)

@@ -5,11 +5,11 @@ ghost use Rattle.depth_raster.specs.Blocks.{IsBlockOf};
 ghost use Rattle.depth_raster.specs.Pieces.{IsPieceOf, AreRanked};
 ghost use Rattle.depth_raster.specs.Shares.{AreSlotsFor, AreSharesOf};
 ghost use Rattle.depth_raster.specs.Strips.{AreTilesOf, TilesRelate, IsStripOf, StripRelates, StripsRelate};
-ghost use Rattle.depth_raster.specs.Tiles.{IsCleared, IsBegun, IsPainted, IsDrawn, IsDrawnFrom};
+ghost use Rattle.depth_raster.specs.Tiles.{IsCleared, IsSettled, IsBegun, IsPainted, IsDrawn, IsDrawnFrom};
 
 use crate::across::draw_slots;
 use crate::blocks::Block;
-use crate::painting::{clear, paint};
+use crate::painting::{clear, paint, settle_tile};
 use crate::pieces::Piece;
 use crate::share::Share;
 use crate::shares::HEIGHT;
@@ -114,7 +114,8 @@ fn draw_last(
     draw_strip(&mut strips[0], is_first, lens, back, pieces, shares);
 }
 
-/// Draws opaque pieces in a strip, which is cleared right before the first ones of a picture: its marks are at hand then.
+/// Draws opaque pieces in a strip. Right before the first ones of a picture it is cleared, and before later ones its marks lose
+/// the ranks of those before: the marks are at hand then.
 fn draw_strip(
     strip: &mut Strip,
     is_first: bool,
@@ -135,12 +136,14 @@ fn draw_strip(
     draw_tiles(&mut strip.tiles, &band, lens, back, pieces, &share.slots);
 }
 
-/// Clears the marks of a strip before the first drawing.
+/// Clears the marks of a strip before the first drawing, and takes the ranks from them before a later one.
 fn begin_strip(strip: &mut Strip, is_first: bool)
     ensures { StripRelates (IsBegun is_first) strip.old strip.new }
 {
     if is_first {
         clear_tiles(strip);
+    } else {
+        settle_tiles(strip);
     }
 }
 
@@ -149,6 +152,14 @@ fn clear_tiles(strip: &mut Strip)
 {
     for t in 0..strip.tiles.len() {
         clear(&mut strip.tiles[t]);
+    }
+}
+
+fn settle_tiles(strip: &mut Strip)
+    ensures { StripRelates IsSettled strip.old strip.new }
+{
+    for t in 0..strip.tiles.len() {
+        settle_tile(&mut strip.tiles[t]);
     }
 }
 

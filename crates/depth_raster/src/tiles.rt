@@ -28,7 +28,8 @@ use edge_values::{NarrowLine, NarrowValues};
 use fx_math::Lens;
 use tri_cover::Face;
 
-/// Draws a piece over the marks of a tile.
+/// Draws a piece over the marks of a tile. It stands by itself, so that a piece is not looked at before a tile asks for it.
+#[inline(never)]
 pub(crate) fn draw_piece(tile: &mut Tile, lens: &Lens, piece: &Piece)
     requires block { IsBlockOf lens.now tile.old.block }
     requires ready { IsPieceOf lens.now piece.now }
@@ -41,7 +42,6 @@ pub(crate) fn draw_piece(tile: &mut Tile, lens: &Lens, piece: &Piece)
 }
 
 /// Draws the piece of a face over the marks of a tile.
-#[inline(never)]
 fn draw_face(tile: &mut Tile, lens: &Lens, piece: &Piece, face: &Face)
     requires block { IsBlockOf lens.now tile.old.block }
     requires ready { IsPieceOf lens.now piece.now }
@@ -86,21 +86,37 @@ fn draw_over(tile: &mut Tile, lens: &Lens, piece: &Piece, face: &Face)
     tile.blank = false;
     tile.last = None;
     draw_marks(&mut tile.marks, &block, lens, piece, face);
-    tile.top = greatest_within(&tile.marks, tile.top);
+    tile.top = greatest_within(&tile.marks, &block, tile.top);
 }
 
-/// A depth behind which no mark lies, from one that is known to be so: the greatest of marks, looked for until one has that
-/// depth.
-fn greatest_within(marks: &[Mark], most: u32) -> u32
-    requires { All (λ m. m.depth ≤ most) marks.now }
+/// A depth behind which no mark of a block lies, from one that is known to be so: the greatest of the marks, looked for until a
+/// row has that depth.
+fn greatest_within(marks: &[Mark], block: &Block, most: u32) -> u32
+    requires len { length marks.now ≡ size_of block.now }
+    requires most { All (λ m. m.depth ≤ most) marks.now }
     ensures { All (λ m. m.depth ≤ result) marks.now }
 {
     let mut greatest = 0;
-    for mark in marks {
-        if most <= mark.depth {
+    for r in 0..block.rows {
+        let depth = greatest_in_row(marks, block, r);
+        if most <= depth {
             return most;
         }
-        greatest = greater(greatest, mark.depth);
+        greatest = greater(greatest, depth);
+    }
+    greatest
+}
+
+/// The greatest depth of the marks of a row of a block. No mark ends the search, so that several are compared at once.
+fn greatest_in_row(marks: &[Mark], block: &Block, r: u16) -> u32
+    requires len { length marks.now ≡ size_of block.now }
+    requires row { r < block.now.rows }
+    ensures { (q : ℕ) → q < block.now.width → (mark_in block.now marks.now q r).depth ≤ result }
+{
+    let mut greatest = 0;
+    for q in 0..block.width {
+        let place = block.place(q, r);
+        greatest = greater(greatest, marks[place].depth);
     }
     greatest
 }

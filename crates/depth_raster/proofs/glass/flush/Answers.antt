@@ -19,5 +19,5 @@ returns g c =
     record {
       sound = flushed_glass_open lens qs before after c.requires.sound long each;
       empty = c.clear.ensures;
-      glass = glazes_alike lens before after ps qs [] kept c.make_ready.ensures.faces (flushed_glass lens qs before after c.requires.sound.parts long each);
+      glass = glazes_alike lens before after ps qs [] kept c.make_ready.ensures.faces (flushed_glass lens qs before after c.requires.sound long each);
     }

@@ -1,13 +1,7 @@
-use Rattle.std.proofs.Common.{Bool, ap, sym, ◌∙◌, subst}
-use Rattle.depth_raster.specs.Canvas.{IsUnderway, drawn_with, face_drawn}
+use Rattle.std.proofs.Common.{Bool, ap, ◌∙◌}
+use Rattle.depth_raster.specs.Canvas.{drawn_with, face_drawn}
 use Rattle.depth_raster.proofs.Flushed.{face_more}
 use Rattle.depth_raster.proofs.opaque.draw_face.Goals as goal
-
-pub returns-clause-sound : goal.returns-clause-sound
-returns-clause-sound g c =
-    let lens = c.args.lens.now in
-    let strips = c.make_room.new.strips in
-    subst (λ (b : Bool). IsUnderway lens b strips) (sym c.push.ensures.first) c.make_room.ensures.sound
 
 pub returns-clause-drawn : goal.returns-clause-drawn
 returns-clause-drawn g c = λ px py column row.

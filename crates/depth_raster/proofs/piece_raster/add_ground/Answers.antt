@@ -1,5 +1,4 @@
 use Rattle.std.proofs.Common.{sym, ◌∙◌}
-use Rattle.std.proofs.lemmas.Bool.{false≢true}
 use Rattle.draw_list.specs.Lists.{instances_in}
 use Rattle.depth_raster.proofs.InPieces.{ground_added, glass_begun}
 use Rattle.depth_raster.proofs.piece_raster.add_ground.Goals as goal
@@ -11,7 +10,7 @@ returns-then-has_glass g c =
     let d = c.flush.new.batch in
     let e = c.draw_glass.new.batch in
     record {
-      sound = record { underway = λ no. absurd (false≢true (sym no)); opened = λ yes. c.draw_glass.ensures.sound };
+      sound = c.draw_glass.ensures.sound;
       drawn = λ xs ys h.
           glass_begun a.lens.now a.back a.batch.now.is_first b.is_first e.is_first
           a.strips.now c.draw_opaque.new.strips c.flush.new.strips c.draw_glass.new.strips
@@ -26,7 +25,7 @@ returns-else-has_glass g c =
     let a = c.args in
     let b = c.draw_opaque.new.batch in
     record {
-      sound = record { underway = λ no. c.draw_opaque.ensures.sound; opened = λ yes. absurd (false≢true yes) };
+      sound = c.draw_opaque.ensures.sound;
       drawn = λ xs ys h.
           ground_added a.lens.now a.back a.batch.now.is_first b.is_first a.strips.now c.draw_opaque.new.strips
           a.batch.now.pieces.items b.pieces.items xs ys (instances_in a.list.now)

@@ -9,10 +9,10 @@ use Rattle.depth_raster.proofs.InPieces.{only_glass, glass_added}
 use Rattle.depth_raster.proofs.piece_raster.add_piece.Goals as goal
 
 pub draw_glass-requires : goal.draw_glass-requires
-draw_glass-requires g c = (c.type_bounds.sync-R, c.requires.sound.opened c.if-glazing.true)
+draw_glass-requires g c = (c.type_bounds.sync-R, c.requires.sound)
 
 pub add_ground-requires : goal.add_ground-requires
-add_ground-requires g c = (c.type_bounds.sync-R, c.requires.sound.underway c.if-glazing.false)
+add_ground-requires g c = (c.type_bounds.sync-R, c.requires.sound)
 
 pub returns-then-glazing : goal.returns-then-glazing
 returns-then-glazing g c =
@@ -23,7 +23,7 @@ returns-then-glazing g c =
     let d = c.draw_glass.new.batch in
     let strips = c.draw_glass.new.strips in
     record {
-      sound = record { underway = λ no. absurd (false≢true (sym no)); opened = λ yes. c.draw_glass.ensures.sound };
+      sound = c.draw_glass.ensures.sound;
       drawn = λ xs ys h none.
           glass_added a.lens.now a.back b.is_first d.is_first a.strips.now strips b.pieces.items d.pieces.items xs ys zs gs (none c.if-glazing.true)
           (subst (λ (t : Bool). HasDrawn (held a.lens.now a.back t b.is_first a.strips.now b.pieces.items) xs ys) c.if-glazing.true h)

@@ -7,17 +7,17 @@ use Rattle.depth_raster.proofs.InPieces.{ground_pictured, glass_pictured}
 use Rattle.depth_raster.proofs.piece_raster.draw_rest.Goals as goal
 
 pub flush-requires : goal.flush-requires
-flush-requires g c = (c.type_bounds.sync-R, c.requires.sound.opened c.if-glazing.true)
+flush-requires g c = (c.type_bounds.sync-R, c.requires.sound)
 
 pub flush-requires-else-glazing : goal.flush-requires-else-glazing
-flush-requires-else-glazing g c = (c.type_bounds.sync-R, c.requires.sound.underway c.if-glazing.false)
+flush-requires-else-glazing g c = (c.type_bounds.sync-R, c.requires.sound)
 
 pub returns-then-glazing : goal.returns-then-glazing
 returns-then-glazing g c =
     let a = c.args in
     let b = a.batch.now in
     record {
-      strips = c.flush.ensures.sound.parts;
+      strips = c.flush.ensures.sound;
       empty = c.flush.ensures.empty;
       colours = λ xs h px py column row.
           glass_pictured a.lens.now a.back b.is_first a.strips.now c.flush.new.strips b.pieces.items xs
@@ -30,7 +30,7 @@ returns-else-glazing g c =
     let a = c.args in
     let b = a.batch.now in
     record {
-      strips = c.flush-else-glazing.ensures.sound.parts;
+      strips = c.flush-else-glazing.ensures.sound;
       empty = c.flush-else-glazing.ensures.empty;
       colours = λ xs h px py column row.
           ground_pictured a.lens.now a.back b.is_first a.strips.now c.flush-else-glazing.new.strips b.pieces.items c.flush-else-glazing.new.batch.pieces.items xs

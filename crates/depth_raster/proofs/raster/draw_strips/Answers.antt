@@ -6,7 +6,7 @@ use Rattle.draw_list.specs.Lists.{instances_in}
 use Rattle.depth_raster.specs.Canvas.{mark_at, colour_at, behind_at, glazed_with}
 use Rattle.depth_raster.specs.Drawing.{opaque_over, glass_glazes}
 use Rattle.depth_raster.specs.declared.pieces.Piece.{Piece}
-use Rattle.depth_raster.proofs.Flushed.{underway_first, first_seen}
+use Rattle.depth_raster.proofs.Flushed.{first_seen}
 use Rattle.depth_raster.proofs.Finals.{seen_parts, picture_at}
 use Rattle.depth_raster.proofs.raster.draw_strips.Goals as goal
 
@@ -15,7 +15,7 @@ draw_opaque-requires g c =
     let a = c.args in
     let b = c.begin.new.self in (
       c.type_bounds.sync-R,
-      underway_first a.lens.now b.is_first a.strips.now c.begin.ensures.first c.requires.strips,
+      c.requires.strips,
     )
 
 pub returns-clause-colours : goal.returns-clause-colours
@@ -27,7 +27,7 @@ returns-clause-colours g c = λ px py column row.
     let ground = c.flush.new.strips in
     let m = mark_at ground px py in
     let colour = colour_at ground px py in
-    let parts = seen_parts lens ground c.flush.ensures.sound.parts px py column row in
+    let parts = seen_parts lens ground c.flush.ensures.sound px py column row in
     let none = first_seen lens b.is_first a.strips.now b.pieces.items px py c.begin.ensures.first (c.begin.ensures.pieces ∙ c.requires.empty) in
     let seen = sym parts ∙ c.flush.ensures.drawn px py column row ∙ c.draw_opaque.ensures.drawn px py column row ∙ ap (opaque_over lens xs px py) none in
     c.flush-2.ensures.glass.colours px py column row

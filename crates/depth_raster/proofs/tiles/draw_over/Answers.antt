@@ -7,8 +7,16 @@ use Rattle.depth_raster.proofs.Shared.{written}
 use Rattle.depth_raster.proofs.Topped.{topped_after}
 use Rattle.depth_raster.proofs.tiles.draw_over.Goals as goal
 
-pub greatest_within-tile-requires : goal.greatest_within-tile-requires
-greatest_within-tile-requires c =
+pub greatest_within-tile-requires-clause-len : goal.greatest_within-tile-requires-clause-len
+greatest_within-tile-requires-clause-len c =
+    let t = c.args.tile.now in
+    let new = c.draw_marks.new.marks in
+    let long : length new ≡ length t.marks.items = c.draw_marks.auto.marks ∙ ap length c.deref_mut.ensures.value in
+    let value : c.deref.result.now ≡ new = c.deref.ensures.value ∙ written t.marks.len new t.marks.items (long ∙ sym t.marks.ok.0) (sym t.marks.ok.0) in
+    ap length value ∙ long ∙ t.marks_whole
+
+pub greatest_within-tile-requires-clause-most : goal.greatest_within-tile-requires-clause-most
+greatest_within-tile-requires-clause-most c =
     let t = c.args.tile.now in
     let f = c.args.piece.now.face in
     let b = t.block in

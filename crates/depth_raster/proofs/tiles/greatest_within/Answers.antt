@@ -1,18 +1,19 @@
-use Rattle.std.proofs.Common.{◌≤◌, take, subst, arith}
-use Rattle.std.proofs.lemmas.List.{take_all}
-use Rattle.std.proofs.lemmas.List.Elements.{All-more, All-weaker}
-use Rattle.std.specs.List.{All}
+use Rattle.std.proofs.Common.{ℕ, ◌≤◌, ap, arith, ⊎_elim}
+use Rattle.std.proofs.lemmas.Bool.{cases_eq}
+use Rattle.depth_raster.specs.Tiles.{mark_in}
 use Rattle.depth_raster.specs.declared.marks.Mark.{Mark}
-use Rattle.depth_raster.specs.Marks.{no_mark}
+use Rattle.depth_raster.proofs.Topped.{all_marks}
 use Rattle.depth_raster.proofs.tiles.greatest_within.Goals as goal
-use Rattle.std.proofs.Common.{List}
 
-pub loop-mark-preserved : goal.loop-mark-preserved
-loop-mark-preserved c =
-    let marks = c.args.marks.now in
-    All-more (λ (m : Mark). m.depth ≤ c.greater-greatest.result) marks c.loop-mark.mark-index no_mark (omega arith)
-    (All-weaker (λ (m : Mark). m.depth ≤ c.loop-mark.greatest) (λ (m : Mark). m.depth ≤ c.greater-greatest.result) (λ m h. omega (arith, h, c.greater-greatest.ensures.first)) (take c.loop-mark.mark-index marks) c.loop-mark.invariant)
-    c.greater-greatest.ensures.second
+pub loop-r-preserved : goal.loop-r-preserved
+loop-r-preserved c =
+    let a = c.args in
+    let b = a.block.now in
+    λ q s column below. ⊎_elim
+    (λ same. omega (arith, c.greatest_in_row-depth.ensures q column, c.greater-greatest.ensures.second, ap (λ (n : ℕ). (mark_in b a.marks.now q n).depth) same))
+    (λ apart. omega (arith, c.loop-r.invariant q s column (omega (arith, apart, below)), c.greater-greatest.ensures.first))
+    (cases_eq s c.loop-r.r)
 
 pub returns : goal.returns
-returns c = subst (λ (ms : List Mark). All (λ m. m.depth ≤ c.loop-mark.greatest) ms) (take_all c.loop-mark.mark-index c.args.marks.now (omega arith)) c.loop-mark.invariant
+returns c = all_marks (λ (m : Mark). m.depth ≤ c.loop-r.greatest) c.args.block.now c.args.marks.now c.requires.len
+    (λ q s column below. c.loop-r.invariant q s column (omega (arith, below)))

@@ -1,6 +1,6 @@
-use Rattle.std.proofs.Common.{◌≤◌, take}
-use Rattle.std.specs.List.{All}
+use Rattle.std.proofs.Common.{ℕ, ◌<◌, ◌≤◌}
+use Rattle.depth_raster.specs.Tiles.{mark_in}
 use Rattle.depth_raster.proofs.tiles.greatest_within.Given as goal
 
-abbrev pub invariant-loop-mark : goal.invariant-loop-mark
-invariant-loop-mark l = All (λ m. m.depth ≤ l.greatest) (take l.mark-index l.marks)
+abbrev pub invariant-loop-r : goal.invariant-loop-r
+invariant-loop-r l = (q s : ℕ) → q < l.block.width → s < l.r → (mark_in l.block l.marks q s).depth ≤ l.greatest

@@ -4,15 +4,16 @@ use Rattle.std.proofs.lemmas.List.{with_items_is}
 use Rattle.tri_cover.specs.Glass.{is_glass, is_drawn_before}
 use Rattle.tri_cover.specs.Sorting.{sorted}
 use Rattle.draw_list.specs.Lists.{instances_in}
-use Rattle.depth_raster.specs.InPieces.{PieceWork, IsSound, HasDrawn, held}
+use Rattle.depth_raster.specs.InPieces.{PieceWork, HasDrawn, held}
 use Rattle.depth_raster.specs.declared.strip.Strip.{Strip}
+use Rattle.depth_raster.specs.Strips.{AreStrips}
 use Rattle.depth_raster.proofs.piece_raster.PieceRaster.add.Goals as goal
 
 pub add_piece-self-inside-requires : goal.add_piece-self-inside-requires
 add_piece-self-inside-requires g c =
     let s = c.self.inside in (
       c.type_bounds.sync-R,
-      subst (λ (ss : List Strip). IsSound s.glazing s.lens s.batch.is_first ss) (sym c.deref_mut.ensures.value) c.self.invariant,
+      subst (λ (ss : List Strip). AreStrips s.lens ss) (sym c.deref_mut.ensures.value) c.self.invariant,
     )
 
 pub invariant_of-self : goal.invariant_of-self
@@ -20,7 +21,7 @@ invariant_of-self g c =
     let s = c.self.inside in
     let after = c.add_piece-self-inside.new.strips in
     let long : length after ≡ s.strips.len = c.add_piece-self-inside.auto.strips ∙ c.deref_mut.ensures.len in
-    subst (λ (ss : List Strip). IsSound c.add_piece-self-inside.result s.lens c.add_piece-self-inside.new.batch.is_first ss) (sym (with_items_is s.strips after long)) c.add_piece-self-inside.ensures.sound
+    subst (λ (ss : List Strip). AreStrips s.lens ss) (sym (with_items_is s.strips after long)) c.add_piece-self-inside.ensures.sound
 
 pub returns-clause-drawn : goal.returns-clause-drawn
 returns-clause-drawn g c = λ xs ys h none.

@@ -1,11 +1,6 @@
 use Rattle.std.proofs.Common.{◌∙◌}
-use Rattle.depth_raster.proofs.InPieces.{nothing_drawn, sound_parts, begun}
+use Rattle.depth_raster.proofs.InPieces.{nothing_drawn}
 use Rattle.depth_raster.proofs.piece_raster.PieceRaster.begin.Goals as goal
-
-pub invariant_of-self : goal.invariant_of-self
-invariant_of-self c =
-    let s = c.self.inside in
-    begun s.lens c.begin.new.self.is_first s.strips.items c.begin.ensures.first (sound_parts s.glazing s.lens s.batch.is_first s.strips.items c.self.invariant)
 
 pub returns-clause-drawn : goal.returns-clause-drawn
 returns-clause-drawn c =

@@ -11,7 +11,7 @@ use Rattle.depth_raster.specs.InPieces.{PieceWork, HasDrawn, held, joined}
 use Rattle.depth_raster.specs.Strips.{AreStrips}
 use Rattle.depth_raster.specs.declared.strip.Strip.{Strip}
 use Rattle.depth_raster.proofs.GlassInOrder.{turn_adds_up}
-use Rattle.depth_raster.proofs.InPieces.{nothing_drawn, begun}
+use Rattle.depth_raster.proofs.InPieces.{nothing_drawn}
 use Rattle.depth_raster.proofs.piece_raster.PieceRaster.finish.Goals as goal
 
 pub invariant_of-self : goal.invariant_of-self
@@ -19,8 +19,7 @@ invariant_of-self g c =
     let s = c.self.inside in
     let after = c.end_picture.new.strips in
     let long : length after ≡ s.strips.len = c.end_picture.auto.strips ∙ c.deref_mut.ensures.len in
-    begun s.lens c.end_picture.new.batch.is_first (with_items s.strips after).items c.end_picture.ensures.first
-    (subst (λ (ss : List Strip). AreStrips s.lens ss) (sym (with_items_is s.strips after long)) c.end_picture.ensures.strips)
+    subst (λ (ss : List Strip). AreStrips s.lens ss) (sym (with_items_is s.strips after long)) c.end_picture.ensures.strips
 
 pub returns-clause-drawn : goal.returns-clause-drawn
 returns-clause-drawn g c =

@@ -1,9 +1,6 @@
 use Rattle.std.proofs.Common.{[], ◌∷◌, ◌∙◌}
-use Rattle.depth_raster.proofs.InPieces.{nothing_drawn, begun}
+use Rattle.depth_raster.proofs.InPieces.{nothing_drawn}
 use Rattle.depth_raster.proofs.piece_raster.PieceRaster.new.Goals as goal
-
-pub invariant_of-result : goal.invariant_of-result
-invariant_of-result c = begun c.args.lens.now c.begin.new.self.is_first c.in_ok-strips.strips.items c.begin.ensures.first c.in_ok-strips.ensures
 
 pub returns-clause-drawn : goal.returns-clause-drawn
 returns-clause-drawn c =
