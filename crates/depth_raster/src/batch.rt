@@ -28,7 +28,7 @@ pub(crate) struct Batch {
     ghost ranked: { AreRanked pieces.items },
     ghost pieces_room: { 16384 ≤ vec_capacity pieces },
     ghost slots_room: { 16384 ≤ vec_capacity slots },
-    ghost shares_whole: { length shares.items ≡ 16 },
+    ghost shares_some: { 0 < length shares.items },
 }
 
 impl Batch {
@@ -37,15 +37,15 @@ impl Batch {
     ghost use Rattle.depth_raster.specs.Shares.{AreSharesOf};
     ghost use Rattle.depth_raster.specs.Batches.{IsWithFace, faces_of};
 
-    /// No pieces.
-    pub(crate) fn new(alloc: Global) -> Result<Batch, NoMemory>
+    /// No pieces, to be drawn for a lens.
+    pub(crate) fn new(alloc: Global, lens: &Lens) -> Result<Batch, NoMemory>
         ensures { IfOk result (λ b. b.pieces.items ≡ []) }
     {
         let mut pieces = Vec::new(alloc);
         pieces.reserve(ROOM)?;
         let mut slots = Vec::new(alloc);
         slots.reserve(ROOM)?;
-        let shares = new_shares(alloc)?;
+        let shares = new_shares(alloc, lens)?;
         Ok(Batch {
             is_first: true,
             pieces,

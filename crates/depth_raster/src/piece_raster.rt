@@ -68,7 +68,7 @@ impl PieceRaster {
         ensures drawn { IfOk result (λ raster. HasDrawn raster [] []) }
     {
         let strips = new_strips(alloc, lens)?;
-        let mut batch = Batch::new(alloc)?;
+        let mut batch = Batch::new(alloc, lens)?;
         batch.begin();
         Ok(PieceRaster {
             lens: *lens,

@@ -59,7 +59,7 @@ impl Raster {
         ensures { IfOk result (λ raster. raster ≡ lens.now) }
     {
         let strips = new_strips(alloc, lens)?;
-        let batch = Batch::new(alloc)?;
+        let batch = Batch::new(alloc, lens)?;
         Ok(Raster {
             lens: *lens,
             strips,

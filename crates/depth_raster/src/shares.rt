@@ -1,29 +1,28 @@
 //! The slots of pieces by the rows of the picture that they reach.
 ghost use Rattle.std.specs.Prelude.{◌≡◌, ℕ, ◌<◌, ◌≤◌, [], ◌∷◌, ◌++◌, length, slice_index_or, IfOk};
 ghost use Rattle.std.specs.Int.{div_ceil};
-ghost use Rattle.depth_raster.specs.Shares.{AreShared, EachGains};
+ghost use Rattle.depth_raster.specs.Shares.{share_of, AreShared, EachGains};
 ghost use Rattle.depth_raster.specs.declared.share.Share.{Share};
 
 use crate::share::Share;
 use crate::slots::{Slot, append};
+use fx_math::Lens;
 use pf_io::NoMemory;
 use std::alloc::Global;
 
-/// The rows of the picture that a share has; a strip lies in those of one share.
-pub(crate) const HEIGHT: u16 = 64;
-
-/// The number of shares: as many as the tallest picture has.
-const SHARES: usize = 16;
+/// The rows of the picture that a share has; the last one has all from its first on. A strip lies in the rows of one share.
+const HEIGHT: u16 = 64;
 
 /// The most slots of a share.
 const ROOM: usize = 16_384;
 
-/// Shares of no slots, from the top of a picture.
-pub(crate) fn new_shares(alloc: Global) -> Result<Vec<Share>, NoMemory>
-    ensures { IfOk result (λ shares. length shares.items ≡ 16) }
+/// Shares of no slots for all rows of a lens's picture, from the top.
+pub(crate) fn new_shares(alloc: Global, lens: &Lens) -> Result<Vec<Share>, NoMemory>
+    ensures count { IfOk result (λ shares. length shares.items ≡ div_ceil lens.now.h 64) }
+    ensures some { IfOk result (λ shares. 0 < length shares.items) }
 {
     let mut shares = Vec::new(alloc);
-    for i in 0..SHARES {
+    for i in 0..lens.h.div_ceil(HEIGHT) {
         shares.push(new_share(alloc)?)?;
     }
     Ok(shares)
@@ -33,6 +32,13 @@ fn new_share(alloc: Global) -> Result<Share, NoMemory> {
     let mut slots = Vec::new(alloc);
     slots.reserve(ROOM)?;
     Ok(Share { slots })
+}
+
+/// Of so many shares, the number of the one that has a row.
+pub(crate) fn share_of(count: usize, row: u16) -> usize
+    ensures { result ≡ share_of count row }
+{
+    ((row / HEIGHT) as usize).min(count.saturating_sub(1))
 }
 
 /// Gives each share those slots that reach its rows, in their order.
@@ -66,7 +72,7 @@ fn give(shares: &mut [Share], slot: Slot)
     requires { (i : ℕ) (d : Share) → i < length shares.old → length (slice_index_or shares.old i d).slots.items < 16384 }
     ensures { EachGains slot shares.old shares.new }
 {
-    let start = (slot.top / HEIGHT) as usize;
+    let start = share_of(shares.len(), slot.top);
     let end = shares.len().min(end_share(slot.bottom));
     for i in start..end {
         take(&mut shares[i], slot);

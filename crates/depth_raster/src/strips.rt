@@ -12,7 +12,7 @@ use crate::blocks::Block;
 use crate::painting::{clear, paint, settle_tile};
 use crate::pieces::Piece;
 use crate::share::Share;
-use crate::shares::HEIGHT;
+use crate::shares::share_of;
 use crate::slots::Slot;
 use crate::strip::Strip;
 use crate::tile::Tile;
@@ -132,7 +132,7 @@ fn draw_strip(
 {
     begin_strip(strip, is_first);
     let band = strip.band;
-    let share = &shares[(band.first / HEIGHT) as usize];
+    let share = &shares[share_of(shares.len(), band.first)];
     draw_tiles(&mut strip.tiles, &band, lens, back, pieces, &share.slots);
 }
 

@@ -1,11 +1,11 @@
-use Rattle.std.proofs.Common.{◌/◌, length, get_or, refl, ap, sym, subst, arith}
+use Rattle.std.proofs.Common.{length, get_or, ap, sym, subst, arith}
 use Rattle.depth_raster.specs.Shares.{Gains}
 use Rattle.depth_raster.specs.declared.share.Share.{Share}
 use Rattle.depth_raster.proofs.Shared.{gains_none, gains_more, gains_all, gained, share_begins, share_passed}
 use Rattle.depth_raster.proofs.shares.give.Goals as goal
 
 pub loop-i-init : goal.loop-i-init
-loop-i-init c = gains_none c.args.slot c.args.shares.now (c.args.slot.top / 64) refl
+loop-i-init c = gains_none c.args.slot c.args.shares.now c.share_of-start.result c.share_of-start.ensures
 
 pub loop-i-preserved : goal.loop-i-preserved
 loop-i-preserved c =
@@ -13,8 +13,8 @@ loop-i-preserved c =
     let old = c.index-shares-i.result in
     gains_more a.slot a.shares.now c.loop-i.shares c.loop-i.i old c.take.new.share c.loop-i.invariant c.loop-i.auto.shares
     (omega (arith, c.loop-i-test.true, c.min-end.ensures, c.loop-i.auto.shares)) c.index-shares-i.is
-    (subst (λ (t : Share). Gains a.slot c.loop-i.i t c.take.new.share) (sym c.index-shares-i.is)
-    (gained a.slot c.loop-i.i (get_or c.loop-i.shares c.loop-i.i old) c.take.new.share (omega arith)
+    (subst (λ (t : Share). Gains (length a.shares.now) a.slot c.loop-i.i t c.take.new.share) (sym c.index-shares-i.is)
+    (gained (length a.shares.now) a.slot c.loop-i.i (get_or c.loop-i.shares c.loop-i.i old) c.take.new.share (omega (arith, c.share_of-start.ensures))
     (share_begins a.slot.bottom c.end_share.result c.loop-i.i c.end_share.ensures (omega (arith, c.loop-i-test.true, c.min-end.ensures))) c.take.ensures))
 
 pub take-requires : goal.take-requires

@@ -1,4 +1,4 @@
-use Rattle.std.proofs.Common.{List, get_or, subst, arith}
+use Rattle.std.proofs.Common.{List, length, get_or, subst, arith}
 use Rattle.std.proofs.lemmas.List.{take_all}
 use Rattle.depth_raster.specs.Shares.{AreShared}
 use Rattle.depth_raster.specs.declared.slots.Slot.{Slot}
@@ -15,7 +15,7 @@ loop-slot-preserved c =
 
 pub give-requires : goal.give-requires
 give-requires c = λ i d below.
-    share_room i c.loop-slot.slot-index c.args.slots.now (get_or c.loop-slot.shares i d).slots.items (omega arith) c.requires (c.loop-slot.invariant i d below)
+    share_room (length c.loop-slot.shares) i c.loop-slot.slot-index c.args.slots.now (get_or c.loop-slot.shares i d).slots.items (omega arith) c.requires (c.loop-slot.invariant i d below)
 
 pub returns : goal.returns
 returns c = subst (λ (ss : List Slot). AreShared ss c.loop-slot.shares) (take_all c.loop-slot.slot-index c.args.slots.now (omega arith)) c.loop-slot.invariant

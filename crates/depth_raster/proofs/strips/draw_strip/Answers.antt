@@ -1,4 +1,4 @@
-use Rattle.std.proofs.Common.{◌≡◌, ◌/◌, List, length, ap, sym, ◌∙◌, subst, arith}
+use Rattle.std.proofs.Common.{◌≡◌, List, length, ap, sym, ◌∙◌, subst, arith}
 use Rattle.std.proofs.lemmas.List.{with_items_is}
 use Rattle.depth_raster.specs.Shares.{AreSlotsFor}
 use Rattle.depth_raster.specs.Strips.{AreTilesOf, TilesRelate}
@@ -10,10 +10,8 @@ use Rattle.depth_raster.proofs.Drawn.{strip_begun, tiles_drawn_from}
 use Rattle.depth_raster.proofs.Shared.{share_for}
 use Rattle.depth_raster.proofs.strips.draw_strip.Goals as goal
 
-pub bounds-shares-band : goal.bounds-shares-band
-bounds-shares-band c =
-    let is = strip_begun c.args.lens.now c.args.is_first c.args.strip.now c.begin_strip.new.strip c.requires.strip c.begin_strip.ensures in
-    omega (arith, c.requires.shares.count, is.begins, c.args.lens.now.in_range.most_height)
+pub bounds-shares-share_of : goal.bounds-shares-share_of
+bounds-shares-share_of c = omega (arith, c.share_of.ensures, c.requires.shares.some)
 
 pub draw_tiles-requires : goal.draw_tiles-requires
 draw_tiles-requires c =
@@ -21,16 +19,16 @@ draw_tiles-requires c =
     let s = c.begin_strip.new.strip in
     let b = s.band in
     let is = strip_begun a.lens.now a.is_first a.strip.now s c.requires.strip c.begin_strip.ensures in
-    let t = c.index-shares-band.result in
+    let t = c.index-shares-share_of.result in
     record {
       tiles = subst (λ (ts : List Tile). AreTilesOf b ts) (sym c.deref_mut.ensures.value) is.tiles;
       band = is.band;
       pieces = c.requires.pieces;
       ranks = c.requires.ranks;
       slots = subst (λ (ss : List Slot). AreSlotsFor a.lens.now a.pieces.now b ss) (sym c.deref.ensures.value)
-          (subst (λ (u : Share). AreSlotsFor a.lens.now a.pieces.now b u.slots.items) (sym c.index-shares-band.is)
-          (share_for a.lens.now a.pieces.now a.shares.now b (b.first / 64) t c.requires.shares
-          (omega (arith, c.requires.shares.count, is.begins, a.lens.now.in_range.most_height)) is.band.rows is.share));
+          (subst (λ (u : Share). AreSlotsFor a.lens.now a.pieces.now b u.slots.items) (sym c.index-shares-share_of.is)
+          (share_for a.lens.now a.pieces.now a.shares.now b c.share_of.result t c.requires.shares
+          c.share_of.ensures is.band.rows is.share));
     }
 
 pub returns : goal.returns

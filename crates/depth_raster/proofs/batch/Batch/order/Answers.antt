@@ -1,4 +1,4 @@
-use Rattle.std.proofs.Common.{List, length, ap, sym, subst, ◌∙◌}
+use Rattle.std.proofs.Common.{List, length, ap, sym, subst, ◌∙◌, arith}
 use Rattle.depth_raster.specs.Slots.{AreSlotsOf}
 use Rattle.depth_raster.specs.declared.pieces.Piece.{Piece}
 use Rattle.depth_raster.specs.declared.slots.Slot.{Slot}
@@ -19,4 +19,4 @@ returns-clause-shares c = λ lens ready.
     let a = c.args.self.now in
     let long = c.share_out.auto.shares ∙ ap length c.deref_mut.ensures.value in
     subst (λ (ts : List Share). AreSharesOf lens a.pieces.items ts) (sym (written a.shares.len c.share_out.new.shares a.shares.items (long ∙ sym a.shares.ok.0) (sym a.shares.ok.0)))
-    (shares_made lens a.pieces.items c.sort.new.slots.items c.share_out.new.shares ready are (long ∙ a.shares_whole) shared)
+    (shares_made lens a.pieces.items c.sort.new.slots.items c.share_out.new.shares ready are (omega (arith, long, a.shares_some)) shared)
