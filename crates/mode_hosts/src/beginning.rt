@@ -4,9 +4,8 @@ ghost use Rattle.frame_link.specs.Ends.{IsNewRing, ring_sent, ring_send_at, ring
 ghost use Rattle.mode_hosts.specs.Seats.{any_cull, any_draw};
 ghost use Rattle.mode_hosts.specs.Deals.{AreFirst, IsNewReturn, AreNewWorks};
 
-use crate::parts::{both_made, put};
 use crate::works::{AnyCull, AnyDraw, StreamCull, StreamDraw};
-use frame_link::{RingSend, RingTake, ring};
+use frame_link::{RingSend, RingTake, SendEnd, ring};
 use frame_stages::{CullStage, DrawStage};
 use fx_math::Lens;
 use pf_io::NoMemory;
@@ -49,7 +48,9 @@ fn put_piece(alloc: Global, limit: u32, back: &mut RingSend<Piece>) -> Result<()
     ensures stays { ring_send_room back.new ≡ ring_send_room back.old }
 {
     let piece = Piece::new(alloc, limit)?;
-    put(back, piece);
+    let Ok(()) = back.push(piece) else {
+        unreachable!();
+    };
     Ok(())
 }
 
@@ -70,13 +71,11 @@ fn new_return(alloc: Global, limit: u32) -> Result<PieceEnds, NoMemory>
 fn whole_works(alloc: Global, lens: Lens, back: [u8; 3]) -> Result<Works, NoMemory>
     ensures { IfOk result (λ w. AreNewWorks lens back None (any_cull w.cull) (any_draw w.draw)) }
 {
-    let stages = both_made(
-        CullStage::new(alloc, lens),
-        DrawStage::new(alloc, lens, back),
-    )?;
+    let cull = CullStage::new(alloc, lens)?;
+    let draw = DrawStage::new(alloc, lens, back)?;
     Ok(Works {
-        cull: AnyCull::Whole(stages.one),
-        draw: AnyDraw::Whole(stages.other),
+        cull: AnyCull::Whole(cull),
+        draw: AnyDraw::Whole(draw),
     })
 }
 
@@ -86,20 +85,18 @@ fn stream_works(alloc: Global, lens: Lens, back: [u8; 3], limit: u32) -> Result<
     requires most { limit ≤ 4096 }
     ensures { IfOk result (λ w. AreNewWorks lens back (Some limit) (any_cull w.cull) (any_draw w.draw)) }
 {
+    let cull = StreamCullStage::new(alloc, lens, limit)?;
+    let draw = StreamDrawStage::new(alloc, lens, back)?;
     let there = new_piece_link(alloc)?;
     let again = new_return(alloc, limit)?;
-    let stages = both_made(
-        StreamCullStage::new(alloc, lens, limit),
-        StreamDrawStage::new(alloc, lens, back),
-    )?;
     Ok(Works {
         cull: AnyCull::InPieces(StreamCull {
-            stage: stages.one,
+            stage: cull,
             pieces: there.send,
             back: again.take,
         }),
         draw: AnyDraw::InPieces(StreamDraw {
-            stage: stages.other,
+            stage: draw,
             pieces: there.take,
             back: again.send,
         }),

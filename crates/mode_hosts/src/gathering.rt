@@ -132,10 +132,6 @@ pub(crate) fn gather<R: Wait, D: Wait + Drop>(
     link_home(&mut to_draw, &mut from_cull);
     link_home(&mut to_app, &mut from_draw);
     pieces_home(&mut cull, &mut draw);
-    // By calls, so that the drops of all that they hold are no part of this proof.
-    drop(cull);
-    drop(draw);
-    drop(dbase.stage);
     let scene = all_home(
         rt,
         lock,

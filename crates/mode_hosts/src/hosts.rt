@@ -7,8 +7,7 @@ ghost use Rattle.mode_hosts.specs.Hosts.{CameBack, IsFresh, WillCome};
 
 use crate::bell::Bell;
 use crate::crew::Crew;
-use crate::parts::put;
-use frame_link::{RingSend, RingTake, TakeEnd, home, ring};
+use frame_link::{RingSend, RingTake, SendEnd, TakeEnd, home, ring};
 use frame_stages::Did;
 use pf_io::{Gate, Stage};
 use std::alloc::Global;
@@ -115,7 +114,9 @@ pub(crate) fn give<R: Drop>(host: Host<R>, crew: Crew<R>) -> Host<R>
     ensures { WillCome crew result.send result.thread.promise.0.value }
 {
     let Host { mut send, thread } = host;
-    put(&mut send, crew);
+    let Ok(()) = send.push(crew) else {
+        unreachable!();
+    };
     Host { send, thread }
 }
 

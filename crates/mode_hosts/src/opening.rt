@@ -68,8 +68,8 @@ fn new_way(alloc: Global, ahead: u8, probe: Option<Segment>) -> Result<Way, NoMe
     let Ends { send, take } = new_link(alloc, ahead)?;
     match probe {
         Some(segment) => {
-            let further = new_link(alloc, ahead)?;
             let stage = ProbeStage::new(alloc, segment)?;
+            let further = new_link(alloc, ahead)?;
             Ok(Way {
                 send,
                 probe: Some(ProbeWay {
@@ -102,9 +102,9 @@ fn new_links(alloc: Global, ahead: u8, probe: Option<Segment>) -> Result<Links, 
     ensures to_draw { IfOk result (λ l. IsNewRing (ahead + 1) l.to_draw.send l.to_draw.take) }
     ensures back { IfOk result (λ l. IsNewRing (ahead + 1) l.back.send l.back.take) }
 {
+    let to_cull = new_way(alloc, ahead, probe)?;
     let to_draw = new_link(alloc, ahead)?;
     let back = new_link(alloc, ahead)?;
-    let to_cull = new_way(alloc, ahead, probe)?;
     Ok(Links {
         to_cull,
         to_draw,

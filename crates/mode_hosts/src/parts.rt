@@ -1,12 +1,6 @@
 //! The parts of a play on hosts, put together. It is all one to these functions what the parts are.
-//!
-//! Where a function drops a value itself, as at an early return by `?`, its proof has the drops of all that the value holds.
-//! A generic function calls one drop instead, which is proved once. So large values that may have to be dropped are handed to
-//! these functions.
-ghost use Rattle.std.specs.Prelude.{◌≡◌, ◌<◌, ◌++◌, ◌∷◌, [], length, Ok, IfOk};
-ghost use Rattle.frame_link.specs.Ends.{ring_sent, ring_send_at, ring_send_room};
+ghost use Rattle.std.specs.Prelude.{◌≡◌, Ok, IfOk};
 
-use frame_link::{RingSend, SendEnd};
 use pf_io::NoMemory;
 
 /// The application, the cull and the draw, the database process, the desks, and the links of a play.
@@ -40,37 +34,4 @@ pub(crate) fn all_made<A: Drop, W: Drop, B: Drop, K: Drop, L: Drop>(
         desks: desks?,
         links: links?,
     })
-}
-
-/// Two parts.
-#[derive(Drop)]
-pub(crate) struct Both<A, B> {
-    pub(crate) one: A,
-    pub(crate) other: B,
-}
-
-/// Two parts, where there was memory for both.
-pub(crate) fn both_made<A: Drop, B: Drop>(
-    one: Result<A, NoMemory>,
-    other: Result<B, NoMemory>,
-) -> Result<Both<A, B>, NoMemory>
-    ensures one { IfOk result (λ b. one ≡ Ok b.one) }
-    ensures other { IfOk result (λ b. other ≡ Ok b.other) }
-{
-    Ok(Both {
-        one: one?,
-        other: other?,
-    })
-}
-
-/// Sends something over a ring that has room for it.
-pub(crate) fn put<T: Drop>(send: &mut RingSend<T>, item: T)
-    requires { length (ring_sent send.old) < ring_send_room send.old }
-    ensures sent { ring_sent send.new ≡ ring_sent send.old ++ item ∷ [] }
-    ensures at { ring_send_at send.new ≡ ring_send_at send.old }
-    ensures room { ring_send_room send.new ≡ ring_send_room send.old }
-{
-    let Ok(()) = send.push(item) else {
-        unreachable!();
-    };
 }

@@ -23,7 +23,6 @@ use crate::hosts::Common;
 use crate::leaving::leave;
 use crate::modes::Setup;
 use crate::opening::{Opened, open};
-use crate::parts::both_made;
 use pf_history::History;
 use pf_io::{Gate, NoMemory, Sink};
 use pipe_plays::laws::a_play_not_begun_leaves_nothing;
@@ -38,12 +37,6 @@ use std::thread::Threads;
 struct Ready<R, G> {
     opened: Opened<R>,
     common: Arc<Common<G>, Global>,
-}
-
-/// What the hosts of a play share, where there is memory for it.
-fn new_common<G: Drop>(alloc: Global, gate: G) -> Result<Arc<Common<G>, Global>, NoMemory> {
-    let bell = Bell::new();
-    Ok(Arc::new(alloc, Common { bell, gate })?)
 }
 
 /// Opens a play as the setup asks for it, where there is memory for it.
@@ -61,11 +54,10 @@ fn get_ready<R: Wait + Copy + Drop, G: Drop>(
     ensures keeps { IfOk result (λ r. (bytes : Option (List ℕ))
         → AllKeep (setup_of play setup.now.ahead) play.dbase setup.now.probe (all_sites r.opened.seats) bytes bytes) }
 {
-    let ready = both_made(open(*rt, alloc, play, setup), new_common(alloc, gate))?;
-    Ok(Ready {
-        opened: ready.one,
-        common: ready.other,
-    })
+    let opened = open(*rt, alloc, play, setup)?;
+    let bell = Bell::new();
+    let common = Arc::new(alloc, Common { bell, gate })?;
+    Ok(Ready { opened, common })
 }
 
 /// Plays a play that is not stuck, its stages divided among hosts by the setup, and writes the pictures of its frames to

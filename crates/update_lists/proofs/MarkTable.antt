@@ -1,38 +1,39 @@
 -- What marks keep.
-use Rattle.std.proofs.Common.{◌≡◌, ℕ, ◌+◌, ◌<◌, ◌≤◌, Bool, true, false, ◌||◌, nat_eq, List, [], ◌∷◌, ◌++◌, length, get_or, set, replicate, refl, sym, ◌∙◌, ap, ⊎_elim, arith}
-use Rattle.std.proofs.lemmas.Bool.{false≢true, cases_eq}
+use Rattle.std.proofs.Common.{◌≡◌, ℕ, ◌<◌, ◌≤◌, Bool, true, false, ◌||◌, nat_eq, List, [], ◌∷◌, ◌++◌, length, get_or, set, refl, sym, ◌∙◌, ap, ⊎_elim, arith}
+use Rattle.std.proofs.lemmas.Bool.{false≢true, cases_eq, cases_lt}
 use Rattle.std.proofs.lemmas.Bool.Decides.{nat_tests}
 use Rattle.std.proofs.lemmas.Cmp.{nat_eq_equiv}
-use Rattle.std.proofs.lemmas.List.{length-set, get_or-set_same, get_or-set_other, get_or-replicate, length-replicate, drop_more}
-use Rattle.std.proofs.lemmas.List.Folds.{list_any-append}
+use Rattle.std.proofs.lemmas.List.{length-set, get_or-set_same, get_or-set_other, get_or_past}
+use Rattle.std.proofs.lemmas.List.Folds.{list_any-append, list_any_at}
 use Rattle.std.proofs.lemmas.Map.Keys.{IsDistinct-push, IsDistinct-cons}
 use Rattle.std.proofs.lemmas.Map.Steps.{length-le_from_distinct_below}
-use Rattle.std.specs.List.{AllByRecursion, IsDistinct}
+use Rattle.std.specs.List.{All, AllByRecursion, IsDistinct}
 use Rattle.pf_model.specs.Copies.{put_all}
 use Rattle.update_lists.specs.Marks.{AreMarks, among}
-use Rattle.update_lists.proofs.Rising.{among_put, put_all_rising, rising_once}
+use Rattle.update_lists.proofs.Rising.{among_put, itself, put_all_rising, rising_once}
 
 once_none : IsDistinct nat_eq []
 unfolding IsDistinct
 once_none = tt
 
 -- no mark at all
-pub marks_none : (table : List Bool) (room : ℕ) → length table ≡ 65536 → ((id : ℕ) → id < 65536 → get_or table id false ≡ false) → 65536 ≤ room → AreMarks table [] room
-marks_none table room whole none roomy = record {
-  whole = whole;
+pub marks_none : (table : List Bool) (table_room room : ℕ) → length table ≤ 65536 → 65536 ≤ table_room → ((id : ℕ) → id < 65536 → get_or table id false ≡ false) → 65536 ≤ room → AreMarks table table_room [] room
+marks_none table table_room room few reserved none roomy = record {
+  few = few;
+  reserved = reserved;
   agree = none;
   narrow = λ id h. absurd (false≢true h);
   once = once_none;
   roomy = roomy;
 }
 
-pub marks_new : (room : ℕ) → 65536 ≤ room → AreMarks (replicate 65536 false) [] room
-marks_new room roomy =
-    marks_none (replicate 65536 false) room (length-replicate 65536 false) (λ id l. get_or-replicate 65536 id false false l) roomy
+pub marks_new : AreMarks [] 65536 [] 65536
+marks_new = marks_none [] 65536 65536 (omega arith) (omega arith) (λ id l. refl) (omega arith)
 
-pub marks_roomier : (table : List Bool) (ids : List ℕ) (room more : ℕ) → room ≤ more → AreMarks table ids room → AreMarks table ids more
-marks_roomier table ids room more l marks = record {
-  whole = marks.whole;
+pub marks_roomier : (table : List Bool) (table_room : ℕ) (ids : List ℕ) (room more : ℕ) → room ≤ more → AreMarks table table_room ids room → AreMarks table table_room ids more
+marks_roomier table table_room ids room more l marks = record {
+  few = marks.few;
+  reserved = marks.reserved;
   agree = marks.agree;
   narrow = marks.narrow;
   once = marks.once;
@@ -47,7 +48,29 @@ absent x (y ∷ ys) h = by (nat_eq x y) refl (λ k. absent x ys k) h
     by true e rest k = absurd (false≢true (sym k))
     by false e rest k = (e, rest k)
 
-module _ (table : List Bool) (ids : List ℕ) (room : ℕ) (marks : AreMarks table ids room) where
+-- a table that reads the same keeps the same marks
+pub marks_longer : (table longer : List Bool) (table_room longer_room : ℕ) (ids : List ℕ) (room : ℕ) → length longer ≤ 65536 → table_room ≤ longer_room →
+    ((id : ℕ) → get_or longer id false ≡ get_or table id false) → AreMarks table table_room ids room → AreMarks longer longer_room ids room
+marks_longer table longer table_room longer_room ids room few more same marks = record {
+  few = few;
+  reserved = omega (arith, more, marks.reserved);
+  agree = λ id l. same id ∙ marks.agree id l;
+  narrow = marks.narrow;
+  once = marks.once;
+  roomy = marks.roomy;
+}
+
+module _ (table : List Bool) (table_room : ℕ) (ids : List ℕ) (room : ℕ) (marks : AreMarks table table_room ids room) where
+  -- the entry of a marked id is written
+  written : (id : ℕ) → among id ids ≡ true → id < length table
+  written id h =
+      ⊎_elim (λ l. l)
+      (λ past. absurd (false≢true (sym (get_or_past table id false past) ∙ marks.agree id (marks.narrow id h) ∙ h)))
+      (cases_lt id (length table))
+
+  pub all_written : All (λ id. id < length table) ids
+  all_written = λ k d l. written (get_or ids k d) (list_any_at (nat_eq (get_or ids k d)) ids k d l (itself (get_or ids k d)))
+
   -- one id more is among the marked ones, or was
   either : (id q : ℕ) → id < 65536 → (nat_eq q id || among q ids) ≡ true → q < 65536
   either id q l h = by (nat_eq q id) refl h
@@ -63,9 +86,10 @@ module _ (table : List Bool) (ids : List ℕ) (room : ℕ) (marks : AreMarks tab
       let few = length-le_from_distinct_below (id ∷ ids) 65536 (IsDistinct-cons nat_eq id ids (absent id ids out) marks.once) (λ q k. either id q l k) in
       omega (arith, few, marks.roomy)
 
-  pub marked_more : (id : ℕ) → id < 65536 → get_or table id false ≡ false → AreMarks (set table id true) (ids ++ id ∷ []) room
-  marked_more id l h = record {
-    whole = length-set table id true ∙ marks.whole;
+  pub marked_more : (id : ℕ) → id < 65536 → id < length table → get_or table id false ≡ false → AreMarks (set table id true) table_room (ids ++ id ∷ []) room
+  marked_more id l there h = record {
+    few = omega (arith, length-set table id true, marks.few);
+    reserved = marks.reserved;
     agree = λ q k. ⊎_elim (λ e. here q e) (λ apart. elsewhere q k apart) (cases_eq q id);
     narrow = λ q k. within q (sym (list_any-append (nat_eq q) ids (id ∷ [])) ∙ k);
     once = IsDistinct-push nat_eq_equiv ids id marks.once (sym (marks.agree id l) ∙ h);
@@ -84,7 +108,7 @@ module _ (table : List Bool) (ids : List ℕ) (room : ℕ) (marks : AreMarks tab
       here q e =
           let met : nat_eq q id ≡ true = grind (arith, nat_tests) in
           rw (list_any-append (nat_eq q) ids (id ∷ [])) (ap (λ k. get_or (set table id true) k false) e
-          ∙ get_or-set_same table id true false (omega (arith, l, marks.whole)) ∙ sym (last q met))
+          ∙ get_or-set_same table id true false there ∙ sym (last q met))
 
       first : (q : ℕ) → nat_eq q id ≡ false → (among q ids || (nat_eq q id || false)) ≡ among q ids
       first q e = by (among q ids) (nat_eq q id) e
@@ -108,9 +132,10 @@ module _ (table : List Bool) (ids : List ℕ) (room : ℕ) (marks : AreMarks tab
           by false false ea eb k = absurd (false≢true k)
 
   -- the marks know no order
-  pub marks_sorted : AreMarks table (put_all ids []) room
+  pub marks_sorted : AreMarks table table_room (put_all ids []) room
   marks_sorted = record {
-    whole = marks.whole;
+    few = marks.few;
+    reserved = marks.reserved;
     agree = λ id l. marks.agree id l ∙ sym (among_put id ids);
     narrow = λ id h. marks.narrow id (sym (among_put id ids) ∙ h);
     once = rising_once (put_all ids []) (put_all_rising ids [] tt);

@@ -1,6 +1,6 @@
 -- Rising lists of ids.
-use Rattle.std.proofs.Common.{◌≡◌, ℕ, ◌+◌, ◌<◌, ◌≤◌, Bool, true, false, cond, ◌||◌, ◌==◌, nat_eq, nat_lt, List, [], ◌∷◌, ◌++◌, refl, sym, ◌∙◌, ap, subst, ⊎_elim, arith}
-use Rattle.std.proofs.lemmas.Bool.{false≢true, cases_lt, cases_eq, ltb-true}
+use Rattle.std.proofs.Common.{◌≡◌, ℕ, ◌<◌, Bool, true, false, cond, ◌||◌, ◌==◌, nat_eq, nat_lt, List, [], ◌∷◌, ◌++◌, refl, sym, ◌∙◌, ap, subst, ⊎_elim, arith}
+use Rattle.std.proofs.lemmas.Bool.{false≢true, cases_lt, ltb-true}
 use Rattle.std.proofs.lemmas.Bool.Decides.{nat_tests}
 use Rattle.std.proofs.lemmas.List.Sorted.{IsNonDecreasingBy-from_sort, list_any-IsPermutation}
 use Rattle.std.proofs.lemmas.Map.Keys.{IsDistinct-IsPermutation, IsDistinct-cons, IsStrictlyIncreasing-from_distinct, sorted_from_strictly_increasing, sorted_head, sorted_tail}
@@ -22,7 +22,7 @@ apart a b l = grind (arith, nat_tests)
 same_id : (a b : ℕ) → nat_eq a b ≡ true → a ≡ b
 same_id a b h = grind (arith, nat_tests)
 
-itself : (a : ℕ) → nat_eq a a ≡ true
+pub itself : (a : ℕ) → nat_eq a a ≡ true
 itself a = grind (arith, nat_tests)
 
 pub flips : (a b : ℕ) → nat_eq a b ≡ nat_eq b a

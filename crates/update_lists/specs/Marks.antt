@@ -6,10 +6,11 @@ use Rattle.std.specs.List.{list_any, IsDistinct}
 abbrev pub among : ℕ → List ℕ → Bool
 among id ids = list_any (nat_eq id) ids
 
--- What the table of marks, the list of those set and its room keep: an id has a mark exactly where it is in the list,
--- each once, and there is room for all ids.
-pub record AreMarks (table : List Bool) (ids : List ℕ) (room : ℕ) : Type 0 where
-  pub whole : length table ≡ 65536
+-- What the table of marks, the list of those set, and the room of each keep: an id has a mark exactly where it is in the
+-- list, each once, past the entries that are written there is no mark, and each has room for all ids.
+pub record AreMarks (table : List Bool) (table_room : ℕ) (ids : List ℕ) (room : ℕ) : Type 0 where
+  pub few : length table ≤ 65536
+  pub reserved : 65536 ≤ table_room
   pub agree : (id : ℕ) → id < 65536 → slice_index_or table id false ≡ among id ids
   pub narrow : (id : ℕ) → among id ids ≡ true → id < 65536
   pub once : IsDistinct nat_eq ids

@@ -11,7 +11,8 @@ use pf_model::{Arrays, NodeView};
 use std::alloc::Global;
 use std::marker::Model;
 
-/// The ids of the nodes that changed since the last cut: a mark for each id, and the list of the ids that have one.
+/// The ids of the nodes that changed since the last cut: a mark for each id, and the list of the ids that have one. There
+/// is memory for the marks of all ids, and as many are written as the greatest id that was ever marked asks.
 #[derive(Debug)]
 pub struct Dirty {
     table: Vec<bool>,
@@ -35,7 +36,7 @@ impl Model for Dirty {
 
     ghost view = { λ d. put_all d.ids.items [] };
 
-    ghost invariant = { λ d. AreMarks d.table.items d.ids.items (vec_capacity d.ids) };
+    ghost invariant = { λ d. AreMarks d.table.items (vec_capacity d.table) d.ids.items (vec_capacity d.ids) };
 }
 
 impl Dirty {
@@ -49,11 +50,11 @@ impl Dirty {
         })
     }
 
-    /// Marks an id, in constant time and without memory.
+    /// Marks an id, without memory, and in constant time unless it is greater than each before it.
     pub fn mark(&mut self, id: u16)
         ensures { self.new ≡ put_in id self.old }
     {
-        marks::mark(self.table.as_mut_slice(), &mut self.ids, id);
+        marks::mark(&mut self.table, &mut self.ids, id);
     }
 
     /// The update list of the marked ids, each with its latest node or none; the marks are cleared. The triangles of a
@@ -82,7 +83,7 @@ impl Dirty {
     {
         marks::sort(&mut self.ids);
         let updates = taking::take(self.ids.as_slice(), scene, arrays, *self.ids.allocator())?;
-        marks::clear(self.table.as_mut_slice(), &mut self.ids);
+        marks::clear(&mut self.table, &mut self.ids);
         Ok(updates)
     }
 }

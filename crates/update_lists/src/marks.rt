@@ -1,6 +1,6 @@
 //! The table of marks, and the list of those that are set.
-ghost use Rattle.std.specs.Prelude.{◌≡◌, ℕ, [], length, false, nat_eq, replicate, IfOk, slice_index_or};
-ghost use Rattle.std.specs.List.{IsDistinct};
+ghost use Rattle.std.specs.Prelude.{◌≡◌, ℕ, ◌<◌, ◌≤◌, [], length, max, false, nat_eq, IfOk, slice_index_or};
+ghost use Rattle.std.specs.List.{All, IsDistinct};
 ghost use Rattle.std.specs.Vec.{vec_capacity};
 ghost use Rattle.pf_model.specs.Copies.{put_in, put_all};
 ghost use Rattle.update_lists.specs.Marks.{AreMarks, among};
@@ -11,11 +11,11 @@ use std::alloc::Global;
 /// How many ids there are.
 const IDS: usize = 65_536;
 
-/// A table without marks.
+/// A table without marks, and room for those of all ids. No entry is written.
 pub(crate) fn no_marks(alloc: Global) -> Result<Vec<bool>, NoMemory>
-    ensures { IfOk result (λ table. table.items ≡ replicate 65536 false) }
+    ensures { IfOk result (λ table. (table.items ≡ []) × (vec_capacity table ≡ 65536)) }
 {
-    Ok(vec![in alloc; false; IDS]?)
+    Ok(Vec::with_capacity(alloc, IDS)?)
 }
 
 /// Room for all ids.
@@ -25,16 +25,34 @@ pub(crate) fn no_ids(alloc: Global) -> Result<Vec<u16>, NoMemory>
     Ok(Vec::with_capacity(alloc, IDS)?)
 }
 
-/// Marks an id, and puts it into the list where it had no mark.
-pub(crate) fn mark(table: &mut [bool], ids: &mut Vec<u16>, id: u16)
-    requires { AreMarks table.old ids.old.items (vec_capacity ids.old) }
-    ensures marks { AreMarks table.new ids.new.items (vec_capacity ids.new) }
-    ensures ids { put_all ids.new.items [] ≡ put_in id (put_all ids.old.items []) }
+/// Writes entries without a mark, until there are this many; there is room for them.
+fn lengthen(table: &mut Vec<bool>, count: usize)
+    requires { count ≤ vec_capacity table.old }
+    ensures count { length table.new.items ≡ max (length table.old.items) count }
+    ensures capacity { vec_capacity table.old ≤ vec_capacity table.new }
+    ensures marks { (id : ℕ) → slice_index_or table.new.items id false ≡ slice_index_or table.old.items id false }
 {
-    if table[id as usize] {
+    if count <= table.len() {
         return;
     }
-    table[id as usize] = true;
+    match table.resize(count, false) {
+        Ok(()) => {}
+        Err(_) => unreachable!(),
+    }
+}
+
+/// Marks an id, and puts it into the list where it had no mark.
+pub(crate) fn mark(table: &mut Vec<bool>, ids: &mut Vec<u16>, id: u16)
+    requires { AreMarks table.old.items (vec_capacity table.old) ids.old.items (vec_capacity ids.old) }
+    ensures marks { AreMarks table.new.items (vec_capacity table.new) ids.new.items (vec_capacity ids.new) }
+    ensures ids { put_all ids.new.items [] ≡ put_in id (put_all ids.old.items []) }
+{
+    let place = id as usize;
+    lengthen(table, place + 1);
+    if table[place] {
+        return;
+    }
+    table[place] = true;
     match ids.push(id) {
         Ok(()) => {}
         Err(_) => unreachable!(),
@@ -59,10 +77,12 @@ fn sort_ids(ids: &mut [u16])
 }
 
 /// Takes the marks of these ids away.
-fn unmark(table: &mut [bool], ids: &[u16])
-    requires { length table.old ≡ 65536 }
-    ensures { (id : ℕ) → (among id ids.now ≡ false → slice_index_or table.old id false ≡ false)
-        → slice_index_or table.new id false ≡ false }
+fn unmark(table: &mut Vec<bool>, ids: &[u16])
+    requires { All (λ id. id < length table.old.items) ids.now }
+    ensures len { length table.new.items ≡ length table.old.items }
+    ensures capacity { vec_capacity table.new ≡ vec_capacity table.old }
+    ensures marks { (id : ℕ) → (among id ids.now ≡ false → slice_index_or table.old.items id false ≡ false)
+        → slice_index_or table.new.items id false ≡ false }
 {
     for id in ids {
         table[*id as usize] = false;
@@ -70,9 +90,9 @@ fn unmark(table: &mut [bool], ids: &[u16])
 }
 
 /// Takes the marks of these ids away, and empties the list. It takes time in proportion to their number.
-pub(crate) fn clear(table: &mut [bool], ids: &mut Vec<u16>)
-    requires { AreMarks table.old ids.old.items (vec_capacity ids.old) }
-    ensures marks { AreMarks table.new ids.new.items (vec_capacity ids.new) }
+pub(crate) fn clear(table: &mut Vec<bool>, ids: &mut Vec<u16>)
+    requires { AreMarks table.old.items (vec_capacity table.old) ids.old.items (vec_capacity ids.old) }
+    ensures marks { AreMarks table.new.items (vec_capacity table.new) ids.new.items (vec_capacity ids.new) }
     ensures empty { ids.new.items ≡ [] }
 {
     unmark(table, ids.as_slice());

@@ -11,7 +11,7 @@ take-requires-clause-rising g c = rw (c.as_slice.ensures.value, c.sort.ensures.s
 
 pub invariant_of-self : goal.invariant_of-self
 invariant_of-self g c =
-    rw (c.sort.ensures.sorted, c.sort.ensures.capacity) (marks_sorted c.self.inside.table.items c.self.inside.ids.items (vec_capacity c.self.inside.ids) c.self.invariant)
+    rw (c.sort.ensures.sorted, c.sort.ensures.capacity) (marks_sorted c.self.inside.table.items (vec_capacity c.self.inside.table) c.self.inside.ids.items (vec_capacity c.self.inside.ids) c.self.invariant)
 
 -- sorted ids are the same marks
 pub returns-in_err-updates-clause-unchanged : goal.returns-in_err-updates-clause-unchanged
@@ -22,5 +22,5 @@ returns-in_err-updates-clause-unchanged g c =
 
 pub clear-requires : goal.clear-requires
 clear-requires g c =
-    rw (c.as_mut_slice.ensures.value, c.sort.ensures.sorted, c.sort.ensures.capacity)
-    (marks_sorted c.self.inside.table.items c.self.inside.ids.items (vec_capacity c.self.inside.ids) c.self.invariant)
+    rw (c.sort.ensures.sorted, c.sort.ensures.capacity)
+    (marks_sorted c.self.inside.table.items (vec_capacity c.self.inside.table) c.self.inside.ids.items (vec_capacity c.self.inside.ids) c.self.invariant)
