@@ -13,6 +13,7 @@ pub(crate) mod spans;
 pub(crate) mod states;
 pub(crate) mod stats;
 pub(crate) mod steps;
+pub(crate) mod tables;
 
 pub use items::{Item, Span, Tint};
 pub use lists::DrawList;

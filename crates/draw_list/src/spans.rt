@@ -1,9 +1,9 @@
 //! Where the triangles of each id stand.
-ghost use Rattle.std.specs.Prelude.{◌≡◌, ℕ, ◌+◌, ◌-◌, ◌<◌, ◌≤◌, ◌++◌, [], None, Some, is_some, length, replicate, slice_index_or, slice_set, OnOk, OnErr};
-ghost use Rattle.std.specs.Vec.{vec_len, vec_capacity};
+ghost use Rattle.std.specs.Prelude.{◌≡◌, ℕ, ◌<◌, [], None, Some, is_some, length, slice_index_or, slice_set, OnOk, OnErr};
 ghost use Rattle.draw_list.specs.Listed.{AreListed};
 
 use crate::items::Span;
+use crate::tables::{grow, write_to};
 use pf_io::NoMemory;
 use std::alloc::Global;
 use std::marker::Model;
@@ -11,24 +11,26 @@ use std::marker::Model;
 /// The number of the ids that there may be.
 const IDS: usize = 65_536;
 
-/// A span for each id that has one, and the list of these ids, by which all are taken back. Without memory no id has a span.
+/// A span for each id that has one, and the list of these ids, by which all are taken back. Entries are written up to the
+/// greatest id that was set; the width is the number of ids that may have a span, none without memory.
 #[derive(Debug, Drop)]
 pub(crate) struct Spans {
     spans: Vec<Option<Span>>,
     ids: Vec<u16>,
+    width: usize,
 }
 
 impl Model for Spans {
     ghost use Rattle.std.specs.Prelude.{List, Option, None, is_some};
     ghost use Rattle.std.specs.Vec.{vec_capacity};
     ghost use Rattle.draw_list.specs.declared.items.Span.{Span};
-    ghost use Rattle.draw_list.specs.Listed.{IsListedTable};
+    ghost use Rattle.draw_list.specs.Listed.{IsListedTable, whole_table};
 
     ghost Value = { List (Option Span) };
 
-    ghost view = { λ s. s.spans.items };
+    ghost view = { λ s. whole_table None s.spans.items s.width };
 
-    ghost invariant = { λ s. IsListedTable is_some None s.spans.items s.ids.items (vec_capacity s.ids) };
+    ghost invariant = { λ s. IsListedTable is_some None s.spans.items s.width (vec_capacity s.spans) s.ids.items (vec_capacity s.ids) };
 }
 
 impl Spans {
@@ -39,17 +41,19 @@ impl Spans {
         Spans {
             spans: Vec::new(alloc),
             ids: Vec::new(alloc),
+            width: 0,
         }
     }
 
-    /// Makes an entry ready for each id.
+    /// Takes memory for the entry of each id.
     pub(crate) fn reserve(&mut self) -> Result<(), NoMemory>
         ensures ready { OnOk result (length self.new ≡ 65536) }
         ensures same { OnErr result (self.new ≡ self.old) }
         ensures spans { (id : ℕ) → slice_index_or self.new id None ≡ slice_index_or self.old id None }
     {
         grow(&mut self.ids, IDS)?;
-        lengthen(&mut self.spans, IDS)?;
+        grow(&mut self.spans, IDS)?;
+        self.width = IDS;
         Ok(())
     }
 
@@ -58,7 +62,7 @@ impl Spans {
         ensures spans { (id : ℕ) → slice_index_or self.new id None ≡ None }
         ensures len { length self.new ≡ length self.old }
     {
-        take_back(&mut self.spans, self.ids.as_slice());
+        take_back(self.spans.as_mut_slice(), self.ids.as_slice());
         self.ids.clear();
     }
 
@@ -78,37 +82,18 @@ impl Spans {
         requires none { slice_index_or self.old id None ≡ None }
         ensures { self.new ≡ slice_set self.old id (Some span) }
     {
-        self.spans[id as usize] = Some(span);
+        let place = id as usize;
+        write_to(&mut self.spans, place, None);
+        self.spans[place] = Some(span);
         self.ids.push_reserved(id);
     }
 }
 
-/// Memory for this many places.
-pub(crate) fn grow(places: &mut Vec<u16>, n: usize) -> Result<(), NoMemory>
-    requires { vec_len places.old ≤ n }
-    ensures items { places.new.items ≡ places.old.items }
-    ensures more { vec_capacity places.old ≤ vec_capacity places.new }
-    ensures room { OnOk result (n ≤ vec_capacity places.new) }
-{
-    places.reserve(n - places.len())?;
-    Ok(())
-}
-
-fn lengthen(spans: &mut Vec<Option<Span>>, n: usize) -> Result<(), NoMemory>
-    requires { vec_len spans.old ≤ n }
-    ensures ready { OnOk result (spans.new.items ≡ spans.old.items ++ replicate (n - vec_len spans.old) None) }
-    ensures same { OnErr result (spans.new.items ≡ spans.old.items) }
-{
-    spans.resize(n, None)?;
-    Ok(())
-}
-
 /// Takes the spans of these ids back, which are all that have one.
-fn take_back(spans: &mut Vec<Option<Span>>, ids: &[u16])
-    requires sized { 0 < length ids.now → length spans.old.items ≡ 65536 }
-    requires listed { AreListed is_some None spans.old.items ids.now }
-    ensures len { length spans.new.items ≡ length spans.old.items }
-    ensures none { (id : ℕ) → slice_index_or spans.new.items id None ≡ None }
+fn take_back(spans: &mut [Option<Span>], ids: &[u16])
+    requires { AreListed is_some None spans.old ids.now }
+    ensures len { length spans.new ≡ length spans.old }
+    ensures none { (id : ℕ) → slice_index_or spans.new id None ≡ None }
 {
     for id in ids {
         spans[*id as usize] = None;

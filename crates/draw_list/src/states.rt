@@ -1,9 +1,8 @@
 //! Marks of states, and how many there are.
-ghost use Rattle.std.specs.Prelude.{◌≡◌, ℕ, ◌-◌, ◌<◌, ◌≤◌, ◌++◌, false, true, length, replicate, slice_index_or, slice_set, count_by, OnOk, OnErr};
-ghost use Rattle.std.specs.Vec.{vec_len};
+ghost use Rattle.std.specs.Prelude.{◌≡◌, ℕ, ◌<◌, ◌≤◌, false, true, length, replicate, slice_index_or, slice_set, count_by, OnOk};
 ghost use Rattle.draw_list.specs.Listed.{AreListed};
 
-use crate::spans::grow;
+use crate::tables::{grow, write_to};
 use pf_io::NoMemory;
 use std::alloc::Global;
 use std::marker::Model;
@@ -11,23 +10,26 @@ use std::marker::Model;
 /// The number of the states that there may be.
 const STATES: usize = 65_536;
 
-/// A mark for each state, and the list of the states that have one. Without memory no state has a mark.
+/// A mark for each state, and the list of the states that have one. Entries are written up to the greatest state that was
+/// marked; the width is the number of states that may have a mark, none without memory.
 #[derive(Debug, Drop)]
 pub(crate) struct States {
     marks: Vec<bool>,
     marked: Vec<u16>,
+    width: usize,
 }
 
 impl Model for States {
     ghost use Rattle.std.specs.Prelude.{Bool, false, List};
     ghost use Rattle.std.specs.Vec.{vec_capacity};
-    ghost use Rattle.draw_list.specs.Listed.{IsListedTable};
+    ghost use Rattle.draw_list.specs.Listed.{IsListedTable, whole_table};
 
     ghost Value = { List Bool };
 
-    ghost view = { λ s. s.marks.items };
+    ghost view = { λ s. whole_table false s.marks.items s.width };
 
-    ghost invariant = { λ s. IsListedTable (λ m. m) false s.marks.items s.marked.items (vec_capacity s.marked) };
+    ghost invariant = { λ s. IsListedTable (λ m. m) false s.marks.items s.width (vec_capacity s.marks)
+        s.marked.items (vec_capacity s.marked) };
 }
 
 impl States {
@@ -37,24 +39,27 @@ impl States {
         States {
             marks: Vec::new(alloc),
             marked: Vec::new(alloc),
+            width: 0,
         }
     }
 
-    /// Makes a mark ready for each state.
+    /// Takes memory for the mark of each state.
     pub(crate) fn reserve(&mut self) -> Result<(), NoMemory>
         ensures ready { OnOk result (length self.new ≡ 65536) }
         ensures marks { (state : ℕ) → slice_index_or self.new state false ≡ slice_index_or self.old state false }
         ensures more { length self.old ≡ 65536 → length self.new ≡ 65536 }
     {
         grow(&mut self.marked, STATES)?;
-        lengthen(&mut self.marks, STATES)
+        grow(&mut self.marks, STATES)?;
+        self.width = STATES;
+        Ok(())
     }
 
     /// Takes all marks away.
     pub(crate) fn clear(&mut self)
         ensures { self.new ≡ replicate (length self.old) false }
     {
-        unmark(&mut self.marks, self.marked.as_slice());
+        unmark(self.marks.as_mut_slice(), self.marked.as_slice());
         self.marked.clear();
     }
 
@@ -64,6 +69,7 @@ impl States {
         ensures { self.new ≡ slice_set self.old state true }
     {
         let place = state as usize;
+        write_to(&mut self.marks, place, false);
         if self.marks[place] {
             return;
         }
@@ -80,21 +86,11 @@ impl States {
     }
 }
 
-fn lengthen(marks: &mut Vec<bool>, n: usize) -> Result<(), NoMemory>
-    requires { vec_len marks.old ≤ n }
-    ensures ready { OnOk result (marks.new.items ≡ marks.old.items ++ replicate (n - vec_len marks.old) false) }
-    ensures same { OnErr result (marks.new.items ≡ marks.old.items) }
-{
-    marks.resize(n, false)?;
-    Ok(())
-}
-
 /// Takes the marks of these states away, which are all that have one.
-fn unmark(marks: &mut Vec<bool>, states: &[u16])
-    requires sized { 0 < length states.now → length marks.old.items ≡ 65536 }
-    requires listed { AreListed (λ m. m) false marks.old.items states.now }
-    ensures len { length marks.new.items ≡ length marks.old.items }
-    ensures none { (state : ℕ) → slice_index_or marks.new.items state false ≡ false }
+fn unmark(marks: &mut [bool], states: &[u16])
+    requires { AreListed (λ m. m) false marks.old states.now }
+    ensures len { length marks.new ≡ length marks.old }
+    ensures none { (state : ℕ) → slice_index_or marks.new state false ≡ false }
 {
     for state in states {
         marks[*state as usize] = false;

@@ -1,5 +1,5 @@
 -- Cells of keys.
-use Rattle.std.proofs.Common.{◌≡◌, ℕ, suc, ◌+◌, ◌-◌, ◌<◌, ◌≤◌, ◌==◌, ◌⊎◌, inl, inr, Bool, false, cond, List, [], ◌∷◌, ◌++◌, Option, Some, None, map, length, get_or, set, replicate, refl, sym, ◌∙◌, ap, subst, arith}
+use Rattle.std.proofs.Common.{◌≡◌, ℕ, suc, ◌+◌, ◌-◌, ◌<◌, ◌≤◌, ◌==◌, ◌⊎◌, inl, inr, Bool, false, cond, List, [], ◌∷◌, ◌++◌, Option, Some, None, map, length, get_or, set, replicate, sym, ◌∙◌, ap, subst, arith}
 use Rattle.std.proofs.lemmas.List.{map-set, length-replicate, length-set, length-append, get_or-replicate, set-append_left, set-get_or, append_assoc}
 use Rattle.std.proofs.Math.ListN.{get_or-map, get_or-eq_default, get_or-append}
 use Rattle.std.proofs.Math.Seq.{get_or-append_right}
@@ -8,24 +8,24 @@ use Rattle.std.proofs.lemmas.Bool.Decides.{nat_tests}
 use Rattle.pf_edits.specs.Tables.{key_in, cells_of_all}
 
 -- what stands in a row of like cells, past its end too
-zero_at : (n i none : ℕ) → get_or (replicate n none) i none ≡ none
-zero_at n i none = by (cases_lt i n)
+none_at : {X : Type 0} (n i : ℕ) (none : X) → get_or (replicate n none) i none ≡ none
+none_at n i none = by (cases_lt i n)
   where
     by : (i < n) ⊎ (n ≤ i) → get_or (replicate n none) i none ≡ none
     by (inl h) = get_or-replicate n i none none h
     by (inr h) = get_or-eq_default (replicate n none) none (subst (λ (m : ℕ). m ≤ i) (sym (length-replicate n none)) h)
 
--- the cell of an id among all is what is written there, or 0
-among_all : (cells : List ℕ) (id : ℕ) → get_or (cells_of_all cells) id 0 ≡ get_or cells id 0
-among_all cells id = (by (cases_lt id (length cells)))
+-- cells of none that are written behind the others tell nothing
+pub among_more : {X : Type 0} (cells : List X) (n id : ℕ) (none : X) → get_or (cells ++ replicate n none) id none ≡ get_or cells id none
+among_more cells n id none = by (cases_lt id (length cells))
   where
-    by : (id < length cells) ⊎ (length cells ≤ id) → get_or (cells ++ replicate (65536 - length cells) 0) id 0 ≡ get_or cells id 0
-    by (inl h) = get_or-append cells (replicate (65536 - length cells) 0) 0 id h
-    by (inr h) = get_or-append_right cells (replicate (65536 - length cells) 0) id 0 h ∙ zero_at (65536 - length cells) (id - length cells) 0 ∙ sym (get_or-eq_default cells 0 h)
+    by : (id < length cells) ⊎ (length cells ≤ id) → get_or (cells ++ replicate n none) id none ≡ get_or cells id none
+    by (inl h) = get_or-append cells (replicate n none) none id h
+    by (inr h) = get_or-append_right cells (replicate n none) id none h ∙ none_at n (id - length cells) none ∙ sym (get_or-eq_default cells none h)
 
 -- what is read of a cell is the key of its id
 pub read_at : (cells : List ℕ) (id : ℕ) → key_in (get_or cells id 0) ≡ get_or (map key_in (cells_of_all cells)) id None
-read_at cells id = ap key_in (sym (among_all cells id)) ∙ sym (get_or-map key_in (cells_of_all cells) id 0)
+read_at cells id = ap key_in (sym (among_more cells (65536 - length cells) id 0)) ∙ sym (get_or-map key_in (cells_of_all cells) id 0)
 
 -- a cell written is the key of its id set
 pub cell_set : (cells : List ℕ) (id cell : ℕ) (key : Option ℕ) → id < length cells → key_in cell ≡ key

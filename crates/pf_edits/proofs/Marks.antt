@@ -1,13 +1,14 @@
 -- Marks that tell which ids are listed.
-use Rattle.std.proofs.Common.{◌≡◌, ◌≢◌, ℕ, suc, zero-add, ◌+◌, ◌<◌, ◌≤◌, Bool, true, false, cond, ◌||◌, ◌==◌, ◌⊎◌, inl, inr, List, [], ◌∷◌, ◌++◌, length, get_or, set, drop, replicate, reverse, refl, sym, ◌∙◌, ap, subst, arith}
+use Rattle.std.proofs.Common.{◌≡◌, ◌≢◌, ℕ, suc, zero-add, ◌+◌, ◌-◌, ◌<◌, ◌≤◌, Bool, true, false, cond, ◌||◌, ◌==◌, ◌⊎◌, inl, inr, List, [], ◌∷◌, ◌++◌, length, get_or, set, drop, replicate, reverse, refl, sym, ◌∙◌, ap, subst, arith}
 use Rattle.std.specs.List.{count_by}
-use Rattle.std.proofs.lemmas.List.{get_or-set_same, get_or-set_other, length-set, length-append, reverse-append, drop_more, drop_all, length-replicate, get_or-replicate}
+use Rattle.std.proofs.lemmas.List.{get_or-set_same, get_or-set_other, length-set, length-append, reverse-append, drop_more, drop_all, length-replicate}
 use Rattle.std.proofs.Math.ListN.{get_or-eq_default}
-use Rattle.std.proofs.lemmas.List.Sums.{sum_by-set, sum_by-cons, count_by-le-length}
-use Rattle.std.proofs.lemmas.List.Folds.{list_any-append}
+use Rattle.std.proofs.lemmas.List.Sums.{sum_by-set, sum_by-append, sum_by-cons, count_by-le-length}
+use Rattle.std.proofs.lemmas.List.Folds.{list_any-append, list_any_at}
 use Rattle.std.proofs.lemmas.Bool.{cases_lt}
 use Rattle.std.proofs.lemmas.Bool.Decides.{eqb_tells, nat_tests}
 use Rattle.pf_edits.specs.Ways.{is_in, IsMarked}
+use Rattle.pf_edits.proofs.Cells.{among_more}
 
 -- one more listed
 pub listed_more : (ids : List ℕ) (id : ℕ) → reverse (ids ++ id ∷ []) ≡ id ∷ reverse ids
@@ -20,10 +21,45 @@ count_marked marks id h free =
     subst (λ (t : Bool). count_by (λ m. m) (set marks id true) + cond t 1 0 ≡ count_by (λ m. m) marks + 1) free e in
     omega (arith, f)
 
-module _ (marks : List Bool) (ids : List ℕ) (room id : ℕ) (marked : IsMarked marks ids room) (within : id < 65536) (free : is_in id (reverse ids) ≡ false) where
-  inside : id < length marks
-  inside = let w : length marks ≡ 65536 = marked.wide in omega arith
+-- where none is set, none is counted
+no_count : (marks : List Bool) → ((b : ℕ) → get_or marks b false ≡ false) → count_by (λ m. m) marks ≡ 0
+no_count [] none = refl
+no_count (x ∷ xs) none =
+    sum_by-cons (λ (m : Bool). cond m 1 0) x xs
+    ∙ ap (λ t. cond t 1 0 + count_by (λ m. m) xs) (none 0) ∙ zero-add (count_by (λ m. m) xs) ∙ no_count xs (λ b. none (suc b))
 
+-- Marks lengthened with such as are not set
+
+module _ (marks longer : List Bool) (count : ℕ) (grown : longer ≡ marks ++ replicate (count - length marks) false) where
+  length_is : length longer ≡ length marks + (count - length marks)
+  length_is = ap length grown ∙ length-append marks (replicate (count - length marks) false) ∙ ap (λ n. length marks + n) (length-replicate (count - length marks) false)
+
+  -- there are as many as are asked for
+  pub long_enough : count ≤ length longer
+  long_enough = omega (arith, length_is)
+
+  told_is : (b : ℕ) → get_or longer b false ≡ get_or marks b false
+  told_is b = ap (λ ms. get_or ms b false) grown ∙ among_more marks (count - length marks) b false
+
+  count_is : count_by (λ m. m) longer ≡ count_by (λ m. m) marks
+  count_is =
+      let none : count_by (λ m. m) (replicate (count - length marks) false) ≡ 0 = no_count (replicate (count - length marks) false) (λ b. among_more [] (count - length marks) b false) in
+      let all : count_by (λ m. m) (marks ++ replicate (count - length marks) false) ≡ count_by (λ m. m) marks + count_by (λ m. m) (replicate (count - length marks) false) = sum_by-append (λ (m : Bool). cond m 1 0) marks (replicate (count - length marks) false) in
+      ap (λ (ms : List Bool). count_by (λ m. m) ms) grown ∙ omega (arith, none, all)
+
+  -- they tell the same
+  pub marked_longer : (ids : List ℕ) (capacity other room : ℕ) → IsMarked marks ids capacity room → count ≤ 65536 → 65536 ≤ other → IsMarked longer ids other room
+  marked_longer ids capacity other room marked within reserved = record {
+    few = let f : length marks ≤ 65536 = marked.few in omega (arith, length_is);
+    reserved = reserved;
+    told = λ b. told_is b ∙ marked.told b;
+    counted = count_is ∙ marked.counted;
+    roomy = marked.roomy;
+  }
+
+-- One more mark
+
+module _ (marks : List Bool) (ids : List ℕ) (capacity room id : ℕ) (marked : IsMarked marks ids capacity room) (inside : id < length marks) (free : is_in id (reverse ids) ≡ false) where
   counted : count_by (λ m. m) (set marks id true) ≡ length ids + 1
   counted = count_marked marks id inside (marked.told id ∙ free) ∙ ap (λ n. n + 1) marked.counted
 
@@ -31,14 +67,16 @@ module _ (marks : List Bool) (ids : List ℕ) (room id : ℕ) (marked : IsMarked
   pub has_room : length ids < room
   has_room =
       let l : count_by (λ m. m) (set marks id true) ≤ length (set marks id true) = count_by-le-length (λ m. m) (set marks id true) in
-      let w : length (set marks id true) ≡ 65536 = length-set marks id true ∙ marked.wide in
+      let w : length (set marks id true) ≡ length marks = length-set marks id true in
+      let f : length marks ≤ 65536 = marked.few in
       let c : count_by (λ m. m) (set marks id true) ≡ length ids + 1 = counted in
       let r : 65536 ≤ room = marked.roomy in
       omega arith
 
-  pub marked_more : (other : ℕ) → 65536 ≤ other → IsMarked (set marks id true) (ids ++ id ∷ []) other
+  pub marked_more : (other : ℕ) → 65536 ≤ other → IsMarked (set marks id true) (ids ++ id ∷ []) capacity other
   marked_more other roomy = record {
-    wide = length-set marks id true ∙ marked.wide;
+    few = subst (λ (n : ℕ). n ≤ 65536) (sym (length-set marks id true)) marked.few;
+    reserved = marked.reserved;
     told = λ b. told b (eqb_tells b id) ∙ sym (ap (is_in b) (listed_more ids id));
     counted = counted ∙ sym (length-append ids (id ∷ []));
     roomy = roomy;
@@ -60,14 +98,8 @@ module _ (marks : List Bool) (ids : List ℕ) (room id : ℕ) (marked : IsMarked
 
 -- No marks
 
-no_count : (marks : List Bool) → ((b : ℕ) → get_or marks b false ≡ false) → count_by (λ m. m) marks ≡ 0
-no_count [] none = refl
-no_count (x ∷ xs) none =
-    sum_by-cons (λ (m : Bool). cond m 1 0) x xs
-    ∙ ap (λ t. cond t 1 0 + count_by (λ m. m) xs) (none 0) ∙ zero-add (count_by (λ m. m) xs) ∙ no_count xs (λ b. none (suc b))
-
-pub unmarked : (marks : List Bool) (room : ℕ) → length marks ≡ 65536 → ((b : ℕ) → get_or marks b false ≡ false) → 65536 ≤ room → IsMarked marks [] room
-unmarked marks room wide none roomy = record { wide = wide; told = none; counted = no_count marks none; roomy = roomy }
+pub unmarked : (marks : List Bool) (capacity room : ℕ) → length marks ≤ 65536 → ((b : ℕ) → get_or marks b false ≡ false) → 65536 ≤ capacity → 65536 ≤ room → IsMarked marks [] capacity room
+unmarked marks capacity room few none reserved roomy = record { few = few; reserved = reserved; told = none; counted = no_count marks none; roomy = roomy }
 
 -- what is listed is listed in any order
 pub in_reverse : (b : ℕ) (ids : List ℕ) → is_in b (reverse ids) ≡ is_in b ids
@@ -83,6 +115,21 @@ in_reverse b (x ∷ xs) =
     turned true false = refl
     turned false true = refl
     turned false false = refl
+
+-- each item of a list is in it
+pub listed_in : (ids : List ℕ) (i d : ℕ) → i < length ids → is_in (get_or ids i d) ids ≡ true
+listed_in ids i d h = list_any_at (λ other. other == get_or ids i d) ids i d h (same (get_or ids i d))
+  where
+    same : (n : ℕ) → (n == n) ≡ true
+    same n = grind (arith, nat_tests)
+
+-- what is listed has a mark
+pub has_mark : (marks : List Bool) (ids : List ℕ) (capacity room b : ℕ) → IsMarked marks ids capacity room → is_in b ids ≡ true → b < length marks
+has_mark marks ids capacity room b marked listed = by (cases_lt b (length marks))
+  where
+    by : (b < length marks) ⊎ (length marks ≤ b) → b < length marks
+    by (inl h) = h
+    by (inr h) = absurd (let e : false ≡ true = sym (get_or-eq_default marks false h) ∙ marked.told b ∙ in_reverse b ids ∙ listed in cc)
 
 -- a mark less
 pub unmark_step : (marks : List Bool) (ids : List ℕ) (i id : ℕ) → i < length ids → get_or ids i id ≡ id → id < length marks
@@ -109,11 +156,3 @@ unmark_end marks ids i h left b = by (get_or marks b false) refl
     by : (t : Bool) → get_or marks b false ≡ t → t ≡ false
     by false e = refl
     by true e = absurd (let k : true ≡ false = sym (left b e) ∙ ap (is_in b) (drop_all i ids h) in cc)
-
-pub fresh : (n : ℕ) (marks : List Bool) (room : ℕ) → n ≡ 65536 → marks ≡ replicate n false → 65536 ≤ room → IsMarked marks [] room
-fresh n marks room wide made roomy =
-    unmarked marks room (ap length made ∙ length-replicate n false ∙ wide) (λ b. ap (λ ms. get_or ms b false) made ∙ none b (cases_lt b n)) roomy
-  where
-    none : (b : ℕ) → (b < n) ⊎ (n ≤ b) → get_or (replicate n false) b false ≡ false
-    none b (inl h) = get_or-replicate n b false false h
-    none b (inr h) = get_or-eq_default (replicate n false) false (subst (λ (m : ℕ). m ≤ b) (sym (length-replicate n false)) h)

@@ -7,9 +7,11 @@ use Rattle.pf_model.specs.Limits.{has_child}
 abbrev pub is_in : ℕ → List ℕ → Bool
 is_in id ids = list_any (λ other. other == id) ids
 
--- The marks tell which ids are listed, each once, and there is room for all ids.
-pub record IsMarked (marks : List Bool) (ids : List ℕ) (room : ℕ) : Type 0 where
-  pub wide : length marks ≡ 65536
+-- The marks tell which ids are listed, each once: no more are written than there are ids, and there is memory for all
+-- marks and room for all ids.
+pub record IsMarked (marks : List Bool) (ids : List ℕ) (capacity room : ℕ) : Type 0 where
+  pub few : length marks ≤ 65536
+  pub reserved : 65536 ≤ capacity
   pub told : (b : ℕ) → slice_index_or marks b false ≡ is_in b (reverse ids)
   pub counted : count_by (λ m. m) marks ≡ length ids
   pub roomy : 65536 ≤ room

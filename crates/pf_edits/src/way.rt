@@ -1,15 +1,22 @@
-//! The way up from a node: the nodes that were met, each after all that are above it.
-ghost use Rattle.std.specs.Prelude.{◌≡◌, ◌+◌, ◌<◌, ℕ, false, true, [], ◌∷◌, if◌then◌else◌, reverse, length, slice_index_or, IfOk};
+//! The way up from a node: the nodes that were met, each after all that are above it. No more marks are written than the
+//! ids that were noted ask, so that a new way is quickly made.
+ghost use Rattle.std.specs.Prelude.{◌≡◌, ◌+◌, ◌-◌, ◌<◌, ◌≤◌, ℕ, false, true, [], ◌∷◌, ◌++◌, if◌then◌else◌, reverse, replicate, length, slice_index_or, IfOk};
+ghost use Rattle.std.specs.Vec.{vec_capacity};
 ghost use Rattle.pf_edits.specs.Ways.{is_in};
 
 use pf_io::NoMemory;
 use std::alloc::Global;
 use std::marker::Model;
 
+/// The number of ids.
+const IDS: usize = 65_536;
+
 /// The nodes of a way, each once, and for each id whether it is among them. It has room for all ids. Contracts see the
 /// nodes with the last that was met first.
 #[derive(Debug, Drop)]
 pub(crate) struct Way {
+    /// Under each id whether it is noted. There is memory for the marks of all ids, and as many are written as the
+    /// greatest id that was ever noted asks.
     marks: Vec<bool>,
     ids: Vec<u16>,
 }
@@ -23,17 +30,17 @@ impl Model for Way {
 
     ghost view = { λ w. reverse w.ids.items };
 
-    ghost invariant = { λ w. IsMarked w.marks.items w.ids.items (vec_capacity w.ids) };
+    ghost invariant = { λ w. IsMarked w.marks.items w.ids.items (vec_capacity w.marks) (vec_capacity w.ids) };
 }
 
 impl Way {
-    /// A way without nodes.
+    /// A way without nodes. It takes the memory of all marks and ids.
     pub(crate) fn new(alloc: Global) -> Result<Way, NoMemory>
         ensures { IfOk result (λ w. w ≡ []) }
     {
         Ok(Way {
-            marks: vec![in alloc; false; 65_536]?,
-            ids: Vec::with_capacity(alloc, 65_536)?,
+            marks: Vec::with_capacity(alloc, IDS)?,
+            ids: Vec::with_capacity(alloc, IDS)?,
         })
     }
 
@@ -41,7 +48,10 @@ impl Way {
     pub(crate) fn contains(&self, id: u16) -> bool
         ensures { result ≡ is_in id self.now }
     {
-        self.marks[usize::from(id)]
+        match self.marks.get(usize::from(id)) {
+            Some(mark) => *mark,
+            None => false,
+        }
     }
 
     /// The nodes as they were met.
@@ -56,6 +66,7 @@ impl Way {
         requires { is_in id self.old ≡ false }
         ensures { self.new ≡ id ∷ self.old }
     {
+        lengthen(&mut self.marks, usize::from(id) + 1);
         self.marks[usize::from(id)] = true;
         match self.ids.push(id) {
             Ok(()) => {}
@@ -81,9 +92,23 @@ impl Way {
     }
 }
 
-/// Takes the marks of these ids away.
+/// Writes further marks that are not set, until there are this many; there is memory for them.
+fn lengthen(marks: &mut Vec<bool>, count: usize)
+    requires { count ≤ vec_capacity marks.old }
+    ensures marks { marks.new.items ≡ marks.old.items ++ replicate (count - length marks.old.items) false }
+    ensures capacity { vec_capacity marks.old ≤ vec_capacity marks.new }
+{
+    if marks.len() < count {
+        match marks.resize(count, false) {
+            Ok(()) => {}
+            Err(_) => unreachable!(),
+        }
+    }
+}
+
+/// Takes the marks of these ids away; each of them has one.
 fn unmark(marks: &mut [bool], ids: &[u16])
-    requires { length marks.old ≡ 65536 }
+    requires { (b : ℕ) → is_in b ids.now ≡ true → b < length marks.old }
     ensures { ((b : ℕ) → slice_index_or marks.old b false ≡ true → is_in b ids.now ≡ true)
         → (b : ℕ) → slice_index_or marks.new b false ≡ false }
 {

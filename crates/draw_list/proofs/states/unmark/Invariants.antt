@@ -3,4 +3,4 @@ use Rattle.draw_list.proofs.Listed.{IsTakenBack}
 use Rattle.draw_list.proofs.states.unmark.Given as goal
 
 abbrev pub invariant-loop-state : goal.invariant-loop-state
-invariant-loop-state l = IsTakenBack (λ m. m) false l.initial.marks.items l.states l.state-index l.marks.items
+invariant-loop-state l = IsTakenBack (λ m. m) false l.initial.marks l.states l.state-index l.marks

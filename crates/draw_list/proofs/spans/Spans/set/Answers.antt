@@ -1,21 +1,35 @@
-use Rattle.std.proofs.Common.{◌≡◌, ◌<◌, List, length, get_or, Option, Some, None, is_some, false, refl, ◌∙◌, ap, arith}
-use Rattle.std.specs.Vec.{vec_capacity}
-use Rattle.draw_list.specs.declared.items.Span.{Span}
-use Rattle.draw_list.proofs.Listed.{room_left, added}
+use Rattle.std.proofs.Common.{◌≡◌, ◌+◌, ◌-◌, get_or, Some, None, is_some, false, refl, ◌∙◌, ap, arith}
+use Rattle.std.specs.Vec.{vec_len, vec_capacity}
+use Rattle.draw_list.proofs.Listed.{IsWrittenTo, written_to, read_written, set_written, room_left, added}
 use Rattle.draw_list.proofs.spans.Spans.set.Goals as goal
 
 pub push_reserved-requires : goal.push_reserved-requires
 push_reserved-requires c =
-    let within : c.args.id < length c.self.inside.spans.items = omega (arith, c.requires.within, ap length c.self.view_is) in
-    let none : is_some (get_or c.self.inside.spans.items c.args.id None) ≡ false =
-    ap is_some (ap (λ (spans : List (Option Span)). get_or spans c.args.id None) c.self.view_is ∙ c.requires.none) in
-    let room = room_left is_some None (Some c.args.span) c.self.inside.spans.items c.self.inside.ids.items c.args.id (vec_capacity c.self.inside.ids) within none refl c.self.invariant in
+    let room = room_left is_some None (Some c.args.span) c.args.self.now c.self.inside.spans.items c.self.inside.width (vec_capacity c.self.inside.spans) c.self.inside.ids.items c.args.id (vec_capacity c.self.inside.ids)
+    refl refl c.self.view_is c.requires.within (ap is_some c.requires.none) c.self.invariant in
     omega (arith, room)
+
+-- the table once entries are written up to the id
+abbrev table_written : goal.After-push_reserved → Type 0
+table_written c =
+    IsWrittenTo is_some None c.args.self.now c.write_to.new.entries.items c.args.id c.self.inside.width (vec_capacity c.write_to.new.entries) c.self.inside.ids.items (vec_capacity c.self.inside.ids)
+
+written : (c : goal.After-push_reserved) → table_written c
+written c =
+    written_to is_some None c.args.self.now c.self.inside.spans.items c.write_to.new.entries.items c.args.id (c.args.id + 1 - vec_len c.self.inside.spans) c.self.inside.width (vec_capacity c.self.inside.spans)
+    (vec_capacity c.write_to.new.entries) c.self.inside.ids.items (vec_capacity c.self.inside.ids) refl c.self.view_is c.requires.within (omega arith) c.write_to.ensures.items c.write_to.ensures.more c.self.invariant
+
+unset : (c : goal.After-push_reserved) → is_some (get_or c.write_to.new.entries.items c.args.id None) ≡ false
+unset c =
+    ap is_some
+    (read_written is_some None c.args.self.now c.write_to.new.entries.items c.args.id c.self.inside.width (vec_capacity c.write_to.new.entries) c.self.inside.ids.items (vec_capacity c.self.inside.ids) c.args.id (written c)
+    ∙ c.requires.none)
 
 pub invariant_of-self : goal.invariant_of-self
 invariant_of-self c =
-    let within : c.args.id < length c.self.inside.spans.items = omega (arith, c.requires.within, ap length c.self.view_is) in
-    let none : is_some (get_or c.self.inside.spans.items c.args.id None) ≡ false =
-    ap is_some (ap (λ (spans : List (Option Span)). get_or spans c.args.id None) c.self.view_is ∙ c.requires.none) in
-    added is_some None (Some c.args.span) c.self.inside.spans.items c.self.inside.ids.items c.push_reserved.new.self.items c.args.id (vec_capacity c.self.inside.ids) (vec_capacity c.push_reserved.new.self) within none refl
-    c.push_reserved.ensures.items c.push_reserved.ensures.capacity c.self.invariant
+    added is_some None (Some c.args.span) c.write_to.new.entries.items c.self.inside.width (vec_capacity c.write_to.new.entries) c.self.inside.ids.items c.push_reserved.new.self.items c.args.id
+    (vec_capacity c.self.inside.ids) (vec_capacity c.push_reserved.new.self) (written c).within (unset c) refl c.push_reserved.ensures.items c.push_reserved.ensures.capacity (written c).table
+
+pub returns : goal.returns
+returns c =
+    set_written is_some None (Some c.args.span) c.args.self.now c.write_to.new.entries.items c.args.id c.self.inside.width (vec_capacity c.write_to.new.entries) c.self.inside.ids.items (vec_capacity c.self.inside.ids) (written c)

@@ -1,13 +1,13 @@
-use Rattle.std.proofs.Common.{◌≡◌, ◌≤◌, ℕ, List, false, [], replicate, refl, sym, subst}
+use Rattle.std.proofs.Common.{Bool, List, ℕ, [], refl, sym, subst, arith}
 use Rattle.std.specs.Vec.{vec_capacity}
 use Rattle.pf_edits.specs.Ways.{IsMarked}
-use Rattle.pf_edits.proofs.Marks.{fresh}
+use Rattle.pf_edits.proofs.Marks.{unmarked}
 use Rattle.pf_edits.proofs.way.Way.new.Goals as goal
 
 pub invariant_of-result : goal.invariant_of-result
 invariant_of-result c =
-    let none : c.in_ok-with_capacity.field-0.items ≡ [] = c.in_ok-with_capacity.ensures.items in
-    let made : c.in_ok-vec.field-0.items ≡ replicate 65536 false = c.in_ok-vec.ensures.items_if_clones_equal (λ _ e. e) in
-    let roomy : 65536 ≤ vec_capacity c.in_ok-with_capacity.field-0 = c.in_ok-with_capacity.ensures.capacity in
-    subst (λ (ids : List ℕ). IsMarked c.in_ok-vec.field-0.items ids (vec_capacity c.in_ok-with_capacity.field-0)) (sym none)
-    (fresh 65536 c.in_ok-vec.field-0.items (vec_capacity c.in_ok-with_capacity.field-0) refl made roomy)
+    let marks = c.in_ok-with_capacity.field-0 in
+    let ids = c.in_ok-with_capacity-2.field-0 in
+    subst (λ (ms : List Bool). IsMarked ms ids.items (vec_capacity marks) (vec_capacity ids)) (sym c.in_ok-with_capacity.ensures.items)
+    (subst (λ (is : List ℕ). IsMarked [] is (vec_capacity marks) (vec_capacity ids)) (sym c.in_ok-with_capacity-2.ensures.items)
+    (unmarked [] (vec_capacity marks) (vec_capacity ids) (omega arith) (λ _. refl) c.in_ok-with_capacity.ensures.capacity c.in_ok-with_capacity-2.ensures.capacity))

@@ -1,26 +1,39 @@
-use Rattle.std.proofs.Common.{◌≡◌, ◌<◌, ◌≤◌, ℕ, List, false, true, length, set, ◌++◌, ◌∷◌, [], reverse, sym, ◌∙◌, ap, subst, arith, rules}
+use Rattle.std.proofs.Common.{◌≡◌, ◌+◌, ◌<◌, ◌≤◌, ℕ, List, false, true, length, set, ◌++◌, ◌∷◌, [], reverse, sym, ◌∙◌, ap, subst, arith, rules}
 use Rattle.std.specs.Vec.{vec_capacity}
 use Rattle.pf_edits.specs.Ways.{is_in, IsMarked}
-use Rattle.pf_edits.proofs.Marks.{has_room, marked_more, listed_more}
+use Rattle.pf_edits.proofs.Marks.{has_room, long_enough, marked_longer, marked_more, listed_more}
 use Rattle.pf_edits.proofs.way.Way.note.Goals as goal
 
 pub unreachable-requires : goal.unreachable-requires
 unreachable-requires c =
-    let within : c.args.id < 65536 = omega arith in
-    let free : is_in c.args.id (reverse c.self.inside.ids.items) ≡ false = ap (is_in c.args.id) c.self.view_is ∙ c.requires in
-    let room : length c.self.inside.ids.items < vec_capacity c.self.inside.ids = has_room c.self.inside.marks.items c.self.inside.ids.items (vec_capacity c.self.inside.ids) c.args.id c.self.invariant within free in
-    let full : vec_capacity c.self.inside.ids ≤ length c.self.inside.ids.items = search rules in
+    let marks = c.self.inside.marks in
+    let ids = c.self.inside.ids in
+    let longer = c.lengthen.new.marks in
+    let count = c.from.result + 1 in
+    let marked : IsMarked longer.items ids.items (vec_capacity longer) (vec_capacity ids) =
+    marked_longer marks.items longer.items count c.lengthen.ensures.marks ids.items (vec_capacity marks) (vec_capacity longer) (vec_capacity ids) c.self.invariant
+    (omega (arith, c.from.ensures)) (omega (arith, c.lengthen.ensures.capacity, c.self.invariant.reserved)) in
+    let inside : c.args.id < length longer.items = omega (arith, c.from.ensures, long_enough marks.items longer.items count c.lengthen.ensures.marks) in
+    let free : is_in c.args.id (reverse ids.items) ≡ false = ap (is_in c.args.id) c.self.view_is ∙ c.requires in
+    let room : length ids.items < vec_capacity ids = has_room longer.items ids.items (vec_capacity longer) (vec_capacity ids) c.args.id marked inside free in
+    let full : vec_capacity ids ≤ length ids.items = search rules in
     absurd (omega (arith, room, full))
 
 pub invariant_of-self : goal.invariant_of-self
 invariant_of-self c =
-    let within : c.args.id < 65536 = omega arith in
-    let free : is_in c.args.id (reverse c.self.inside.ids.items) ≡ false = ap (is_in c.args.id) c.self.view_is ∙ c.requires in
-    let more : vec_capacity c.self.inside.ids ≤ vec_capacity c.push.new.self = c.in-Ok.ensures.capacity in
-    let roomy : 65536 ≤ vec_capacity c.self.inside.ids = c.self.invariant.roomy in
-    subst (λ (ids : List ℕ). IsMarked (set c.self.inside.marks.items c.from.result true) ids (vec_capacity c.push.new.self)) (sym c.in-Ok.ensures.items)
-    (subst (λ (i : ℕ). IsMarked (set c.self.inside.marks.items i true) (c.self.inside.ids.items ++ c.args.id ∷ []) (vec_capacity c.push.new.self)) (sym c.from.ensures)
-    (marked_more c.self.inside.marks.items c.self.inside.ids.items (vec_capacity c.self.inside.ids) c.args.id c.self.invariant within free (vec_capacity c.push.new.self) (omega (arith, more, roomy))))
+    let marks = c.self.inside.marks in
+    let ids = c.self.inside.ids in
+    let longer = c.lengthen.new.marks in
+    let count = c.from.result + 1 in
+    let marked : IsMarked longer.items ids.items (vec_capacity longer) (vec_capacity ids) =
+    marked_longer marks.items longer.items count c.lengthen.ensures.marks ids.items (vec_capacity marks) (vec_capacity longer) (vec_capacity ids) c.self.invariant
+    (omega (arith, c.from.ensures)) (omega (arith, c.lengthen.ensures.capacity, c.self.invariant.reserved)) in
+    let inside : c.args.id < length longer.items = omega (arith, c.from.ensures, long_enough marks.items longer.items count c.lengthen.ensures.marks) in
+    let free : is_in c.args.id (reverse ids.items) ≡ false = ap (is_in c.args.id) c.self.view_is ∙ c.requires in
+    let more : vec_capacity ids ≤ vec_capacity c.push.new.self = c.in-Ok.ensures.capacity in
+    subst (λ (is : List ℕ). IsMarked (set longer.items c.from-2.result true) is (vec_capacity longer) (vec_capacity c.push.new.self)) (sym c.in-Ok.ensures.items)
+    (subst (λ (i : ℕ). IsMarked (set longer.items i true) (ids.items ++ c.args.id ∷ []) (vec_capacity longer) (vec_capacity c.push.new.self)) (sym c.from-2.ensures)
+    (marked_more longer.items ids.items (vec_capacity longer) (vec_capacity ids) c.args.id marked inside free (vec_capacity c.push.new.self) (omega (arith, more, c.self.invariant.roomy))))
 
 pub returns : goal.returns
 returns c = ap reverse c.in-Ok.ensures.items ∙ listed_more c.self.inside.ids.items c.args.id ∙ ap (λ ids. c.args.id ∷ ids) c.self.view_is
