@@ -18,13 +18,6 @@ same_more [] x h (suc k) = refl
 same_more (y ∷ ys) x h zero = h 0
 same_more (y ∷ ys) x h (suc k) = same_more ys x (λ j. h (suc j)) k
 
--- an entry that says nothing
-pub none_more : {X : Type 0} (xs : List (Option X)) (k : ℕ) → get_or (xs ++ None ∷ []) k None ≡ get_or xs k None
-none_more [] zero = refl
-none_more [] (suc k) = refl
-none_more (x ∷ xs) zero = refl
-none_more (x ∷ xs) (suc k) = none_more xs k
-
 pub same_past : {X : Type 0} (xs : List X) (x : X) → ((k : ℕ) → k < length xs → get_or xs k x ≡ x) → (k : ℕ) → get_or xs k x ≡ x
 same_past [] x h k = refl
 same_past (y ∷ ys) x h zero = h 0 (omega arith)

@@ -1,6 +1,6 @@
 //! The boxes of all ids, and the pass of a clean over them.
 ghost use Rattle.std.specs.Prelude.{◌≡◌, ℕ, ◌+◌, ◌<◌, ◌≤◌, true, None, map, max, length, slice_index_or, IfOk};
-ghost use Rattle.std.specs.Vec.{vec_len, vec_capacity};
+ghost use Rattle.std.specs.Vec.{vec_capacity};
 ghost use Rattle.std.specs.List.{list_any};
 ghost use Rattle.std.specs.Option.{option_map};
 ghost use Rattle.fx_math.specs.Views.{bounds_of};
@@ -16,7 +16,7 @@ use crate::marks::Mark;
 use crate::reckoning::{carried, joined, parts_of};
 use fx_math::Box3;
 use pf_io::NoMemory;
-use pf_model::{Kind, Node, NodeView, box_of_tris};
+use pf_model::{Kind, Node, NodeView, box_of_tris, write_to};
 use std::alloc::Global;
 
 /// The number of ids.
@@ -47,18 +47,6 @@ fn filled<T: Copy>(alloc: Global, item: T, count: usize) -> Result<Vec<T>, NoMem
         items.push(item)?;
     }
     Ok(items)
-}
-
-/// Writes no box for further ids, until this many ids have an entry; there is memory for them.
-fn lengthen(boxes: &mut Vec<Option<Box3>>, count: usize)
-    requires { count ≤ vec_capacity boxes.old }
-    ensures count { count ≤ vec_len boxes.new }
-    ensures capacity { vec_capacity boxes.new ≡ vec_capacity boxes.old }
-    ensures boxes { (k : ℕ) → slice_index_or boxes.new.items k None ≡ slice_index_or boxes.old.items k None }
-{
-    for place in boxes.len()..count {
-        boxes.push_reserved(None);
-    }
 }
 
 /// Makes the first marks clean, after which all are.
@@ -120,7 +108,7 @@ impl BoxTable {
     fn set_box(&mut self, id: u16, around: Option<Box3>)
         ensures { table_of self.new ≡ with_box id (option_map bounds_of around) (table_of self.old) }
     {
-        lengthen(&mut self.boxes, id as usize + 1);
+        write_to(&mut self.boxes, id as usize);
         self.boxes[id as usize] = around;
     }
 

@@ -1,12 +1,13 @@
 -- A table with the list of the places that are set.
-use Rattle.std.proofs.Common.{◌≡◌, ◌∙◌, ℕ, zero, suc, ◌+◌, ◌-◌, ◌<◌, ◌≤◌, List, [], ◌∷◌, ◌++◌, length, take, drop, Bool, true, false, cond, ◌||◌, ◌==◌, Option, Some, None, is_some, ap, sym, refl, subst, append_assoc, append-nil, take_all, arith, get_or, set, get_or-set_same, get_or-set_other, length-set, length-append, drop_of_length-le, add-one}
+use Rattle.std.proofs.Common.{◌≡◌, ◌∙◌, ℕ, zero, suc, ◌+◌, ◌-◌, ◌<◌, ◌≤◌, List, [], ◌∷◌, ◌++◌, length, take, drop, Bool, true, false, cond, ◌||◌, ◌==◌, Option, Some, None, is_some, ap, sym, refl, subst, append-nil, take_all, arith, get_or, set, get_or-set_same, get_or-set_other, length-set, length-append, drop_of_length-le, add-one}
 use Rattle.std.specs.Prelude.{count_by, replicate}
 use Rattle.std.specs.List.{list_any}
 use Rattle.std.proofs.lemmas.Bool.{eqb-true}
 use Rattle.std.proofs.lemmas.Bool.Decides.{nat_tests}
-use Rattle.std.proofs.lemmas.List.{length-replicate, replicate-append-replicate, set-append_left}
-use Rattle.std.proofs.lemmas.List.Sums.{sum_by-cons, sum_by-append, sum_by-set, count_by-le-length}
+use Rattle.std.proofs.lemmas.List.{set-append_left}
+use Rattle.std.proofs.lemmas.List.Sums.{sum_by-cons, sum_by-set, count_by-le-length}
 use Rattle.std.proofs.lemmas.List.Folds.{list_any-append}
+use Rattle.pf_model.proofs.Written.{read_longer, length_longer, whole_longer, count_longer}
 use Rattle.draw_list.specs.Listed.{AreListed, IsListedTable, whole_table}
 
 -- ---- tests
@@ -176,46 +177,16 @@ set_again [] place h = refl
 set_again (m ∷ ms) zero h = ap (λ b. b ∷ ms) (sym h)
 set_again (m ∷ ms) (suc place) h = ap (λ bs. m ∷ bs) (set_again ms place h)
 
--- ---- memory for all
-counted_unset : {X : Type 0} (is_set : X → Bool) (unset : X) (n : ℕ) → is_set unset ≡ false → count_by is_set (replicate n unset) ≡ 0
-counted_unset is_set unset zero off = refl
-counted_unset is_set unset (suc n) off =
-    let none : uncounted (is_set unset) = not_counted (is_set unset) off in
-    omega (arith, sum_by-cons (λ y. cond (is_set y) 1 0) unset (replicate n unset), none, counted_unset is_set unset n off)
-
-unset_at : {X : Type 0} (unset : X) (n k : ℕ) → get_or (replicate n unset) k unset ≡ unset
-unset_at unset zero k = refl
-unset_at unset (suc n) zero = refl
-unset_at unset (suc n) (suc k) = unset_at unset n k
-
-pub read_longer : {X : Type 0} (unset : X) (table : List X) (n k : ℕ) → get_or (table ++ replicate n unset) k unset ≡ get_or table k unset
-read_longer unset [] n k = unset_at unset n k
-read_longer unset (x ∷ xs) n zero = refl
-read_longer unset (x ∷ xs) n (suc k) = read_longer unset xs n k
-
 -- ---- entries that are written, and those that are not
 pub whole_length : {X : Type 0} (unset : X) (written : List X) (width : ℕ) → length written ≤ width → length (whole_table unset written width) ≡ width
-whole_length unset written width l = omega (arith, l, length-append written (replicate (width - length written) unset), length-replicate (width - length written) unset)
+whole_length unset written width l = omega (arith, l, length_longer unset written (width - length written))
 
 pub whole_read : {X : Type 0} (unset : X) (written : List X) (width k : ℕ) → get_or (whole_table unset written width) k unset ≡ get_or written k unset
 whole_read unset written width k = read_longer unset written (width - length written) k
 
-pub whole_longer : {X : Type 0} (unset : X) (written longer : List X) (n width : ℕ) → longer ≡ written ++ replicate n unset → length written + n ≤ width → whole_table unset longer width ≡ whole_table unset written width
-whole_longer {X} unset written longer n width are l =
-    ap (λ (ws : List X). whole_table unset ws width) are
-    ∙ append_assoc written (replicate n unset) (replicate (width - length (written ++ replicate n unset)) unset)
-    ∙ ap (λ (ws : List X). written ++ ws)
-    (replicate-append-replicate n (width - length (written ++ replicate n unset)) unset ∙ ap (λ (m : ℕ). replicate m unset) left)
-  where
-    left : n + (width - length (written ++ replicate n unset)) ≡ width - length written
-    left = omega (arith, l, length-append written (replicate n unset), length-replicate n unset)
-
 pub whole_set : {X : Type 0} (unset x : X) (written : List X) (width place : ℕ) → place < length written → whole_table unset (set written place x) width ≡ set (whole_table unset written width) place x
 whole_set {X} unset x written width place l =
     ap (λ (n : ℕ). set written place x ++ replicate (width - n) unset) (length-set written place x) ∙ sym (set-append_left written (replicate (width - length written) unset) place x l)
-
-count_longer : {X : Type 0} (is_set : X → Bool) (unset : X) (written : List X) (n : ℕ) → is_set unset ≡ false → count_by is_set (written ++ replicate n unset) ≡ count_by is_set written
-count_longer is_set unset written n off = omega (arith, sum_by-append (λ y. cond (is_set y) 1 0) written (replicate n unset), counted_unset is_set unset n off)
 
 pub whole_count : {X : Type 0} (is_set : X → Bool) (unset : X) (written : List X) (width : ℕ) → is_set unset ≡ false → count_by is_set (whole_table unset written width) ≡ count_by is_set written
 whole_count is_set unset written width off = count_longer is_set unset written (width - length written) off
@@ -234,7 +205,7 @@ table_longer {X} is_set unset written longer n width room more_room places capac
     })
   where
     many : length (written ++ replicate n unset) ≡ length written + n
-    many = omega (arith, length-append written (replicate n unset), length-replicate n unset)
+    many = length_longer unset written n
 
 -- there is memory for a place that is not set yet
 pub room_left : {X : Type 0} (is_set : X → Bool) (unset x : X) (whole written : List X) (width room : ℕ) (places : List ℕ) (place capacity : ℕ) → is_set unset ≡ false → is_set x ≡ true → whole_table unset written width ≡ whole →
@@ -257,8 +228,8 @@ pub written_to : {X : Type 0} (is_set : X → Bool) (unset : X) (whole written l
     n ≡ place + 1 - length written → longer ≡ written ++ replicate n unset → room ≤ more → IsListedTable is_set unset written width room places capacity → IsWrittenTo is_set unset whole longer place width more places capacity
 written_to {X} is_set unset whole written longer place n width room more places capacity off is l count are r t = record {
   table = table_longer is_set unset written longer n width room more places capacity off are fits r t;
-  within = omega (arith, count, ap length are, length-append written (replicate n unset), length-replicate n unset);
-  same = whole_longer unset written longer n width are fits ∙ is;
+  within = omega (arith, count, ap length are, length_longer unset written n);
+  same = ap (λ (ws : List X). whole_table unset ws width) are ∙ whole_longer unset written n width fits ∙ is;
 }
   where
     fits : length written + n ≤ width

@@ -3,8 +3,9 @@ ghost use Rattle.std.specs.Prelude.{◌≡◌, ℕ, ◌<◌, [], None, Some, is_
 ghost use Rattle.draw_list.specs.Listed.{AreListed};
 
 use crate::items::Span;
-use crate::tables::{grow, write_to};
+use crate::tables::grow;
 use pf_io::NoMemory;
+use pf_model::write_to;
 use std::alloc::Global;
 use std::marker::Model;
 
@@ -83,7 +84,7 @@ impl Spans {
         ensures { self.new ≡ slice_set self.old id (Some span) }
     {
         let place = id as usize;
-        write_to(&mut self.spans, place, None);
+        write_to(&mut self.spans, place);
         self.spans[place] = Some(span);
         self.ids.push_reserved(id);
     }

@@ -2,8 +2,9 @@
 ghost use Rattle.std.specs.Prelude.{◌≡◌, ℕ, ◌<◌, ◌≤◌, false, true, length, replicate, slice_index_or, slice_set, count_by, OnOk};
 ghost use Rattle.draw_list.specs.Listed.{AreListed};
 
-use crate::tables::{grow, write_to};
+use crate::tables::grow;
 use pf_io::NoMemory;
+use pf_model::write_to;
 use std::alloc::Global;
 use std::marker::Model;
 
@@ -69,7 +70,7 @@ impl States {
         ensures { self.new ≡ slice_set self.old state true }
     {
         let place = state as usize;
-        write_to(&mut self.marks, place, false);
+        write_to(&mut self.marks, place);
         if self.marks[place] {
             return;
         }

@@ -1,5 +1,5 @@
 -- Slots written and read are nodes set, cleared and found.
-use Rattle.std.proofs.Common.{◌≡◌, ℕ, zero, suc, ◌+◌, ◌<◌, ◌≤◌, true, false, cond, ◌==◌, nat_lt, List, [], ◌∷◌, ◌++◌, map, length, get_or, set, Option, Some, None, refl, sym, ◌∙◌, ap, arith, zero-add}
+use Rattle.std.proofs.Common.{◌≡◌, ℕ, zero, suc, ◌+◌, ◌-◌, ◌<◌, ◌≤◌, true, false, cond, ◌==◌, nat_lt, List, [], ◌∷◌, ◌++◌, map, length, get_or, set, replicate, Option, Some, None, refl, sym, ◌∙◌, ap, arith, zero-add}
 use Rattle.std.specs.List.{AllByRecursion}
 use Rattle.std.proofs.lemmas.Bool.Decides.{nat_tests}
 use Rattle.pf_model.specs.declared.nodes.Node.{Node}
@@ -25,10 +25,18 @@ equal_false a b l = grind (arith, nat_tests)
 
 -- slots without a node
 
-pub slot_more : (id : ℕ) (slots : List (Option Node)) → nodes_from id (slots ++ None ∷ []) ≡ nodes_from id slots
-slot_more id [] = refl
-slot_more id (None ∷ slots) = slot_more (suc id) slots
-slot_more id (Some n ∷ slots) = ap (λ ns. (id, n) ∷ ns) (slot_more (suc id) slots)
+none_in : (id n : ℕ) → nodes_from id (replicate n None) ≡ []
+none_in id zero = refl
+none_in id (suc n) = none_in (suc id) n
+
+slots_longer : (id : ℕ) (slots : List (Option Node)) (n : ℕ) → nodes_from id (slots ++ replicate n None) ≡ nodes_from id slots
+slots_longer id [] n = none_in id n
+slots_longer id (None ∷ slots) n = slots_longer (suc id) slots n
+slots_longer id (Some m ∷ slots) n = ap (λ ns. (id, m) ∷ ns) (slots_longer (suc id) slots n)
+
+-- such slots, up to a place, change no node
+pub same_nodes : (slots longer : List (Option Node)) (place : ℕ) → longer ≡ slots ++ replicate (place + 1 - length slots) None → nodes_from 0 longer ≡ nodes_from 0 slots
+same_nodes slots longer place written = ap (λ (ns : List (Option Node)). nodes_from 0 ns) written ∙ slots_longer 0 slots (place + 1 - length slots)
 
 -- the ids of slots
 

@@ -1,14 +1,12 @@
 //! The nodes of a copy, in a slot for each id.
-ghost use Rattle.std.specs.Prelude.{◌≡◌, ℕ, ◌<◌, ◌≤◌, ◌==◌, None, [], if◌then◌else◌, slice_index_or, slice_set, length, IfOk};
+ghost use Rattle.std.specs.Prelude.{◌≡◌, ℕ, ◌<◌, ◌==◌, None, [], if◌then◌else◌, slice_index_or, slice_set, length, IfOk};
 ghost use Rattle.std.specs.Option.{option_copied};
-ghost use Rattle.std.specs.Vec.{vec_len, vec_capacity};
 ghost use Rattle.pf_model.specs.Graphs.{node_at};
 ghost use Rattle.pf_model.specs.Copies.{updated};
-ghost use Rattle.multibuffer.specs.Slots.{nodes_from};
 ghost use Rattle.multibuffer.specs.StageCopies.{entry_at};
 
 use pf_io::NoMemory;
-use pf_model::{Node, NodeView};
+use pf_model::{Node, NodeView, write_to};
 use std::alloc::Global;
 use std::marker::Model;
 use std::mem;
@@ -37,18 +35,6 @@ impl Model for NodeTable {
     ghost invariant = { λ t. 65536 ≤ vec_capacity t.slots };
 }
 
-/// Writes further slots without a node, until there are this many; there is memory for them.
-fn lengthen(slots: &mut Vec<Option<Node>>, count: usize)
-    requires { count ≤ vec_capacity slots.old }
-    ensures count { count ≤ vec_len slots.new }
-    ensures capacity { vec_capacity slots.new ≡ vec_capacity slots.old }
-    ensures nodes { nodes_from 0 slots.new.items ≡ nodes_from 0 slots.old.items }
-{
-    for place in slots.len()..count {
-        slots.push_reserved(None);
-    }
-}
-
 /// The node in a slot, none past the last that is written.
 fn node_in(slots: &[Option<Node>], place: usize) -> Option<&Node>
     ensures { option_copied result ≡ slice_index_or slots.now place None }
@@ -74,7 +60,7 @@ impl NodeTable {
         ensures looks { (k : ℕ) → node_at self.new k ≡ (if k == id then node else node_at self.old k) }
         ensures stood { result ≡ node_at self.old id }
     {
-        lengthen(&mut self.slots, id as usize + 1);
+        write_to(&mut self.slots, id as usize);
         mem::replace(&mut self.slots[id as usize], node)
     }
 

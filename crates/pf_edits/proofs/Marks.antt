@@ -1,14 +1,14 @@
 -- Marks that tell which ids are listed.
 use Rattle.std.proofs.Common.{◌≡◌, ◌≢◌, ℕ, suc, zero-add, ◌+◌, ◌-◌, ◌<◌, ◌≤◌, Bool, true, false, cond, ◌||◌, ◌==◌, ◌⊎◌, inl, inr, List, [], ◌∷◌, ◌++◌, length, get_or, set, drop, replicate, reverse, refl, sym, ◌∙◌, ap, subst, arith}
 use Rattle.std.specs.List.{count_by}
-use Rattle.std.proofs.lemmas.List.{get_or-set_same, get_or-set_other, length-set, length-append, reverse-append, drop_more, drop_all, length-replicate}
+use Rattle.std.proofs.lemmas.List.{get_or-set_same, get_or-set_other, length-set, length-append, reverse-append, drop_more, drop_all}
 use Rattle.std.proofs.Math.ListN.{get_or-eq_default}
-use Rattle.std.proofs.lemmas.List.Sums.{sum_by-set, sum_by-append, sum_by-cons, count_by-le-length}
+use Rattle.std.proofs.lemmas.List.Sums.{sum_by-set, sum_by-cons, count_by-le-length}
 use Rattle.std.proofs.lemmas.List.Folds.{list_any-append, list_any_at}
 use Rattle.std.proofs.lemmas.Bool.{cases_lt}
 use Rattle.std.proofs.lemmas.Bool.Decides.{eqb_tells, nat_tests}
+use Rattle.pf_model.proofs.Written.{length_written, same_read, count_longer}
 use Rattle.pf_edits.specs.Ways.{is_in, IsMarked}
-use Rattle.pf_edits.proofs.Cells.{among_more}
 
 -- one more listed
 pub listed_more : (ids : List ℕ) (id : ℕ) → reverse (ids ++ id ∷ []) ≡ id ∷ reverse ids
@@ -28,34 +28,16 @@ no_count (x ∷ xs) none =
     sum_by-cons (λ (m : Bool). cond m 1 0) x xs
     ∙ ap (λ t. cond t 1 0 + count_by (λ m. m) xs) (none 0) ∙ zero-add (count_by (λ m. m) xs) ∙ no_count xs (λ b. none (suc b))
 
--- Marks lengthened with such as are not set
-
-module _ (marks longer : List Bool) (count : ℕ) (grown : longer ≡ marks ++ replicate (count - length marks) false) where
-  length_is : length longer ≡ length marks + (count - length marks)
-  length_is = ap length grown ∙ length-append marks (replicate (count - length marks) false) ∙ ap (λ n. length marks + n) (length-replicate (count - length marks) false)
-
-  -- there are as many as are asked for
-  pub long_enough : count ≤ length longer
-  long_enough = omega (arith, length_is)
-
-  told_is : (b : ℕ) → get_or longer b false ≡ get_or marks b false
-  told_is b = ap (λ ms. get_or ms b false) grown ∙ among_more marks (count - length marks) b false
-
-  count_is : count_by (λ m. m) longer ≡ count_by (λ m. m) marks
-  count_is =
-      let none : count_by (λ m. m) (replicate (count - length marks) false) ≡ 0 = no_count (replicate (count - length marks) false) (λ b. among_more [] (count - length marks) b false) in
-      let all : count_by (λ m. m) (marks ++ replicate (count - length marks) false) ≡ count_by (λ m. m) marks + count_by (λ m. m) (replicate (count - length marks) false) = sum_by-append (λ (m : Bool). cond m 1 0) marks (replicate (count - length marks) false) in
-      ap (λ (ms : List Bool). count_by (λ m. m) ms) grown ∙ omega (arith, none, all)
-
-  -- they tell the same
-  pub marked_longer : (ids : List ℕ) (capacity other room : ℕ) → IsMarked marks ids capacity room → count ≤ 65536 → 65536 ≤ other → IsMarked longer ids other room
-  marked_longer ids capacity other room marked within reserved = record {
-    few = let f : length marks ≤ 65536 = marked.few in omega (arith, length_is);
-    reserved = reserved;
-    told = λ b. told_is b ∙ marked.told b;
-    counted = count_is ∙ marked.counted;
-    roomy = marked.roomy;
-  }
+-- marks that are not set and are written up to a place tell nothing
+pub marked_longer : (marks longer : List Bool) (place : ℕ) → longer ≡ marks ++ replicate (place + 1 - length marks) false → (ids : List ℕ) (capacity other room : ℕ)
+    → IsMarked marks ids capacity room → place < 65536 → 65536 ≤ other → IsMarked longer ids other room
+marked_longer marks longer place written ids capacity other room marked within reserved = record {
+  few = let f : length marks ≤ 65536 = marked.few in omega (arith, f, length_written false marks longer place written, within);
+  reserved = reserved;
+  told = λ b. same_read false marks longer place written b ∙ marked.told b;
+  counted = ap (λ (ms : List Bool). count_by (λ m. m) ms) written ∙ count_longer (λ m. m) false marks (place + 1 - length marks) refl ∙ marked.counted;
+  roomy = marked.roomy;
+}
 
 -- One more mark
 

@@ -1,10 +1,10 @@
 //! Keys by ids, in two bytes each, of which no more are written than the ids that were used ask, so that a new graph is
 //! quickly made.
-ghost use Rattle.std.specs.Prelude.{◌≡◌, ◌<◌, ◌≤◌, Some, None, IfOk, slice_index_or, slice_set, length, ℕ};
-ghost use Rattle.std.specs.Vec.{vec_len, vec_capacity};
-ghost use Rattle.pf_edits.specs.Tables.{key_in, cells_of_all};
+ghost use Rattle.std.specs.Prelude.{◌≡◌, ◌<◌, Some, None, IfOk, slice_index_or, slice_set, length, ℕ};
+ghost use Rattle.pf_edits.specs.Tables.{key_in};
 
 use pf_io::NoMemory;
+use pf_model::write_to;
 use std::alloc::Global;
 use std::marker::Model;
 
@@ -53,7 +53,7 @@ impl Keys {
         requires { key < 65535 }
         ensures { self.new ≡ slice_set self.old id (Some key) }
     {
-        lengthen(&mut self.cells, usize::from(id) + 1);
+        write_to(&mut self.cells, usize::from(id));
         self.cells[usize::from(id)] = key as u16 + 1;
     }
 
@@ -64,21 +64,6 @@ impl Keys {
         if usize::from(id) < self.cells.len() {
             self.cells[usize::from(id)] = 0;
         }
-    }
-}
-
-/// Writes further cells without a key, until there are this many; there is memory for them.
-fn lengthen(cells: &mut Vec<u16>, count: usize)
-    requires within { count ≤ 65536 }
-    requires few { length cells.old.items ≤ 65536 }
-    requires reserved { 65536 ≤ vec_capacity cells.old }
-    ensures count { count ≤ vec_len cells.new }
-    ensures few { length cells.new.items ≤ 65536 }
-    ensures capacity { vec_capacity cells.new ≡ vec_capacity cells.old }
-    ensures cells { cells_of_all cells.new.items ≡ cells_of_all cells.old.items }
-{
-    for place in cells.len()..count {
-        cells.push_reserved(0);
     }
 }
 

@@ -1,10 +1,10 @@
 //! The way up from a node: the nodes that were met, each after all that are above it. No more marks are written than the
 //! ids that were noted ask, so that a new way is quickly made.
-ghost use Rattle.std.specs.Prelude.{◌≡◌, ◌+◌, ◌-◌, ◌<◌, ◌≤◌, ℕ, false, true, [], ◌∷◌, ◌++◌, if◌then◌else◌, reverse, replicate, length, slice_index_or, IfOk};
-ghost use Rattle.std.specs.Vec.{vec_capacity};
+ghost use Rattle.std.specs.Prelude.{◌≡◌, ◌<◌, ℕ, false, true, [], ◌∷◌, if◌then◌else◌, reverse, length, slice_index_or, IfOk};
 ghost use Rattle.pf_edits.specs.Ways.{is_in};
 
 use pf_io::NoMemory;
+use pf_model::write_to;
 use std::alloc::Global;
 use std::marker::Model;
 
@@ -66,7 +66,7 @@ impl Way {
         requires { is_in id self.old ≡ false }
         ensures { self.new ≡ id ∷ self.old }
     {
-        lengthen(&mut self.marks, usize::from(id) + 1);
+        write_to(&mut self.marks, usize::from(id));
         self.marks[usize::from(id)] = true;
         match self.ids.push(id) {
             Ok(()) => {}
@@ -89,20 +89,6 @@ impl Way {
     {
         unmark(self.marks.as_mut_slice(), self.ids.as_slice());
         self.ids.clear();
-    }
-}
-
-/// Writes further marks that are not set, until there are this many; there is memory for them.
-fn lengthen(marks: &mut Vec<bool>, count: usize)
-    requires { count ≤ vec_capacity marks.old }
-    ensures marks { marks.new.items ≡ marks.old.items ++ replicate (count - length marks.old.items) false }
-    ensures capacity { vec_capacity marks.old ≤ vec_capacity marks.new }
-{
-    if marks.len() < count {
-        match marks.resize(count, false) {
-            Ok(()) => {}
-            Err(_) => unreachable!(),
-        }
     }
 }
 

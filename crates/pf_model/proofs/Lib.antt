@@ -23,3 +23,4 @@ pub mod Editing
 pub mod Numbering
 pub mod Totals
 pub mod ShownPlaces
+pub mod Written

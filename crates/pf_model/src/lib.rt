@@ -17,6 +17,7 @@ pub(crate) mod sequences;
 pub mod step_lists;
 pub mod steps;
 pub mod surfaces;
+pub mod tables;
 pub mod views;
 
 pub use attributes::{attribute_fault, kind_after};
@@ -31,4 +32,5 @@ pub use nodes::{Chosen, Gone, Kind, Node, Pick, Run};
 pub use poses::{Euler, Pose, View};
 pub use steps::Steps;
 pub use surfaces::Surface;
+pub use tables::write_to;
 pub use views::{Arrays, NodeView, SceneView};

@@ -1,5 +1,5 @@
 -- What marks keep.
-use Rattle.std.proofs.Common.{◌≡◌, ℕ, ◌<◌, ◌≤◌, Bool, true, false, ◌||◌, nat_eq, List, [], ◌∷◌, ◌++◌, length, get_or, set, refl, sym, ◌∙◌, ap, ⊎_elim, arith}
+use Rattle.std.proofs.Common.{◌≡◌, ℕ, ◌+◌, ◌-◌, ◌<◌, ◌≤◌, Bool, true, false, ◌||◌, nat_eq, List, [], ◌∷◌, ◌++◌, length, get_or, set, replicate, refl, sym, ◌∙◌, ap, ⊎_elim, arith}
 use Rattle.std.proofs.lemmas.Bool.{false≢true, cases_eq, cases_lt}
 use Rattle.std.proofs.lemmas.Bool.Decides.{nat_tests}
 use Rattle.std.proofs.lemmas.Cmp.{nat_eq_equiv}
@@ -9,6 +9,7 @@ use Rattle.std.proofs.lemmas.Map.Keys.{IsDistinct-push, IsDistinct-cons}
 use Rattle.std.proofs.lemmas.Map.Steps.{length-le_from_distinct_below}
 use Rattle.std.specs.List.{All, AllByRecursion, IsDistinct}
 use Rattle.pf_model.specs.Copies.{put_all}
+use Rattle.pf_model.proofs.Written.{length_written, same_read}
 use Rattle.update_lists.specs.Marks.{AreMarks, among}
 use Rattle.update_lists.proofs.Rising.{among_put, itself, put_all_rising, rising_once}
 
@@ -48,13 +49,13 @@ absent x (y ∷ ys) h = by (nat_eq x y) refl (λ k. absent x ys k) h
     by true e rest k = absurd (false≢true (sym k))
     by false e rest k = (e, rest k)
 
--- a table that reads the same keeps the same marks
-pub marks_longer : (table longer : List Bool) (table_room longer_room : ℕ) (ids : List ℕ) (room : ℕ) → length longer ≤ 65536 → table_room ≤ longer_room →
-    ((id : ℕ) → get_or longer id false ≡ get_or table id false) → AreMarks table table_room ids room → AreMarks longer longer_room ids room
-marks_longer table longer table_room longer_room ids room few more same marks = record {
-  few = few;
+-- a table that is written up to a place keeps the same marks
+pub marks_longer : (table longer : List Bool) (place table_room longer_room : ℕ) (ids : List ℕ) (room : ℕ) → longer ≡ table ++ replicate (place + 1 - length table) false → place < 65536 →
+    table_room ≤ longer_room → AreMarks table table_room ids room → AreMarks longer longer_room ids room
+marks_longer table longer place table_room longer_room ids room written within more marks = record {
+  few = omega (arith, length_written false table longer place written, within, marks.few);
   reserved = omega (arith, more, marks.reserved);
-  agree = λ id l. same id ∙ marks.agree id l;
+  agree = λ id l. same_read false table longer place written id ∙ marks.agree id l;
   narrow = marks.narrow;
   once = marks.once;
   roomy = marks.roomy;

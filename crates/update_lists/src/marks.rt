@@ -1,11 +1,12 @@
 //! The table of marks, and the list of those that are set.
-ghost use Rattle.std.specs.Prelude.{◌≡◌, ℕ, ◌<◌, ◌≤◌, [], length, max, false, nat_eq, IfOk, slice_index_or};
+ghost use Rattle.std.specs.Prelude.{◌≡◌, ℕ, ◌<◌, [], length, false, nat_eq, IfOk, slice_index_or};
 ghost use Rattle.std.specs.List.{All, IsDistinct};
 ghost use Rattle.std.specs.Vec.{vec_capacity};
 ghost use Rattle.pf_model.specs.Copies.{put_in, put_all};
 ghost use Rattle.update_lists.specs.Marks.{AreMarks, among};
 
 use pf_io::NoMemory;
+use pf_model::write_to;
 use std::alloc::Global;
 
 /// How many ids there are.
@@ -25,22 +26,6 @@ pub(crate) fn no_ids(alloc: Global) -> Result<Vec<u16>, NoMemory>
     Ok(Vec::with_capacity(alloc, IDS)?)
 }
 
-/// Writes entries without a mark, until there are this many; there is room for them.
-fn lengthen(table: &mut Vec<bool>, count: usize)
-    requires { count ≤ vec_capacity table.old }
-    ensures count { length table.new.items ≡ max (length table.old.items) count }
-    ensures capacity { vec_capacity table.old ≤ vec_capacity table.new }
-    ensures marks { (id : ℕ) → slice_index_or table.new.items id false ≡ slice_index_or table.old.items id false }
-{
-    if count <= table.len() {
-        return;
-    }
-    match table.resize(count, false) {
-        Ok(()) => {}
-        Err(_) => unreachable!(),
-    }
-}
-
 /// Marks an id, and puts it into the list where it had no mark.
 pub(crate) fn mark(table: &mut Vec<bool>, ids: &mut Vec<u16>, id: u16)
     requires { AreMarks table.old.items (vec_capacity table.old) ids.old.items (vec_capacity ids.old) }
@@ -48,7 +33,7 @@ pub(crate) fn mark(table: &mut Vec<bool>, ids: &mut Vec<u16>, id: u16)
     ensures ids { put_all ids.new.items [] ≡ put_in id (put_all ids.old.items []) }
 {
     let place = id as usize;
-    lengthen(table, place + 1);
+    write_to(table, place);
     if table[place] {
         return;
     }
