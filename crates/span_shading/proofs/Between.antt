@@ -7,6 +7,9 @@ use Rattle.std.proofs.Math.IntN.{*ℤ-zero}
 use Rattle.fx_math.proofs.Ring.{expand, linear, order, mul-add, mul_left_comm, times_one, times_le, times_lt}
 use Rattle.span_shading.specs.Quotients.{IsMean}
 use Rattle.span_shading.specs.Mixing.{ahead}
+use Rattle.span_shading.specs.Spans.{HasShadeAtEnds, HasShadeTo}
+use Rattle.span_shading.specs.declared.spans.Shade.{Shade}
+use Rattle.span_shading.specs.declared.spans.Span.{Span}
 
 pub product_between : (n i j p a x y : ℤ) → n *ℤ a ≡ j *ℤ x +ℤ i *ℤ y → n *ℤ (p *ℤ a) ≡ j *ℤ (p *ℤ x) +ℤ i *ℤ (p *ℤ y)
 product_between n i j p a x y e =
@@ -81,3 +84,11 @@ mean_to here step there change count mean n within first last = ⊎_elim
         (ahead_between here step (pos n) (pos left) ∙ ap (λ (z : ℤ). pos left *ℤ here +ℤ pos n *ℤ (here +ℤ step *ℤ z)) whole)
         (ahead_between there change (pos n) (pos left) ∙ ap (λ (z : ℤ). pos left *ℤ there +ℤ pos n *ℤ (there +ℤ change *ℤ z)) whole)
         first last
+
+-- so has each of three channels
+pub shade_to : (s : Span) (count : ℕ) (shade : Shade) → HasShadeAtEnds s count shade → HasShadeTo s count shade
+shade_to s count shade ends = record {
+  red = λ n within. mean_to s.red.here s.red.step s.weight.here s.weight.step count shade.red n within ends.red.first ends.red.last;
+  green = λ n within. mean_to s.green.here s.green.step s.weight.here s.weight.step count shade.green n within ends.green.first ends.green.last;
+  blue = λ n within. mean_to s.blue.here s.blue.step s.weight.here s.weight.step count shade.blue n within ends.blue.first ends.blue.last;
+}

@@ -16,6 +16,12 @@ pub record IsSpanOf (red green blue : Sum) (weight : Weight) (s : Span) : Type 0
   pub blue_is : s.blue ≡ blue
   pub weight_is : s.weight ≡ weight
 
+-- the shade has the means of the three sums at the pixel
+pub record HasShade (s : Span) (shade : Shade) : Type 0 where
+  pub red : IsMean s.red.here s.weight.here shade.red
+  pub green : IsMean s.green.here s.weight.here shade.green
+  pub blue : IsMean s.blue.here s.weight.here shade.blue
+
 -- where the sums and the weight are those of a pixel that is covered, the shade has their means
 pub record IsShade (s : Span) (shade : Shade) : Type 0 where
   pub red : IsChannel s.red.here s.weight.here → IsMean s.red.here s.weight.here shade.red
@@ -35,6 +41,17 @@ pub record IsNextSpan (s t : Span) : Type 0 where
   pub green : IsNextSum s.green t.green
   pub blue : IsNextSum s.blue t.blue
   pub weight : IsNextWeight s.weight t.weight
+
+-- the channel has this mean at the pixel, and at the one so many further on
+pub record HasMeanAtEnds (s : Sum) (w : Weight) (count mean : ℕ) : Type 0 where
+  pub first : IsMean s.here w.here mean
+  pub last : IsMean (ahead s.here s.step count) (ahead w.here w.step count) mean
+
+-- so have all three
+pub record HasShadeAtEnds (s : Span) (count : ℕ) (shade : Shade) : Type 0 where
+  pub red : HasMeanAtEnds s.red s.weight count shade.red
+  pub green : HasMeanAtEnds s.green s.weight count shade.green
+  pub blue : HasMeanAtEnds s.blue s.weight count shade.blue
 
 -- the channel has this mean at the pixel, and at all up to so many further on
 abbrev pub HasMeanTo : Sum → Weight → (count mean : ℕ) → Type 0

@@ -41,7 +41,7 @@ pub(crate) fn guess(number: i64, inverse: u64) -> u8 {
 pub(crate) fn fits(number: i64, weight: i64, mean: u8) -> bool
     requires number { IsWithin (3 * 2 ^ 60) number }
     requires weight { IsWithin (3 * 2 ^ 52) weight }
-    ensures { pos 0 <ℤ weight → IsTrue result → IsMean number weight mean }
+    ensures { pos 0 <ℤ weight → (IsTrue result ↔ IsMean number weight mean) }
 {
     is_below(left(number, mean, weight), weight)
 }
@@ -51,7 +51,7 @@ pub(crate) fn fits(number: i64, weight: i64, mean: u8) -> bool
 pub(crate) fn is_mean(number: i64, weight: i64, mean: u8) -> bool
     requires number { IsWithin (15 * 2 ^ 58) number }
     requires weight { IsWithin (15 * 2 ^ 50) weight }
-    ensures { IsTrue result → IsMean number weight mean }
+    ensures { IsTrue result ↔ IsMean number weight mean }
 {
     is_left(left(number, mean, weight), weight)
 }
@@ -79,7 +79,7 @@ fn byte_quotient(number: u64, weight: u64) -> u8
 /// Whether a rest is left by a quotient of a weight above 0: as numbers without a sign, those below 0 are the greatest.
 #[inline(always)]
 fn is_below(rest: i64, weight: i64) -> bool
-    ensures { pos 0 <ℤ weight → IsTrue result → IsLeft rest weight }
+    ensures { pos 0 <ℤ weight → (IsTrue result ↔ IsLeft rest weight) }
 {
     rest.cast_unsigned() < weight.cast_unsigned()
 }

@@ -3,9 +3,9 @@
 //! A channel is the mean of those of the vertices, each weighed by its edge value, rounded down: the quotient of a weighed sum and
 //! a weight, both linear in the pixel. It is guessed by a product with the weight's inverse, and judged by what it leaves. The
 //! inverse is divided out once, and goes on from pixel to pixel by one step of Newton's method.
-ghost use Rattle.std.specs.Prelude.{◌<◌, ◌^◌, IsTrue};
+ghost use Rattle.std.specs.Prelude.{◌<◌, ◌^◌, pos, ◌<ℤ◌, IsTrue, ◌↔◌};
 ghost use Rattle.span_shading.specs.Quotients.{IsMean, IsChannel};
-ghost use Rattle.span_shading.specs.Spans.{HasMeanTo};
+ghost use Rattle.span_shading.specs.Spans.{HasMeanAtEnds};
 
 use crate::lines::{Sum, Weight};
 use crate::quotients::{fits, guess, inverse, is_mean, quotient, refined};
@@ -29,7 +29,7 @@ pub struct Span {
 }
 
 impl Span {
-    ghost use Rattle.span_shading.specs.Spans.{IsSpanOf, IsShade, IsNextSpan, DoFit, HasShadeTo};
+    ghost use Rattle.span_shading.specs.Spans.{IsSpanOf, HasShade, IsShade, IsNextSpan, DoFit, HasShadeAtEnds, HasShadeTo};
 
     /// That of three weighed sums and their weight.
     #[inline(always)]
@@ -80,7 +80,8 @@ impl Span {
     #[inline(always)]
     pub fn is_even(&self, shade: &Shade, count: u16) -> bool
         requires { count < 2 ^ 10 }
-        ensures { IsTrue result → HasShadeTo self.now count shade.now }
+        ensures ends { IsTrue result ↔ HasShadeAtEnds self.now count shade.now }
+        ensures between { IsTrue result → HasShadeTo self.now count shade.now }
     {
         is_kept(&self.red, &self.weight, shade.red, count)
             && is_kept(&self.green, &self.weight, shade.green, count)
@@ -99,7 +100,7 @@ impl Span {
     /// Whether these are the means, where the weight is above 0.
     #[inline(always)]
     fn fits(&self, shade: &Shade) -> bool
-        ensures { IsTrue result → IsShade self.now shade.now }
+        ensures { pos 0 <ℤ self.now.weight.here → (IsTrue result ↔ HasShade self.now shade.now) }
     {
         let weight = self.weight.here;
         fits(self.red.here, weight, shade.red)
@@ -127,7 +128,7 @@ fn divided(red: i64, green: i64, blue: i64, weight: i64) -> Shade
 #[inline(always)]
 fn is_kept(sum: &Sum, weight: &Weight, mean: u8, count: u16) -> bool
     requires { count < 2 ^ 10 }
-    ensures { IsTrue result → HasMeanTo sum.now weight.now count mean }
+    ensures { IsTrue result ↔ HasMeanAtEnds sum.now weight.now count mean }
 {
     is_mean(sum.here, weight.here, mean) && is_mean(sum.ahead(count), weight.ahead(count), mean)
 }

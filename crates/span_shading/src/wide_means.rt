@@ -144,7 +144,7 @@ impl Mean {
     pub fn stays(&self, weight: &WideWeight, count: u16, there: i128) -> bool
         requires small { IsSmallMean self.now }
         requires there { there ≡ weight.now.here +ℤ weight.now.step *ℤ pos count }
-        ensures { IsTrue result → Stays self.now weight.now count }
+        ensures { IsTrue result ↔ Stays self.now weight.now count }
     {
         self.is_settled(weight) && is_left(ahead(self.rest, self.change, count), there)
     }

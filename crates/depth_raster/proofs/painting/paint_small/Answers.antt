@@ -20,7 +20,7 @@ returns-then-is_even c =
     let y = b.first + a.run.now.r in
     let s = c.span_at-span.result in
     let shade = c.shade-shade.result in
-    let even = c.is_even.ensures (search rules) in
+    let even = c.is_even.ensures.between (search rules) in
     span_weaker b (colour_in b a.colours.now) (colour_in b c.fill_run.new.colours) (filled c.colour_of.result) (shaded_within f b) a.run.now.r a.run.now.start a.run.now.end c.fill_run.ensures
     (λ q lo hi column before after is.
     let n = q - a.run.now.start in

@@ -1,5 +1,14 @@
+use Rattle.std.proofs.Common.{rules}
 use Rattle.span_shading.proofs.Words.{told}
 use Rattle.span_shading.proofs.spans.Span.shade.Goals as goal
+
+pub returns-then-fits : goal.returns-then-fits
+returns-then-fits c =
+    record {
+      red = λ channel. ((c.fits.ensures channel.some).0 (search rules)).red;
+      green = λ channel. ((c.fits.ensures channel.some).0 (search rules)).green;
+      blue = λ channel. ((c.fits.ensures channel.some).0 (search rules)).blue;
+    }
 
 pub returns-else-fits : goal.returns-else-fits
 returns-else-fits c =
