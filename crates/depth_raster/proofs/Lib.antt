@@ -36,6 +36,7 @@ pub mod Skipped
 pub mod Slotted
 pub mod Sorting
 pub mod Spanned
+pub mod Stamped
 pub mod Stepped
 pub mod Tiling
 pub mod Topped

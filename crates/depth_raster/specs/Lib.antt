@@ -27,3 +27,4 @@ pub mod Canvas
 pub mod Shown
 pub mod InPieces
 pub mod Shading
+pub mod Stamps

@@ -32,6 +32,7 @@ mod shown;
 mod slots;
 mod small;
 mod spans;
+mod stamps;
 mod strip;
 mod strips;
 mod sums;

@@ -3,8 +3,8 @@ ghost use Rattle.std.specs.Prelude.{◌≡◌, ℕ, ◌<◌, ◌^◌, true, IfSo
 ghost use Rattle.tri_cover.specs.Faces.{is_in_box};
 ghost use Rattle.edge_values.specs.Weights.{IsSmallWeight};
 ghost use Rattle.depth_raster.specs.Edges.{AreValuesAt};
-ghost use Rattle.depth_raster.specs.Looks.{AreDepthsOf, Looks, IsDepthAt, IsSeen};
-ghost use Rattle.depth_raster.specs.Weighed.{IsWeighedAt, IsInnerSumAt};
+ghost use Rattle.depth_raster.specs.Looks.{AreDepthsOf, Looks, IsSeen};
+ghost use Rattle.depth_raster.specs.Weighed.{IsWeighedAt};
 
 use edge_values::{Depths, EdgeValues};
 use tri_cover::Face;
@@ -23,17 +23,6 @@ pub(crate) fn look(face: &Face, weight: Option<u128>, limit: u64, about: f64) ->
     }
 }
 
-/// The depth of a face at a pixel of its box, where it is hit there, from the sum of its edge values there, none of which is
-/// below 0. What is about the dividend makes it cheap, as before.
-#[inline(always)]
-pub(crate) fn depth_inside(face: &Face, about: f64, sum: u64) -> Option<u32>
-    requires sum { sum < 2 ^ 63 }
-    ensures { (px py : ℕ) → IsInnerSumAt face.now px py sum → is_in_box face.now.extent px py ≡ true
-        → IsDepthAt face.now px py result }
-{
-    depths_of(face).seen(about, sum)
-}
-
 /// Whether a face is hit at a pixel of its box before a depth, from its edge values there.
 pub(crate) fn is_seen(face: &Face, values: &EdgeValues, limit: u64) -> bool
     requires { limit < 2 ^ 40 }
@@ -48,7 +37,7 @@ pub(crate) fn is_seen(face: &Face, values: &EdgeValues, limit: u64) -> bool
 
 /// What tells the depth of a face at its pixels.
 #[inline(always)]
-fn depths_of(face: &Face) -> Depths
+pub(crate) fn depths_of(face: &Face) -> Depths
     ensures { AreDepthsOf face.now result }
 {
     Depths {

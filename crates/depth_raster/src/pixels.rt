@@ -9,10 +9,10 @@ ghost use Rattle.depth_raster.specs.Faces.{glazed_by_face};
 ghost use Rattle.depth_raster.specs.Marks.{mark_over, behind_as};
 ghost use Rattle.depth_raster.specs.Means.{AreMeansAt, AreSmallMeans};
 ghost use Rattle.depth_raster.specs.Pieces.{IsPieceOf, HasFace};
-ghost use Rattle.depth_raster.specs.Weighed.{IsWeighedAt, IsInnerSumAt};
+ghost use Rattle.depth_raster.specs.Weighed.{IsWeighedAt};
 
 use crate::glazing::blend;
-use crate::looks::{depth_inside, is_seen, look};
+use crate::looks::{is_seen, look};
 use crate::marks::Mark;
 use crate::means::Means;
 use crate::pieces::Piece;
@@ -29,20 +29,6 @@ pub(crate) fn nearer(piece: &Piece, face: &Face, weight: Option<u128>, mark: &Ma
 {
     let limit = limit(mark.depth, piece.face.shift);
     match look(face, weight, limit, piece.about) {
-        Some(depth) => mark.nearer(piece.face.mark(depth)),
-        None => None,
-    }
-}
-
-/// The same where none of the edge values of the face is below 0, and this is their sum.
-#[inline(always)]
-pub(crate) fn nearer_inside(piece: &Piece, face: &Face, sum: u64, mark: &Mark) -> Option<Mark>
-    requires face { HasFace piece.now face.now }
-    requires sum { sum < 2 ^ 63 }
-    ensures { (lens : Lens) (px py : ℕ) → px < lens.w → py < lens.h → IsPieceOf lens piece.now → IsWithin piece.now.extent px py
-        → IsInnerSumAt face.now px py sum → unwrap_or result mark.now ≡ mark_over lens px py piece.now.face mark.now }
-{
-    match depth_inside(face, piece.about, sum) {
         Some(depth) => mark.nearer(piece.face.mark(depth)),
         None => None,
     }

@@ -1,5 +1,5 @@
 //! Faces over the marks of a tile.
-ghost use Rattle.std.specs.Prelude.{◌≡◌, ℕ, ◌+◌, ◌-◌, ◌<◌, ◌≤◌, ◌^◌, true, All, IfSome, length, slice_set, slice_index_or};
+ghost use Rattle.std.specs.Prelude.{◌≡◌, ℕ, ◌+◌, ◌-◌, ◌<◌, ◌≤◌, true, All, IfSome, length, min, slice_set, slice_index_or};
 ghost use Rattle.fx_math.specs.Limits.{size_limit};
 ghost use Rattle.fx_math.specs.declared.lenses.Lens.{Lens};
 ghost use Rattle.edge_values.specs.Weights.{IsSmallWeight};
@@ -12,8 +12,11 @@ ghost use Rattle.depth_raster.specs.Pieces.{IsPieceOf, HasFace};
 ghost use Rattle.depth_raster.specs.Runs.{IsRunOf};
 ghost use Rattle.depth_raster.specs.Small.{IsSmallFace};
 ghost use Rattle.depth_raster.specs.Spans.{LiesIn, becomes};
+ghost use Rattle.depth_raster.specs.Stamps.{IsStampOf};
 ghost use Rattle.depth_raster.specs.Tiles.{mark_in, within, face_over, IsNoNearer, MarksFollow};
-ghost use Rattle.depth_raster.specs.Weighed.{IsWeighedAt, IsInnerSumAt, AreInnerTo};
+ghost use Rattle.depth_raster.specs.Weighed.{IsWeighedAt, AreInnerTo};
+ghost use Rattle.depth_raster.specs.declared.pieces.Piece.{Piece};
+ghost use Rattle.tri_cover.specs.declared.face.Face as faces;
 
 use crate::blocks::Block;
 use crate::edges::{small_line, steps_of, values_at};
@@ -21,8 +24,9 @@ use crate::hiding::{is_beyond, is_hidden};
 use crate::last::is_after;
 use crate::marks::Mark;
 use crate::pieces::Piece;
-use crate::pixels::{limit, nearer, nearer_inside};
+use crate::pixels::{limit, nearer};
 use crate::runs::Run;
+use crate::stamps::Stamp;
 use crate::tile::Tile;
 use edge_values::{NarrowLine, NarrowValues};
 use fx_math::Lens;
@@ -138,38 +142,50 @@ fn draw_marks(marks: &mut [Mark], block: &Block, lens: &Lens, piece: &Piece, fac
         (within block.now (face_over lens.now piece.now.face)) }
 {
     let extent = piece.extent;
+    let start = block.columns_from(extent.left);
+    let end = block.columns_to(extent.right);
+    if end <= start {
+        return;
+    }
+    let stamp = Stamp::of(piece, face);
     for r in block.rows_from(extent.top)..block.rows_to(extent.bottom) {
-        draw_row(marks, block, lens, piece, face, r);
+        let run = Run { r, start, end };
+        draw_row(marks, block, lens, piece, face, stamp, &run);
     }
 }
 
-/// Draws the piece of a face over the marks of a row of a block.
-fn draw_row(marks: &mut [Mark], block: &Block, lens: &Lens, piece: &Piece, face: &Face, r: u16)
+/// Draws the piece of a face over the marks of a row of a block: the run has all columns in which the piece can be hit.
+fn draw_row(
+    marks: &mut [Mark],
+    block: &Block,
+    lens: &Lens,
+    piece: &Piece,
+    face: &Face,
+    stamp: Stamp,
+    run: &Run,
+)
     requires len { length marks.old ≡ size_of block.now }
     requires block { IsBlockOf lens.now block.now }
     requires ready { IsPieceOf lens.now piece.now }
     requires face { HasFace piece.now face.now }
-    requires row { r < block.now.rows }
-    requires top { piece.now.extent.top ≤ block.now.first + r }
-    requires bottom { block.now.first + r < piece.now.extent.bottom }
+    requires stamp { IsStampOf piece.now face.now stamp }
+    requires run { IsRunOf block.now run.now }
+    requires start { run.now.start ≡ piece.now.extent.left - block.now.left }
+    requires end { run.now.end ≡ min block.now.width (piece.now.extent.right - block.now.left) }
+    requires top { piece.now.extent.top ≤ block.now.first + run.now.r }
+    requires bottom { block.now.first + run.now.r < piece.now.extent.bottom }
     ensures { RowFollows block.now (mark_in block.now marks.old) (mark_in block.now marks.new)
-        (within block.now (face_over lens.now piece.now.face)) r }
+        (within block.now (face_over lens.now piece.now.face)) run.now.r }
 {
-    let start = block.columns_from(piece.extent.left);
-    let end = block.columns_to(piece.extent.right);
-    if end <= start {
-        return;
-    }
-    let run = Run { r, start, end };
     match line_of(
         piece,
         face,
-        block.left + start,
-        block.left + (end - 1),
-        block.first + r,
+        block.left + run.start,
+        block.left + (run.end - 1),
+        block.first + run.r,
     ) {
-        Some(line) => draw_narrow(marks, block, lens, piece, face, &line, &run),
-        None => draw_wide(marks, block, lens, piece, face, &run),
+        Some(line) => draw_narrow(marks, block, lens, piece, face, stamp, &line, run),
+        None => draw_wide(marks, block, lens, piece, face, run),
     }
 }
 
@@ -212,6 +228,7 @@ fn draw_narrow(
     lens: &Lens,
     piece: &Piece,
     face: &Face,
+    stamp: Stamp,
     line: &NarrowLine,
     run: &Run,
 )
@@ -219,6 +236,7 @@ fn draw_narrow(
     requires block { IsBlockOf lens.now block.now }
     requires ready { IsPieceOf lens.now piece.now }
     requires face { HasFace piece.now face.now }
+    requires stamp { IsStampOf piece.now face.now stamp }
     requires line { IsLineAt face.now (block.now.left + run.now.start) (block.now.left + (run.now.end - 1))
         (block.now.first + run.now.r) line.now }
     requires run { IsRunOf block.now run.now }
@@ -227,13 +245,13 @@ fn draw_narrow(
         (becomes (within block.now (face_over lens.now piece.now.face))) run.now.r run.now.start run.now.end }
 {
     if line.is_inside() {
-        draw_inside(marks, block, lens, piece, face, line, run);
+        draw_inside(marks, block, lens, piece, face, stamp, line, run);
         return;
     }
     if line.is_outside() {
         return;
     }
-    draw_partly(marks, block, lens, piece, face, line, run);
+    draw_partly(marks, block, lens, piece, face, stamp, line, run);
 }
 
 /// Draws the piece of a face over the marks of a run in its box all of which it covers, from each pixel to the next.
@@ -243,6 +261,7 @@ fn draw_inside(
     lens: &Lens,
     piece: &Piece,
     face: &Face,
+    stamp: Stamp,
     line: &NarrowLine,
     run: &Run,
 )
@@ -250,6 +269,7 @@ fn draw_inside(
     requires block { IsBlockOf lens.now block.now }
     requires ready { IsPieceOf lens.now piece.now }
     requires face { HasFace piece.now face.now }
+    requires stamp { IsStampOf piece.now face.now stamp }
     requires line { IsLineAt face.now (block.now.left + run.now.start) (block.now.left + (run.now.end - 1))
         (block.now.first + run.now.r) line.now }
     requires inner { AreInnerTo face.now (block.now.left + run.now.start) (block.now.left + (run.now.end - 1))
@@ -261,9 +281,11 @@ fn draw_inside(
 {
     let steps = line.steps;
     let mut values = line.start;
+    let mut about = values.about();
     for q in run.start..run.end {
-        draw_sum(marks, block.place(q, run.r), piece, face, values.sum());
+        stamp.draw(marks, block.place(q, run.r), values.sum(), about);
         values = values.plus(&steps);
+        about = about + stamp.step;
     }
 }
 
@@ -274,6 +296,7 @@ fn draw_partly(
     lens: &Lens,
     piece: &Piece,
     face: &Face,
+    stamp: Stamp,
     line: &NarrowLine,
     run: &Run,
 )
@@ -281,6 +304,7 @@ fn draw_partly(
     requires block { IsBlockOf lens.now block.now }
     requires ready { IsPieceOf lens.now piece.now }
     requires face { HasFace piece.now face.now }
+    requires stamp { IsStampOf piece.now face.now stamp }
     requires line { IsLineAt face.now (block.now.left + run.now.start) (block.now.left + (run.now.end - 1))
         (block.now.first + run.now.r) line.now }
     requires run { IsRunOf block.now run.now }
@@ -290,9 +314,11 @@ fn draw_partly(
 {
     let steps = line.steps;
     let mut values = line.start;
+    let mut about = values.about();
     for q in run.start..run.end {
-        draw_values(marks, block.place(q, run.r), piece, face, &values);
+        draw_values(marks, block.place(q, run.r), stamp, &values, about);
         values = values.plus(&steps);
+        about = about + stamp.step;
     }
 }
 
@@ -333,31 +359,16 @@ fn draw_pixel(marks: &mut [Mark], place: usize, piece: &Piece, face: &Face, weig
     }
 }
 
-/// The same where the face has these edge values.
+/// Draws a piece by its stamp over the mark at a place, where the face has these edge values. A float that is about their sum makes
+/// it cheap.
 #[inline(always)]
-fn draw_values(marks: &mut [Mark], place: usize, piece: &Piece, face: &Face, values: &NarrowValues)
+fn draw_values(marks: &mut [Mark], place: usize, stamp: Stamp, values: &NarrowValues, about: f64)
     requires place { place < length marks.old }
-    requires face { HasFace piece.now face.now }
-    ensures { (lens : Lens) (px py : ℕ) → px < lens.w → py < lens.h → IsPieceOf lens piece.now → IsWithin piece.now.extent px py
-        → AreNarrowAt face.now px py values.now
-        → marks.new ≡ slice_set marks.old place (mark_over lens px py piece.now.face (slice_index_or marks.old place no_mark)) }
+    ensures { (p : Piece) (f : faces.Face) (lens : Lens) (px py : ℕ) → IsStampOf p f stamp → HasFace p f
+        → px < lens.w → py < lens.h → IsPieceOf lens p → IsWithin p.extent px py → AreNarrowAt f px py values.now
+        → marks.new ≡ slice_set marks.old place (mark_over lens px py p.face (slice_index_or marks.old place no_mark)) }
 {
     if let Some(sum) = values.inner_sum() {
-        draw_sum(marks, place, piece, face, sum);
-    }
-}
-
-/// The same where none of the edge values is below 0, and this is their sum.
-#[inline(always)]
-fn draw_sum(marks: &mut [Mark], place: usize, piece: &Piece, face: &Face, sum: u64)
-    requires place { place < length marks.old }
-    requires face { HasFace piece.now face.now }
-    requires sum { sum < 2 ^ 63 }
-    ensures { (lens : Lens) (px py : ℕ) → px < lens.w → py < lens.h → IsPieceOf lens piece.now → IsWithin piece.now.extent px py
-        → IsInnerSumAt face.now px py sum
-        → marks.new ≡ slice_set marks.old place (mark_over lens px py piece.now.face (slice_index_or marks.old place no_mark)) }
-{
-    if let Some(nearer) = nearer_inside(piece, face, sum, &marks[place]) {
-        marks[place] = nearer;
+        stamp.draw(marks, place, sum, about);
     }
 }

@@ -1,9 +1,7 @@
 //! The depth of a triangle at a pixel from the sum of its edge values there, with no division where it is not before a limit.
 ghost use Rattle.std.specs.Prelude.{◌≡◌, ◌*◌, ◌/◌, ◌<◌, ◌≤◌, ◌^◌, false, IfSome, IfNone, IsTrue, ◌↔◌};
 
-use crate::quotients::{
-    guessed_narrow, is_narrow_quotient, narrow_product, narrow_quotient, product, quotient,
-};
+use crate::quotients::{guessed_quotient, narrow_product, narrow_quotient, product, quotient};
 
 /// What tells the depth of a triangle at a pixel: it is the dividend divided by the sum of the edge values there, rounded down,
 /// and the triangle is seen there where it is neither below `near` nor above `far`.
@@ -17,20 +15,42 @@ pub struct Depths {
 impl Depths {
     ghost use Rattle.edge_values.specs.Seen.{IsSeenBefore};
 
-    /// The depth where the edge values have this sum, if it is seen there; none where the sum is 0. A float that is about the
-    /// dividend makes it cheap, and whatever it is, the depth is exact.
+    /// The depth where the edge values have this sum, if a float that is about it, rounded down, is right; seen or not. Where it
+    /// is none, which is rare, `divided` tells it.
     #[inline(always)]
-    pub fn seen(self, about: f64, sum: u64) -> Option<u32>
-        requires { sum < 2 ^ 63 }
+    pub fn guessed(self, about: f64, sum: u64) -> Option<u64>
+        ensures { IfSome result (λ d. (0 < sum) × (d ≡ self.dividend / sum) × (d < 2 ^ 32)) }
+    {
+        guessed_quotient(self.dividend, sum, about)
+    }
+
+    /// Whether anything is seen at a depth. A triangle all of which lies between the depths of the lens is seen at any.
+    #[inline(always)]
+    pub fn are_seen_at(self, depth: u64) -> bool
+        requires { depth < 2 ^ 32 }
+        ensures { IsTrue result ↔ (self.near ≤ depth) × (depth ≤ self.far) }
+    {
+        if (self.near == 0) & (self.far == u32::MAX) {
+            return true;
+        }
+        u64::from(self.near) <= depth && depth <= u64::from(self.far)
+    }
+
+    /// The depth where the edge values have this sum, if it is seen there, by a division; none where the sum is 0.
+    #[cold]
+    #[inline(never)]
+    pub fn divided(self, sum: u64) -> Option<u32>
         ensures some { IfSome result (λ d. (0 < sum) × (d ≡ self.dividend / sum) × (self.near ≤ d) × (d ≤ self.far)) }
         ensures none { IfNone result (0 < sum → self.near ≤ self.dividend / sum → self.far < self.dividend / sum) }
     {
-        let guess = guessed_narrow(about, sum);
-        if is_narrow_quotient(self.dividend, sum, guess) {
-            judged(guess, self.near, self.far)
-        } else {
-            divided(self.dividend, self.near, self.far, sum)
+        if sum == 0 {
+            return None;
         }
+        let depth = self.dividend / u128::from(sum);
+        if depth < u128::from(self.near) || u128::from(self.far) < depth {
+            return None;
+        }
+        Some(depth as u32)
     }
 
     /// The depth where the edge values have this sum, if it is seen there and lies before a limit: most sums have 64 bits. What is
@@ -82,47 +102,6 @@ impl Depths {
         let far = limit.min(u64::from(self.far) + 1);
         product(u64::from(self.near), sum) <= self.dividend && self.dividend < product(far, sum)
     }
-}
-
-/// The depth where the edge values have this sum, if it is seen from `near` to `far`, by a division.
-#[cold]
-#[inline(never)]
-fn divided(dividend: u128, near: u32, far: u32, sum: u64) -> Option<u32>
-    ensures some { IfSome result (λ d. (0 < sum) × (d ≡ dividend / sum) × (near ≤ d) × (d ≤ far)) }
-    ensures none { IfNone result (0 < sum → near ≤ dividend / sum → far < dividend / sum) }
-{
-    if sum == 0 {
-        return None;
-    }
-    let depth = dividend / u128::from(sum);
-    if is_behind(depth, far) {
-        return None;
-    }
-    judged(depth as u64, near, far)
-}
-
-/// Whether a depth is greater than the greatest at which anything is seen.
-fn is_behind(depth: u128, far: u32) -> bool
-    ensures behind { IsTrue result → far < depth }
-    ensures bound { result ≡ false → depth < 2 ^ 32 }
-{
-    u128::from(far) < depth
-}
-
-/// A depth, where it lies from `near` to `far`. A triangle all of which lies between the depths of the lens is seen at any.
-#[inline(always)]
-fn judged(depth: u64, near: u32, far: u32) -> Option<u32>
-    requires { depth < 2 ^ 32 }
-    ensures some { IfSome result (λ d. (d ≡ depth) × (near ≤ d) × (d ≤ far)) }
-    ensures none { IfNone result (near ≤ depth → far < depth) }
-{
-    if near == 0 && far == u32::MAX {
-        return Some(depth as u32);
-    }
-    if depth < u64::from(near) || u64::from(far) < depth {
-        return None;
-    }
-    Some(depth as u32)
 }
 
 /// The depth where the edge values have this sum, of any size, if it is seen from `near` to `far` and before a limit.

@@ -5,6 +5,7 @@ ghost use Rattle.edge_values.specs.Small.{AreWithin};
 ghost use Rattle.edge_values.specs.Weights.{AreBelow, AreInner, IsInnerSum};
 
 use crate::values::EdgeValues;
+use std::num::nearest_i64_to_f64;
 
 /// The greatest magnitude of an edge value at the start of a row, 3 * 2^50.
 const MOST_VALUE: u64 = 3_377_699_720_527_872;
@@ -72,6 +73,15 @@ impl NarrowValues {
         ensures { IsInnerSum self.now.first self.now.second self.now.third result }
     {
         natural(total(self.first, self.second, self.third))
+    }
+
+    /// A float that is about their sum. Nothing rests on its value.
+    pub fn about(&self) -> f64 {
+        nearest_i64_to_f64(
+            self.first
+                .wrapping_add(self.second)
+                .wrapping_add(self.third),
+        )
     }
 }
 

@@ -1,7 +1,7 @@
 //! Quotients by the sum of edge values: guessed by floats, judged by integers, and divided out where the guess is wrong.
-ghost use Rattle.std.specs.Prelude.{◌≡◌, ◌*◌, ◌/◌, ◌<◌, ◌^◌, IsTrue};
+ghost use Rattle.std.specs.Prelude.{◌≡◌, ◌*◌, ◌/◌, ◌<◌, ◌^◌, IsTrue, IfSome};
 
-use std::num::{f64_to_bits_with_nan, nearest_i64_to_f64, nearest_u64_to_f64};
+use std::num::{nearest_i64_to_f64, nearest_u64_to_f64};
 
 /// The product of a depth below 2^40 and a sum of edge values below 2^84.
 pub fn product(limit: u64, sum: u128) -> u128
@@ -59,6 +59,21 @@ pub(crate) fn narrow_quotient(dividend: u128, sum: u64, about: f64, limit: u64) 
     }
 }
 
+/// The quotient by a number of 64 bits, if a float that is about it, rounded down, is right.
+#[inline(always)]
+pub(crate) fn guessed_quotient(dividend: u128, sum: u64, about: f64) -> Option<u64>
+    ensures { IfSome result (λ q. (0 < sum) × (q ≡ dividend / sum) × (q < 2 ^ 32)) }
+{
+    let whole = about + 4_503_599_627_370_495.5;
+    if whole < 9_007_199_254_740_992.0 {
+        let guess = whole.to_bits() % 4_294_967_296;
+        if is_narrow_quotient(dividend, sum, guess) {
+            return Some(guess);
+        }
+    }
+    None
+}
+
 /// A quotient by a number of 64 bits that is below a limit, divided out.
 #[cold]
 #[inline(never)]
@@ -93,7 +108,12 @@ pub(crate) fn guessed_narrow(about: f64, sum: u64) -> u64
 fn rounded(guess: f64) -> u64
     ensures { result < 2 ^ 32 }
 {
-    f64_to_bits_with_nan(guess + 4_503_599_627_370_495.5) % 4_294_967_296
+    let whole = guess + 4_503_599_627_370_495.5;
+    if whole < 9_007_199_254_740_992.0 {
+        whole.to_bits() % 4_294_967_296
+    } else {
+        0
+    }
 }
 
 /// Whether a number is the quotient.

@@ -28,8 +28,8 @@ sum-requires c =
     inner_values a.face.now (b.left + q) (b.first + a.run.now.r) c.loop-q.values c.loop-q.invariant.values
     (c.requires.inner (b.left + q) (omega (arith, c.loop-q.auto.q)) (omega (arith, c.loop-q-test.true)))
 
-pub draw_sum-requires-clause-sum : goal.draw_sum-requires-clause-sum
-draw_sum-requires-clause-sum c = c.sum.ensures.bound
+pub draw-requires-clause-sum : goal.draw-requires-clause-sum
+draw-requires-clause-sum c = c.sum.ensures.bound
 
 pub loop-q-preserved : goal.loop-q-preserved
 loop-q-preserved c =
@@ -50,7 +50,7 @@ loop-q-preserved c =
     let sum = inner_sum_at f (b.left + q) (b.first + r) v c.sum.result are c.sum.ensures in
     let g = within b (face_over a.lens.now a.piece.now.face) in
     let place = c.place.result in
-    let here = c.draw_sum.ensures a.lens.now (b.left + q) (b.first + r) (omega (arith, column, c.requires.block.columns)) (omega (arith, c.requires.run.row, c.requires.block.rows)) c.requires.ready inside sum in
+    let here = c.draw.ensures a.piece.now f a.lens.now (b.left + q) (b.first + r) c.requires.stamp c.requires.face (omega (arith, column, c.requires.block.columns)) (omega (arith, c.requires.run.row, c.requires.block.rows)) c.requires.ready inside sum in
     record {
       drawn = subst (λ (ms : List Mark). SpanRelates b (mark_in b a.marks.now) (mark_in b ms) (becomes g) r a.run.now.start (q + 1)) (sym here)
           (span_written (λ (m : Mark). m) no_mark b (mark_in b a.marks.now) c.loop-q.marks (becomes g) r a.run.now.start q place (g q r (get_or c.loop-q.marks place no_mark))

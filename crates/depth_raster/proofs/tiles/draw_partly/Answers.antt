@@ -37,7 +37,7 @@ loop-q-preserved c =
     } in
     let g = within b (face_over a.lens.now a.piece.now.face) in
     let place = c.place.result in
-    let here = c.draw_values.ensures a.lens.now (b.left + q) (b.first + r) (omega (arith, column, c.requires.block.columns)) (omega (arith, c.requires.run.row, c.requires.block.rows)) c.requires.ready inside are in
+    let here = c.draw_values.ensures a.piece.now f a.lens.now (b.left + q) (b.first + r) c.requires.stamp c.requires.face (omega (arith, column, c.requires.block.columns)) (omega (arith, c.requires.run.row, c.requires.block.rows)) c.requires.ready inside are in
     record {
       drawn = subst (λ (ms : List Mark). SpanRelates b (mark_in b a.marks.now) (mark_in b ms) (becomes g) r a.run.now.start (q + 1)) (sym here)
           (span_written (λ (m : Mark). m) no_mark b (mark_in b a.marks.now) c.loop-q.marks (becomes g) r a.run.now.start q place (g q r (get_or c.loop-q.marks place no_mark))

@@ -3,7 +3,7 @@ use Rattle.std.specs.Option.{IfSome}
 use Rattle.depth_raster.specs.Narrow.{IsLineAt}
 use Rattle.depth_raster.specs.Tiles.{mark_in, within, face_over}
 use Rattle.edge_values.specs.declared.narrow.NarrowLine.{NarrowLine}
-use Rattle.depth_raster.proofs.Skipped.{missed_left, missed_right, pixels_skipped, pixels_rest}
+use Rattle.depth_raster.proofs.Skipped.{missed_left, missed_right}
 use Rattle.depth_raster.proofs.Spanned.{row_by_span}
 use Rattle.depth_raster.proofs.tiles.draw_row.Goals as goal
 
@@ -14,20 +14,21 @@ pub draw_narrow-requires-clause-line : goal.draw_narrow-requires-clause-line
 draw_narrow-requires-clause-line c =
     let a = c.args in
     let b = a.block.now in
-    subst (λ (o : Option NarrowLine). IfSome o (IsLineAt a.face.now (b.left + c.columns_from-start.result) (b.left + (c.columns_to-end.result - 1)) (b.first + a.r))) c.in-Some.is c.line_of.ensures
+    let run = a.run.now in
+    subst (λ (o : Option NarrowLine). IfSome o (IsLineAt a.face.now (b.left + run.start) (b.left + (run.end - 1)) (b.first + run.r))) c.in-Some.is c.line_of.ensures
 
 pub draw_narrow-requires-clause-inside : goal.draw_narrow-requires-clause-inside
 draw_narrow-requires-clause-inside c = record {
-  left = omega (arith, c.columns_from-start.ensures);
-  right = omega (arith, c.columns_to-end.ensures);
+  left = omega (arith, c.requires.start);
+  right = omega (arith, c.requires.end);
   top = c.requires.top;
   bottom = c.requires.bottom;
 }
 
 pub draw_wide-requires-clause-inside : goal.draw_wide-requires-clause-inside
 draw_wide-requires-clause-inside c = record {
-  left = omega (arith, c.columns_from-start.ensures);
-  right = omega (arith, c.columns_to-end.ensures);
+  left = omega (arith, c.requires.start);
+  right = omega (arith, c.requires.end);
   top = c.requires.top;
   bottom = c.requires.bottom;
 }
@@ -36,24 +37,16 @@ pub returns-in-Some : goal.returns-in-Some
 returns-in-Some c =
     let a = c.args in
     let b = a.block.now in
-    row_by_span b (mark_in b a.marks.now) (mark_in b c.draw_narrow.new.marks) (within b (face_over a.lens.now a.piece.now.face)) a.r c.columns_from-start.result c.columns_to-end.result c.draw_narrow.ensures
-    (λ q before column. missed_left a.lens.now a.piece.now b a.marks.now q a.r c.requires.ready c.requires.block column c.requires.row (omega (arith, before, c.columns_from-start.ensures)))
-    (λ q behind column. missed_right a.lens.now a.piece.now b a.marks.now q a.r c.requires.ready c.requires.block column c.requires.row (omega (arith, behind, column, c.columns_to-end.ensures)))
+    let run = a.run.now in
+    row_by_span b (mark_in b a.marks.now) (mark_in b c.draw_narrow.new.marks) (within b (face_over a.lens.now a.piece.now.face)) run.r run.start run.end c.draw_narrow.ensures
+    (λ q before column. missed_left a.lens.now a.piece.now b a.marks.now q run.r c.requires.ready c.requires.block column c.requires.run.row (omega (arith, before, c.requires.start)))
+    (λ q behind column. missed_right a.lens.now a.piece.now b a.marks.now q run.r c.requires.ready c.requires.block column c.requires.run.row (omega (arith, behind, column, c.requires.end)))
 
 pub returns-in-None : goal.returns-in-None
 returns-in-None c =
     let a = c.args in
     let b = a.block.now in
-    row_by_span b (mark_in b a.marks.now) (mark_in b c.draw_wide.new.marks) (within b (face_over a.lens.now a.piece.now.face)) a.r c.columns_from-start.result c.columns_to-end.result c.draw_wide.ensures
-    (λ q before column. missed_left a.lens.now a.piece.now b a.marks.now q a.r c.requires.ready c.requires.block column c.requires.row (omega (arith, before, c.columns_from-start.ensures)))
-    (λ q behind column. missed_right a.lens.now a.piece.now b a.marks.now q a.r c.requires.ready c.requires.block column c.requires.row (omega (arith, behind, column, c.columns_to-end.ensures)))
-
-pub returns-then-end-start : goal.returns-then-end-start
-returns-then-end-start c =
-    let a = c.args in
-    let b = a.block.now in
-    let f = within b (face_over a.lens.now a.piece.now.face) in
-    let skipped = pixels_skipped b (mark_in b a.marks.now) f a.r c.columns_from-start.result
-    (λ q before column. missed_left a.lens.now a.piece.now b a.marks.now q a.r c.requires.ready c.requires.block column c.requires.row (omega (arith, before, c.columns_from-start.ensures))) in
-    pixels_rest b (mark_in b a.marks.now) (mark_in b a.marks.now) f a.r c.columns_from-start.result skipped
-    (λ q behind column. missed_right a.lens.now a.piece.now b a.marks.now q a.r c.requires.ready c.requires.block column c.requires.row (omega (arith, behind, column, c.columns_to-end.ensures)))
+    let run = a.run.now in
+    row_by_span b (mark_in b a.marks.now) (mark_in b c.draw_wide.new.marks) (within b (face_over a.lens.now a.piece.now.face)) run.r run.start run.end c.draw_wide.ensures
+    (λ q before column. missed_left a.lens.now a.piece.now b a.marks.now q run.r c.requires.ready c.requires.block column c.requires.run.row (omega (arith, before, c.requires.start)))
+    (λ q behind column. missed_right a.lens.now a.piece.now b a.marks.now q run.r c.requires.ready c.requires.block column c.requires.run.row (omega (arith, behind, column, c.requires.end)))

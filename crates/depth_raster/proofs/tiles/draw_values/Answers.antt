@@ -9,25 +9,24 @@ use Rattle.depth_raster.proofs.Skipped.{mark_missed}
 use Rattle.depth_raster.proofs.Weighed.{inner_sum_at, inner_values}
 use Rattle.depth_raster.proofs.tiles.draw_values.Goals as goal
 
-pub draw_sum-requires-clause-sum : goal.draw_sum-requires-clause-sum
-draw_sum-requires-clause-sum c =
+pub draw-requires-clause-sum : goal.draw-requires-clause-sum
+draw-requires-clause-sum c =
     let v = c.args.values.now in
     let some = subst (λ (o : Option ℕ). IfSome o (IsInnerSum v.first v.second v.third)) c.in-Some.is c.inner_sum.ensures.some in
     some.bound
 
 pub returns-in-Some : goal.returns-in-Some
-returns-in-Some c = λ lens px py column row ready inside are.
+returns-in-Some c = λ p f lens px py stamp face column row ready inside are.
     let v = c.args.values.now in
     let some = subst (λ (o : Option ℕ). IfSome o (IsInnerSum v.first v.second v.third)) c.in-Some.is c.inner_sum.ensures.some in
-    c.draw_sum.ensures lens px py column row ready inside (inner_sum_at c.args.face.now px py v c.in-Some.sum are some)
+    c.draw.ensures p f lens px py stamp face column row ready inside (inner_sum_at f px py v c.in-Some.sum are some)
 
 pub returns-in_default : goal.returns-in_default
-returns-in_default c = λ lens px py column row ready inside are.
+returns-in_default c = λ p f lens px py stamp face column row ready inside are.
     let a = c.args in
-    let p = a.piece.now in
     let v = a.values.now in
     let m = get_or a.marks.now a.place no_mark in
     let none = subst (λ (o : Option ℕ). IfNone o (AreInner v.first v.second v.third → ⊥)) c.in_default.is c.inner_sum.ensures.none in
-    let missed = not_inner a.face.now px py (λ is. none (inner_values a.face.now px py v are is)) in
+    let missed = not_inner f px py (λ is. none (inner_values f px py v are is)) in
     sym (set-get_or a.marks.now a.place no_mark)
-    ∙ ap (set a.marks.now a.place) (sym (mark_missed lens px py p.face m (face_hits lens p a.face.now ready c.requires.face px py column row ∙ missed)))
+    ∙ ap (set a.marks.now a.place) (sym (mark_missed lens px py p.face m (face_hits lens p f ready face px py column row ∙ missed)))
