@@ -99,6 +99,11 @@ pub struct OneThread;
 
 impl Threads for OneThread {}
 
+/// One processor: the mirror draws on one thread.
+pub fn available_parallelism<R>(_rt: &R) -> Result<std::num::NonZeroUsize, ()> {
+    Ok(std::num::NonZeroUsize::MIN)
+}
+
 pub fn join_mut<R>(_rt: &R, first: &mut dyn FnMut(), second: &mut dyn FnMut()) {
     first();
     second();
@@ -116,8 +121,4 @@ pub fn nearest_i64_to_f64(n: i64) -> f64 {
 
 pub fn nearest_u64_to_f64(n: u64) -> f64 {
     n as f64
-}
-
-pub fn f64_to_bits_with_nan(x: f64) -> u64 {
-    x.to_bits()
 }

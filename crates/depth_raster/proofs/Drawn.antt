@@ -8,7 +8,7 @@ use Rattle.depth_raster.specs.Marks.{seen_as}
 use Rattle.depth_raster.specs.Pieces.{AreRanked, fragments_by, pieces_over, IsColoured}
 use Rattle.depth_raster.specs.Slots.{slots_over}
 use Rattle.depth_raster.specs.Strips.{AreTilesOf, TilesRelate, IsStripOf, StripRelates}
-use Rattle.depth_raster.specs.Tiles.{mark_in, MarksFollow, IsPainted, IsAt, IsBegun, IsDrawn, IsDrawnFrom}
+use Rattle.depth_raster.specs.Tiles.{marks_of, mark_in, MarksFollow, IsPainted, IsAt, IsBegun, IsDrawn, IsDrawnFrom}
 use Rattle.depth_raster.specs.declared.blocks.Block.{Block}
 use Rattle.depth_raster.specs.declared.marks.Mark.{Mark}
 use Rattle.depth_raster.specs.declared.pieces.Piece.{Piece}
@@ -28,15 +28,15 @@ record IsPixelDrawn (lens : Lens) (px py : ℕ) (back : List ℕ) (ps : List Pie
   coloured : IsColoured lens px py back ps (pieces_over lens ps px py m) c d
 
 pixel_drawn : (lens : Lens) (back : List ℕ) (ps : List Piece) (ss : List Slot) (a b c : Tile) → AreOver lens ps ss a → MarksFollow (slots_over lens ps ss) a b → IsPainted lens back ps b c → (q r : ℕ) → IsAt a q r →
-    IsPixelDrawn lens (a.block.left + q) (a.block.first + r) back ps (mark_in a.block a.marks.items q r) (mark_in c.block c.marks.items q r) (colour_in a.block a.colours.items q r) (colour_in c.block c.colours.items q r)
+    IsPixelDrawn lens (a.block.left + q) (a.block.first + r) back ps (mark_in a.block (marks_of a) q r) (mark_in c.block (marks_of c) q r) (colour_in a.block a.colours.items q r) (colour_in c.block c.colours.items q r)
 pixel_drawn lens back ps ss a b c slots h k q r at = record {
-  marked = ap (λ (d : Block). mark_in d c.marks.items q r) k.block ∙ ap (λ (ms : List Mark). mark_in b.block ms q r) k.marks ∙ marked;
+  marked = ap (λ (d : Block). mark_in d (marks_of c) q r) k.block ∙ ap (λ (ms : List Mark). mark_in b.block ms q r) k.marks ∙ marked;
   coloured =
       subst (λ (d : Block). IsColoured lens px py back ps over (colour_in a.block a.colours.items q r) (colour_in d c.colours.items q r)) (sym k.block)
       (subst (λ (cs : List (List ℕ)). IsColoured lens px py back ps over (colour_in a.block cs q r) (colour_in b.block c.colours.items q r)) h.colours
       (subst (λ (d : Block). IsColoured lens px py back ps over (colour_in d b.colours.items q r) (colour_in b.block c.colours.items q r)) h.block
       (subst (λ (m : Mark). IsColoured lens px py back ps m (colour_in b.block b.colours.items q r) (colour_in b.block c.colours.items q r)) marked
-      (subst (λ (d : Block). IsColoured lens (d.left + q) (d.first + r) back ps (mark_in b.block b.marks.items q r) (colour_in b.block b.colours.items q r) (colour_in b.block c.colours.items q r)) h.block
+      (subst (λ (d : Block). IsColoured lens (d.left + q) (d.first + r) back ps (mark_in b.block (marks_of b) q r) (colour_in b.block b.colours.items q r) (colour_in b.block c.colours.items q r)) h.block
       (k.colours q r column row)))));
 }
   where
@@ -47,7 +47,7 @@ pixel_drawn lens back ps ss a b c slots h k q r at = record {
     py = a.block.first + r
 
     over : Mark
-    over = pieces_over lens ps px py (mark_in a.block a.marks.items q r)
+    over = pieces_over lens ps px py (mark_in a.block (marks_of a) q r)
 
     column : q < b.block.width
     column = subst (λ (d : Block). q < d.width) (sym h.block) at.column
@@ -55,8 +55,8 @@ pixel_drawn lens back ps ss a b c slots h k q r at = record {
     row : r < b.block.rows
     row = subst (λ (d : Block). r < d.rows) (sym h.block) at.row
 
-    marked : mark_in b.block b.marks.items q r ≡ over
-    marked = ap (λ (d : Block). mark_in d b.marks.items q r) h.block ∙ h.marks q r at.column at.row ∙ slots q r at (mark_in a.block a.marks.items q r)
+    marked : mark_in b.block (marks_of b) q r ≡ over
+    marked = ap (λ (d : Block). mark_in d (marks_of b) q r) h.block ∙ h.marks q r at.column at.row ∙ slots q r at (mark_in a.block (marks_of a) q r)
 
 pixel_seen : (lens : Lens) (px py : ℕ) (back : List ℕ) (ps : List Piece) (m n : Mark) (c d : List ℕ) → AreRanked ps → m.rank ≡ 0 → IsPixelDrawn lens px py back ps m n c d → seen_as n d ≡ fold nearer (seen_as m c) (fragments_by lens px py ps)
 pixel_seen lens px py back ps m n c d ranks none is = ap (λ (k : Mark). seen_as k d) is.marked ∙ pieces_seen lens px py ps m c none back d ranks is.coloured
@@ -65,15 +65,15 @@ pub tile_drawn_over : (lens : Lens) (back : List ℕ) (ps : List Piece) (ss : Li
 tile_drawn_over lens back ps ss a b c slots ranks h k = record {
   block = k.block ∙ h.block;
   seen = λ q r at none.
-      pixel_seen lens (a.block.left + q) (a.block.first + r) back ps (mark_in a.block a.marks.items q r) (mark_in c.block c.marks.items q r)
+      pixel_seen lens (a.block.left + q) (a.block.first + r) back ps (mark_in a.block (marks_of a) q r) (mark_in c.block (marks_of c) q r)
       (colour_in a.block a.colours.items q r) (colour_in c.block c.colours.items q r) ranks none (pixel_drawn lens back ps ss a b c slots h k q r at);
   blank = λ q r at none blank.
       let px = a.block.left + q in
       let py = a.block.first + r in
-      let m = mark_in a.block a.marks.items q r in
+      let m = mark_in a.block (marks_of a) q r in
       let is = pixel_drawn lens back ps ss a b c slots h k q r at in
       pieces_blank lens px py ps m (colour_in a.block a.colours.items q r) none back (colour_in c.block c.colours.items q r) ranks is.coloured
-      (sym (pixel_seen lens px py back ps m (mark_in c.block c.marks.items q r) (colour_in a.block a.colours.items q r) (colour_in c.block c.colours.items q r) ranks none is) ∙ blank);
+      (sym (pixel_seen lens px py back ps m (mark_in c.block (marks_of c) q r) (colour_in a.block a.colours.items q r) (colour_in c.block c.colours.items q r) ranks none is) ∙ blank);
 }
 
 -- ---- a drawing and how it starts

@@ -14,7 +14,7 @@ use Rattle.depth_raster.specs.Faces.{fragment_by, over}
 use Rattle.depth_raster.specs.Marks.{nothing, no_mark, seen_as}
 use Rattle.depth_raster.specs.Pieces.{fragments_by, settled}
 use Rattle.depth_raster.specs.Strips.{StripsRelate, AreStrips}
-use Rattle.depth_raster.specs.Tiles.{mark_in, seen_in, IsAt, IsCleared, IsBegun, IsDrawn, IsDrawnFrom}
+use Rattle.depth_raster.specs.Tiles.{marks_of, mark_in, seen_in, IsAt, IsCleared, IsBegun, IsDrawn, IsDrawnFrom}
 use Rattle.depth_raster.specs.declared.blocks.Block.{Block}
 use Rattle.depth_raster.specs.declared.faces.Face.{Face}
 use Rattle.depth_raster.specs.declared.marks.Mark.{Mark}
@@ -29,9 +29,9 @@ pub seen_is : (strips : List Strip) (px py : ℕ) (t : Tile) → tile_at strips 
 unfolding seen_at
 seen_is strips px py t is = ap (λ (o : Option Tile). option_map_or (λ t. seen_in t (px % 16) (py % 16)) o None) is
 
-pub mark_is : (strips : List Strip) (px py : ℕ) (t : Tile) → tile_at strips px py ≡ Some t → mark_at strips px py ≡ mark_in t.block t.marks.items (px % 16) (py % 16)
+pub mark_is : (strips : List Strip) (px py : ℕ) (t : Tile) → tile_at strips px py ≡ Some t → mark_at strips px py ≡ mark_in t.block (marks_of t) (px % 16) (py % 16)
 unfolding mark_at
-mark_is strips px py t is = ap (λ (o : Option Tile). option_map_or (λ t. mark_in t.block t.marks.items (px % 16) (py % 16)) o no_mark) is
+mark_is strips px py t is = ap (λ (o : Option Tile). option_map_or (λ t. mark_in t.block (marks_of t) (px % 16) (py % 16)) o no_mark) is
 
 pub colour_is : (strips : List Strip) (px py : ℕ) (t : Tile) → tile_at strips px py ≡ Some t → colour_at strips px py ≡ colour_in t.block t.colours.items (px % 16) (py % 16)
 unfolding colour_at
@@ -41,11 +41,11 @@ colour_is strips px py t is = ap (λ (o : Option Tile). option_map_or (λ t. col
 -- the tile of a pixel as its drawing starts
 record StartsAt (first : Bool) (before : List Strip) (px py : ℕ) (t start : Tile) : Type 0 where
   block : start.block ≡ t.block
-  unranked : (mark_in start.block start.marks.items (px % 16) (py % 16)).rank ≡ 0
+  unranked : (mark_in start.block (marks_of start) (px % 16) (py % 16)).rank ≡ 0
   seen : seen_in start (px % 16) (py % 16) ≡ seen_from first before px py
 
-cleared_mark : (t start : Tile) (q r : ℕ) → IsCleared t start → IsAt t q r → mark_in start.block start.marks.items q r ≡ nothing
-cleared_mark t start q r is at = ap (λ (d : Block). mark_in d start.marks.items q r) is.block ∙ is.marks q r at.column at.row
+cleared_mark : (t start : Tile) (q r : ℕ) → IsCleared t start → IsAt t q r → mark_in start.block (marks_of start) q r ≡ nothing
+cleared_mark t start q r is at = ap (λ (d : Block). mark_in d (marks_of start) q r) is.block ∙ is.marks q r at.column at.row
 
 starts_at : (lens : Lens) (before : List Strip) (px py : ℕ) (first : Bool) (t start : Tile) → AreStrips lens before → px < lens.w → py < lens.h → IsTileAt before px py t → IsBegun first t start → StartsAt first before px py t start
 starts_at lens before px py true t start are column row at begun =
@@ -60,8 +60,8 @@ starts_at lens before px py false t start are column row at begun =
     let is = begun.settled refl in
     let q = px % 16 in
     let r = py % 16 in
-    let mark : mark_in start.block start.marks.items q r ≡ settled (mark_in t.block t.marks.items q r) =
-    ap (λ (d : Block). mark_in d start.marks.items q r) is.block ∙ is.marks q r at.at.column at.at.row in
+    let mark : mark_in start.block (marks_of start) q r ≡ settled (mark_in t.block (marks_of t) q r) =
+    ap (λ (d : Block). mark_in d (marks_of start) q r) is.block ∙ is.marks q r at.at.column at.at.row in
     let colour : colour_in start.block start.colours.items q r ≡ colour_in t.block t.colours.items q r =
     ap (λ (d : Block). colour_in d start.colours.items q r) is.block ∙ ap (λ (cs : List (List ℕ)). colour_in t.block cs q r) is.colours in
     record {
@@ -69,7 +69,7 @@ starts_at lens before px py false t start are column row at begun =
       unranked = ap (λ (m : Mark). m.rank) mark;
       seen =
           ap (λ (m : Mark). seen_as m (colour_in start.block start.colours.items q r)) mark
-          ∙ ap (λ (c : List ℕ). seen_as (mark_in t.block t.marks.items q r) c) colour
+          ∙ ap (λ (c : List ℕ). seen_as (mark_in t.block (marks_of t) q r) c) colour
           ∙ sym (seen_is before px py t at.is);
     }
 
@@ -80,7 +80,7 @@ record IsDrawnAt (lens : Lens) (back : List ℕ) (ps : List Piece) (first : Bool
   at : IsAt start (px % 16) (py % 16)
   left : start.block.left + px % 16 ≡ px
   top : start.block.first + py % 16 ≡ py
-  unranked : (mark_in start.block start.marks.items (px % 16) (py % 16)).rank ≡ 0
+  unranked : (mark_in start.block (marks_of start) (px % 16) (py % 16)).rank ≡ 0
   seen : seen_in start (px % 16) (py % 16) ≡ seen_from first before px py
   is : tile_at after px py ≡ Some new
   drawn : IsDrawn lens back ps start new

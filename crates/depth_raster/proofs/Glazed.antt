@@ -11,7 +11,7 @@ use Rattle.depth_raster.specs.Canvas.{mark_at, colour_at, behind_at, glazed_with
 use Rattle.depth_raster.specs.Faces.{fragment_by, glazed_by_face}
 use Rattle.depth_raster.specs.Marks.{behind_as}
 use Rattle.depth_raster.specs.Strips.{AreTilesOf, TilesRelate, StripsRelate, AreStrips}
-use Rattle.depth_raster.specs.Tiles.{mark_in, face_glazes, pieces_glazes, ColoursFollow}
+use Rattle.depth_raster.specs.Tiles.{marks_of, mark_in, face_glazes, pieces_glazes, ColoursFollow}
 use Rattle.depth_raster.specs.declared.blocks.Block.{Block}
 use Rattle.depth_raster.specs.declared.faces.Face.{Face}
 use Rattle.depth_raster.specs.declared.marks.Mark.{Mark}
@@ -28,7 +28,7 @@ coloured_as : (f g : ℕ → ℕ → Mark → List ℕ → List ℕ) → ((px py
 coloured_as f g same a b h = record {
   block = h.block;
   marks = h.marks;
-  colours = λ q r column row. h.colours q r column row ∙ same (a.block.left + q) (a.block.first + r) (mark_in a.block a.marks.items q r) (colour_in a.block a.colours.items q r);
+  colours = λ q r column row. h.colours q r column row ∙ same (a.block.left + q) (a.block.first + r) (mark_in a.block (marks_of a) q r) (colour_in a.block a.colours.items q r);
 }
 
 coloured_then : (f g : ℕ → ℕ → Mark → List ℕ → List ℕ) (a b c : Tile) → ColoursFollow f a b → ColoursFollow g b c → ColoursFollow (λ px py m u. g px py m (f px py m u)) a c
@@ -38,9 +38,9 @@ coloured_then f g a b c h k = record {
   colours = λ q r column row.
       ap (λ (d : Block). colour_in d c.colours.items q r) (sym h.block)
       ∙ k.colours q r (subst (λ (d : Block). q < d.width) (sym h.block) column) (subst (λ (d : Block). r < d.rows) (sym h.block) row)
-      ∙ ap (λ (d : Block). g (d.left + q) (d.first + r) (mark_in d b.marks.items q r) (colour_in d b.colours.items q r)) h.block
+      ∙ ap (λ (d : Block). g (d.left + q) (d.first + r) (mark_in d (marks_of b) q r) (colour_in d b.colours.items q r)) h.block
       ∙ ap (λ (ms : List Mark). g (a.block.left + q) (a.block.first + r) (mark_in a.block ms q r) (colour_in a.block b.colours.items q r)) h.marks
-      ∙ ap (g (a.block.left + q) (a.block.first + r) (mark_in a.block a.marks.items q r)) (h.colours q r column row);
+      ∙ ap (g (a.block.left + q) (a.block.first + r) (mark_in a.block (marks_of a) q r)) (h.colours q r column row);
 }
 
 -- a tile that the face misses
@@ -49,7 +49,7 @@ unmet_glazed lens f t unmet = record {
   block = refl;
   marks = refl;
   colours = λ q r column row.
-      sym (glazed_missed lens (t.block.left + q) (t.block.first + r) f (behind_as (mark_in t.block t.marks.items q r)) (colour_in t.block t.colours.items q r) (unmet q r column row));
+      sym (glazed_missed lens (t.block.left + q) (t.block.first + r) f (behind_as (mark_in t.block (marks_of t) q r)) (colour_in t.block t.colours.items q r) (unmet q r column row));
 }
 
 pub glazed_tiles_kept : (f : ℕ → ℕ → Mark → List ℕ → List ℕ) (band : Block) (before after : List Tile) → AreTilesOf band before → length after ≡ length before → TilesRelate (ColoursFollow f) before after → AreTilesOf band after
@@ -79,7 +79,7 @@ marks_stay : (lens : Lens) (ps : List Piece) (before after : List Strip) → Are
 marks_stay lens ps before after are long each px py column row =
     let at = tiles_at (ColoursFollow (pieces_glazes lens ps)) lens before after are long each px py column row in
     mark_is after px py at.new at.is
-    ∙ ap (λ (d : Block). mark_in d at.new.marks.items (px % 16) (py % 16)) at.related.block
+    ∙ ap (λ (d : Block). mark_in d (marks_of at.new) (px % 16) (py % 16)) at.related.block
     ∙ ap (λ (ms : List Mark). mark_in at.old.block ms (px % 16) (py % 16)) at.related.marks
     ∙ sym (mark_is before px py at.old at.stands.is)
 
@@ -93,8 +93,8 @@ flushed_glass lens ps before after are long each = record {
       colour_is after px py at.new at.is
       ∙ ap (λ (d : Block). colour_in d at.new.colours.items q r) at.related.block
       ∙ at.related.colours q r at.stands.at.column at.stands.at.row
-      ∙ ap (λ (x : ℕ). pieces_glazes lens ps x (at.old.block.first + r) (mark_in at.old.block at.old.marks.items q r) (colour_in at.old.block at.old.colours.items q r)) at.stands.left
-      ∙ ap (λ (y : ℕ). pieces_glazes lens ps px y (mark_in at.old.block at.old.marks.items q r) (colour_in at.old.block at.old.colours.items q r)) at.stands.first
+      ∙ ap (λ (x : ℕ). pieces_glazes lens ps x (at.old.block.first + r) (mark_in at.old.block (marks_of at.old) q r) (colour_in at.old.block at.old.colours.items q r)) at.stands.left
+      ∙ ap (λ (y : ℕ). pieces_glazes lens ps px y (mark_in at.old.block (marks_of at.old) q r) (colour_in at.old.block at.old.colours.items q r)) at.stands.first
       ∙ ap (λ (m : Mark). pieces_glazes lens ps px py m (colour_in at.old.block at.old.colours.items q r)) (sym (mark_is before px py at.old at.stands.is))
       ∙ ap (pieces_glazes lens ps px py (mark_at before px py)) (sym (colour_is before px py at.old at.stands.is));
 }

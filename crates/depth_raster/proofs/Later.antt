@@ -12,7 +12,7 @@ use Rattle.depth_raster.specs.Looks.{IsHidden}
 use Rattle.depth_raster.specs.Marks.{goes_before, mark_of, mark_with, mark_over, no_mark}
 use Rattle.depth_raster.specs.Pieces.{IsPieceOf}
 use Rattle.depth_raster.specs.Slots.{IsLeast}
-use Rattle.depth_raster.specs.Tiles.{mark_in, within, face_over, IsNoNearer, IsKept, MarksFollow}
+use Rattle.depth_raster.specs.Tiles.{marks_of, mark_in, within, face_over, IsNoNearer, IsKept, MarksFollow}
 use Rattle.depth_raster.specs.declared.blocks.Block.{Block}
 use Rattle.depth_raster.specs.declared.faces.Face.{Face}
 use Rattle.depth_raster.specs.declared.marks.Mark.{Mark}
@@ -38,13 +38,13 @@ unfolding mark_over
 later_marked lens px py f top m later from = with_later f top m (hit lens px py [] f.tri) later from
 
 -- a tile that a face changes nowhere
-pub last_marked : (lens : Lens) (f : Face) (t after : Tile) → IsKept t after → length t.marks.items ≡ size_of t.block → ComesLast (mark_at f t.top) t.marks.items → IsNoNearer lens f t.block t.top → MarksFollow (face_over lens f) t after
+pub last_marked : (lens : Lens) (f : Face) (t after : Tile) → IsKept t after → length (marks_of t) ≡ size_of t.block → ComesLast (mark_at f t.top) (marks_of t) → IsNoNearer lens f t.block t.top → MarksFollow (face_over lens f) t after
 last_marked lens f t after kept whole last from = record {
   block = kept.block;
   colours = kept.colours;
   marks = λ q r column row.
       ap (λ (ms : List Mark). mark_in t.block ms q r) kept.marks
-      ∙ sym (later_marked lens (t.block.left + q) (t.block.first + r) f t.top (mark_in t.block t.marks.items q r)
+      ∙ sym (later_marked lens (t.block.left + q) (t.block.first + r) f t.top (mark_in t.block (marks_of t) q r)
       (last (place_in t.block q r) no_mark (omega (arith, whole, place_within t.block q r column row)))
       (λ h hits. from q r h column row hits));
 }
@@ -54,8 +54,8 @@ pub kept_marked : (g : ℕ → ℕ → Mark → Mark) (t kept after : Tile) → 
 kept_marked g t kept after same drawn = record {
   block = drawn.block ∙ same.block;
   colours = drawn.colours ∙ same.colours;
-  marks = subst (λ (ms : List Mark). Follows t.block.width t.block.rows (mark_in t.block ms) (mark_in t.block after.marks.items) (within t.block g)) same.marks
-      (subst (λ (b : Block). Follows b.width b.rows (mark_in b kept.marks.items) (mark_in b after.marks.items) (within b g)) same.block drawn.marks);
+  marks = subst (λ (ms : List Mark). Follows t.block.width t.block.rows (mark_in t.block ms) (mark_in t.block (marks_of after)) (within t.block g)) same.marks
+      (subst (λ (b : Block). Follows b.width b.rows (mark_in b (marks_of kept)) (mark_in b (marks_of after)) (within b g)) same.block drawn.marks);
 }
 
 -- ---- what tells that no hit has a mark before a depth

@@ -1,6 +1,7 @@
 pub mod BlockHits
 pub mod Composing
 pub mod Copied
+pub mod Covering
 pub mod Deep
 pub mod Depths
 pub mod Drawn
@@ -26,6 +27,8 @@ pub mod Mixed
 pub mod Narrowed
 pub mod NextPane
 pub mod Painted
+pub mod Once
+pub mod Owing
 pub mod PaneOrder
 pub mod PanesLeft
 pub mod PixelTiles

@@ -17,7 +17,7 @@ use Rattle.depth_raster.specs.Faces.{fragment_by, glazed_by_face}
 use Rattle.depth_raster.specs.Looks.{IsHidden}
 use Rattle.depth_raster.specs.Marks.{no_mark, behind_as}
 use Rattle.depth_raster.specs.Pieces.{IsPieceOf}
-use Rattle.depth_raster.specs.Tiles.{mark_in, face_over, face_glazes, MarksFollow, ColoursFollow, IsBehind}
+use Rattle.depth_raster.specs.Tiles.{marks_of, mark_in, face_over, face_glazes, MarksFollow, ColoursFollow, IsBehind}
 use Rattle.depth_raster.specs.declared.blocks.Block.{Block}
 use Rattle.depth_raster.specs.declared.extents.Extent as extents
 use Rattle.depth_raster.specs.declared.faces.Face as labels
@@ -47,14 +47,14 @@ face_behind lens p f b depth limit ready is within limit_is hidden q r h column 
     omega (arith, limit_is, hidden q r h column row (sym same ∙ hits))
 
 -- a tile that a face changes nowhere
-pub behind_marked : (lens : Lens) (f : labels.Face) (t : Tile) → All (λ (m : Mark). m.depth ≤ t.top) t.marks.items → length t.marks.items ≡ size_of t.block → IsBehind lens f t.block t.top → MarksFollow (face_over lens f) t t
+pub behind_marked : (lens : Lens) (f : labels.Face) (t : Tile) → All (λ (m : Mark). m.depth ≤ t.top) (marks_of t) → length (marks_of t) ≡ size_of t.block → IsBehind lens f t.block t.top → MarksFollow (face_over lens f) t t
 behind_marked lens f t topped whole behind = record {
   block = refl;
   colours = refl;
   marks = λ q r column row.
       let px = t.block.left + q in
       let py = t.block.first + r in
-      let m = mark_in t.block t.marks.items q r in
+      let m = mark_in t.block (marks_of t) q r in
       let most : m.depth ≤ t.top = topped (r * t.block.width + q) no_mark (omega (arith, whole, place_within t.block q r column row)) in
       sym (deep_marked lens px py f m (λ h hits. omega (arith, most, behind q r h column row hits)));
 }
@@ -68,7 +68,7 @@ none_marked lens p t ready within is = record {
   block = refl;
   colours = refl;
   marks = λ q r column row.
-      sym (mark_missed lens (t.block.left + q) (t.block.first + r) p.face (mark_in t.block t.marks.items q r)
+      sym (mark_missed lens (t.block.left + q) (t.block.first + r) p.face (mark_in t.block (marks_of t) q r)
       (nothing_hit lens p ready is (t.block.left + q) (t.block.first + r) (omega (arith, column, within.columns)) (omega (arith, row, within.rows))));
 }
 
@@ -77,12 +77,12 @@ none_glazed lens p t ready within is = record {
   block = refl;
   marks = refl;
   colours = λ q r column row.
-      sym (glazed_missed lens (t.block.left + q) (t.block.first + r) p.face (behind_as (mark_in t.block t.marks.items q r)) (colour_in t.block t.colours.items q r)
+      sym (glazed_missed lens (t.block.left + q) (t.block.first + r) p.face (behind_as (mark_in t.block (marks_of t) q r)) (colour_in t.block t.colours.items q r)
       (nothing_hit lens p ready is (t.block.left + q) (t.block.first + r) (omega (arith, column, within.columns)) (omega (arith, row, within.rows))));
 }
 
 -- a tile whose colours glass changes nowhere
-pub behind_glazed : (lens : Lens) (f : labels.Face) (t : Tile) → All (λ (m : Mark). m.depth ≤ t.top) t.marks.items → length t.marks.items ≡ size_of t.block → IsBehind lens f t.block t.top → ColoursFollow (face_glazes lens f) t t
+pub behind_glazed : (lens : Lens) (f : labels.Face) (t : Tile) → All (λ (m : Mark). m.depth ≤ t.top) (marks_of t) → length (marks_of t) ≡ size_of t.block → IsBehind lens f t.block t.top → ColoursFollow (face_glazes lens f) t t
 unfolding glazed_by_face fragment_by
 behind_glazed lens f t topped whole behind = record {
   block = refl;
@@ -90,7 +90,7 @@ behind_glazed lens f t topped whole behind = record {
   colours = λ q r column row.
       let px = t.block.left + q in
       let py = t.block.first + r in
-      let m = mark_in t.block t.marks.items q r in
+      let m = mark_in t.block (marks_of t) q r in
       let most : m.depth ≤ t.top = topped (r * t.block.width + q) no_mark (omega (arith, whole, place_within t.block q r column row)) in
       sym (glazed_deep f m (hit lens px py [] f.tri) (colour_in t.block t.colours.items q r)
       (λ h hits. omega (arith, most, behind q r h column row hits)) (λ h hits. hit_small lens px py [] f.tri h hits));

@@ -12,7 +12,7 @@ use Rattle.depth_raster.specs.Marks.{mark_by, mark_with, mark_over}
 use Rattle.depth_raster.specs.Pieces.{IsPieceOf}
 use Rattle.depth_raster.specs.Slots.{slot_over, slots_over, IsSlotOf}
 use Rattle.depth_raster.specs.Strips.{AreTilesOf, TilesRelate}
-use Rattle.depth_raster.specs.Tiles.{mark_in, face_over, MarksFollow}
+use Rattle.depth_raster.specs.Tiles.{marks_of, mark_in, face_over, MarksFollow}
 use Rattle.depth_raster.specs.declared.blocks.Block.{Block}
 use Rattle.depth_raster.specs.declared.marks.Mark.{Mark}
 use Rattle.depth_raster.specs.declared.pieces.Piece.{Piece}
@@ -26,7 +26,7 @@ marked_as : (f g : ℕ → ℕ → Mark → Mark) → ((px py : ℕ) (m : Mark) 
 marked_as f g same a b h = record {
   block = h.block;
   colours = h.colours;
-  marks = λ q r column row. h.marks q r column row ∙ same (a.block.left + q) (a.block.first + r) (mark_in a.block a.marks.items q r);
+  marks = λ q r column row. h.marks q r column row ∙ same (a.block.left + q) (a.block.first + r) (mark_in a.block (marks_of a) q r);
 }
 
 marked_then : (f g : ℕ → ℕ → Mark → Mark) (a b c : Tile) → MarksFollow f a b → MarksFollow g b c → MarksFollow (λ px py m. g px py (f px py m)) a c
@@ -34,9 +34,9 @@ marked_then f g a b c h k = record {
   block = k.block ∙ h.block;
   colours = k.colours ∙ h.colours;
   marks = λ q r column row.
-      ap (λ (d : Block). mark_in d c.marks.items q r) (sym h.block)
+      ap (λ (d : Block). mark_in d (marks_of c) q r) (sym h.block)
       ∙ k.marks q r (subst (λ (d : Block). q < d.width) (sym h.block) column) (subst (λ (d : Block). r < d.rows) (sym h.block) row)
-      ∙ ap (λ (d : Block). g (d.left + q) (d.first + r) (mark_in d b.marks.items q r)) h.block
+      ∙ ap (λ (d : Block). g (d.left + q) (d.first + r) (mark_in d (marks_of b) q r)) h.block
       ∙ ap (g (a.block.left + q) (a.block.first + r)) (h.marks q r column row);
 }
 
@@ -84,8 +84,8 @@ unmet_slot lens ps s p t is unmet = record {
   block = refl;
   colours = refl;
   marks = λ q r column row.
-      sym (mark_missed lens (t.block.left + q) (t.block.first + r) p.face (mark_in t.block t.marks.items q r) (unmet q r column row))
-      ∙ slot_is lens ps s p is (t.block.left + q) (t.block.first + r) (mark_in t.block t.marks.items q r);
+      sym (mark_missed lens (t.block.left + q) (t.block.first + r) p.face (mark_in t.block (marks_of t) q r) (unmet q r column row))
+      ∙ slot_is lens ps s p is (t.block.left + q) (t.block.first + r) (mark_in t.block (marks_of t) q r);
 }
 
 -- a slot whose rows are not those of the band

@@ -9,7 +9,7 @@ use Rattle.depth_raster.specs.Around.{IsUnhit}
 use Rattle.depth_raster.specs.Blocks.{IsBlockOf}
 use Rattle.depth_raster.specs.Pieces.{IsPieceOf}
 use Rattle.depth_raster.specs.Strips.{tile_block, AreTilesOf}
-use Rattle.depth_raster.specs.Tiles.{mark_in, face_over, MarksFollow}
+use Rattle.depth_raster.specs.Tiles.{marks_of, mark_in, face_over, MarksFollow}
 use Rattle.depth_raster.specs.declared.blocks.Block.{Block}
 use Rattle.depth_raster.specs.declared.faces.Face.{Face}
 use Rattle.depth_raster.specs.declared.marks.Mark.{Mark}
@@ -60,7 +60,7 @@ tiles_rest {X} P before after n so_far still j d in_list = ⊎_elim
     (cases_lt j n)
 
 -- ---- tiles that a face misses
-still_marked : (f : ℕ → ℕ → Mark → Mark) (t : Tile) → ((q r : ℕ) → q < t.block.width → r < t.block.rows → f (t.block.left + q) (t.block.first + r) (mark_in t.block t.marks.items q r) ≡ mark_in t.block t.marks.items q r) → MarksFollow f t t
+still_marked : (f : ℕ → ℕ → Mark → Mark) (t : Tile) → ((q r : ℕ) → q < t.block.width → r < t.block.rows → f (t.block.left + q) (t.block.first + r) (mark_in t.block (marks_of t) q r) ≡ mark_in t.block (marks_of t) q r) → MarksFollow f t t
 still_marked f t still = record { block = refl; colours = refl; marks = λ q r column row. sym (still q r column row) }
 
 -- no pixel of the tile is met
@@ -68,7 +68,7 @@ abbrev pub IsUnmet : Lens → Face → Tile → Type 0
 IsUnmet lens f t = (q r : ℕ) → q < t.block.width → r < t.block.rows → IsUnhit lens f.tri (t.block.left + q) (t.block.first + r)
 
 pub unmet_marked : (lens : Lens) (f : Face) (t : Tile) → IsUnmet lens f t → MarksFollow (face_over lens f) t t
-unmet_marked lens f t unmet = still_marked (face_over lens f) t (λ q r column row. mark_missed lens (t.block.left + q) (t.block.first + r) f (mark_in t.block t.marks.items q r) (unmet q r column row))
+unmet_marked lens f t unmet = still_marked (face_over lens f) t (λ q r column row. mark_missed lens (t.block.left + q) (t.block.first + r) f (mark_in t.block (marks_of t) q r) (unmet q r column row))
 
 pub unmet_left : (lens : Lens) (p : Piece) (b : Block) (j : ℕ) (t : Tile) → IsPieceOf lens p → t.block ≡ tile_block b j → IsBlockOf lens t.block → j < p.extent.left / 16 → IsUnmet lens p.face t
 unmet_left lens p b j t ready is within l q r column row =

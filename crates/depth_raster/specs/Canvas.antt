@@ -10,7 +10,7 @@ use Rattle.depth_raster.specs.Faces.{over, glazed_by_face}
 use Rattle.depth_raster.specs.Following.{Follows}
 use Rattle.depth_raster.specs.Marks.{no_mark, behind_as}
 use Rattle.depth_raster.specs.Pieces.{fragments_by, pieces_glaze}
-use Rattle.depth_raster.specs.Tiles.{mark_in, seen_in}
+use Rattle.depth_raster.specs.Tiles.{marks_of, mark_in, seen_in}
 use Rattle.depth_raster.specs.declared.faces.Face.{Face}
 use Rattle.depth_raster.specs.declared.marks.Mark.{Mark}
 use Rattle.depth_raster.specs.declared.pieces.Piece.{Piece}
@@ -31,7 +31,7 @@ seen_from first strips px py = if first then None else seen_at strips px py
 
 -- its mark
 unfoldable pub mark_at : List Strip → (px py : ℕ) → Mark
-mark_at strips px py = option_map_or (λ t. mark_in t.block t.marks.items (px % 16) (py % 16)) (tile_at strips px py) no_mark
+mark_at strips px py = option_map_or (λ t. mark_in t.block (marks_of t) (px % 16) (py % 16)) (tile_at strips px py) no_mark
 
 -- its colour
 unfoldable pub colour_at : List Strip → (px py : ℕ) → List ℕ

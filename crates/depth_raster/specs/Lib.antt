@@ -4,6 +4,7 @@ pub mod Around
 pub mod Later
 pub mod Looks
 pub mod Edges
+pub mod Covers
 pub mod Weighed
 pub mod Small
 pub mod Narrow
@@ -18,6 +19,7 @@ pub mod Following
 pub mod Drawing
 pub mod Panes
 pub mod Pieces
+pub mod Owed
 pub mod Tiles
 pub mod Slots
 pub mod Shares

@@ -10,11 +10,16 @@ use Rattle.depth_raster.specs.Faces.{glazed_by_face}
 use Rattle.depth_raster.specs.Pieces.{fragments_by, pieces_glaze, IsColoured, kept_colour, settled}
 use Rattle.depth_raster.specs.Marks.{nothing, no_mark, mark_over, seen_as, behind_as}
 use Rattle.depth_raster.specs.Following.{Follows, Relates}
+use Rattle.depth_raster.specs.Owed.{marks_with}
 use Rattle.depth_raster.specs.declared.blocks.Block.{Block}
 use Rattle.depth_raster.specs.declared.faces.Face.{Face}
 use Rattle.depth_raster.specs.declared.marks.Mark.{Mark}
 use Rattle.depth_raster.specs.declared.pieces.Piece.{Piece}
 use Rattle.depth_raster.specs.declared.tile.Tile.{Tile}
+
+-- the marks of a tile: those written, or those that are owed
+abbrev pub marks_of : Tile → List Mark
+marks_of t = marks_with t.block t.marks.items t.owed
 
 -- the mark at a pixel of a block
 abbrev pub mark_in : Block → List Mark → (q r : ℕ) → Mark
@@ -49,15 +54,15 @@ IsNoNearer lens f b depth = (q r : ℕ) (h : Hit) → q < b.width → r < b.rows
 -- the tile's marks and colours stay
 pub record IsKept (before after : Tile) : Type 0 where
   pub block : after.block ≡ before.block
-  pub marks : after.marks.items ≡ before.marks.items
+  pub marks : marks_of after ≡ marks_of before
   pub colours : after.colours.items ≡ before.colours.items
 
 -- the mark at each pixel is what f makes of the mark before; the colours stay
 pub record MarksFollow (f : ℕ → ℕ → Mark → Mark) (before after : Tile) : Type 0 where
   pub block : after.block ≡ before.block
   pub colours : after.colours.items ≡ before.colours.items
-  pub marks : Follows before.block.width before.block.rows (mark_in before.block before.marks.items)
-      (mark_in before.block after.marks.items) (within before.block f)
+  pub marks : Follows before.block.width before.block.rows (mark_in before.block (marks_of before))
+      (mark_in before.block (marks_of after)) (within before.block f)
 
 -- what a piece of glass makes of colours, over marks
 abbrev pub face_glazes : Lens → Face → (px py : ℕ) → Mark → List ℕ → List ℕ
@@ -66,19 +71,19 @@ face_glazes lens f px py m under = glazed_by_face lens px py f (behind_as m) und
 -- the colour at each pixel is what f makes of the mark and the colour before; the marks stay
 pub record ColoursFollow (f : ℕ → ℕ → Mark → List ℕ → List ℕ) (before after : Tile) : Type 0 where
   pub block : after.block ≡ before.block
-  pub marks : after.marks.items ≡ before.marks.items
+  pub marks : marks_of after ≡ marks_of before
   pub colours : Follows before.block.width before.block.rows (colour_in before.block before.colours.items)
-      (colour_in before.block after.colours.items) (glass_within before.block before.marks.items f)
+      (colour_in before.block after.colours.items) (glass_within before.block (marks_of before) f)
 
 -- nothing is drawn in the tile
 pub record IsCleared (before after : Tile) : Type 0 where
   pub block : after.block ≡ before.block
-  pub marks : (q r : ℕ) → q < before.block.width → r < before.block.rows → mark_in before.block after.marks.items q r ≡ nothing
+  pub marks : (q r : ℕ) → q < before.block.width → r < before.block.rows → mark_in before.block (marks_of after) q r ≡ nothing
 
 -- the tile has one colour; the marks stay
 pub record IsFilled (colour : List ℕ) (before after : Tile) : Type 0 where
   pub block : after.block ≡ before.block
-  pub marks : after.marks.items ≡ before.marks.items
+  pub marks : marks_of after ≡ marks_of before
   pub colours : (q r : ℕ) → q < before.block.width → r < before.block.rows → colour_in before.block after.colours.items q r ≡ colour
 
 -- the colours before and after pieces are drawn, at a pixel of a block
@@ -96,13 +101,13 @@ hit_within lens p b q r before after = IfSome (hit lens (b.left + q) (b.first + 
 -- the colours after pieces are drawn; the marks stay
 pub record IsPainted (lens : Lens) (back : List ℕ) (ps : List Piece) (before after : Tile) : Type 0 where
   pub block : after.block ≡ before.block
-  pub marks : after.marks.items ≡ before.marks.items
+  pub marks : marks_of after ≡ marks_of before
   pub colours : Relates before.block (colour_in before.block before.colours.items) (colour_in before.block after.colours.items)
-      (painted_within lens back ps before.block before.marks.items)
+      (painted_within lens back ps before.block (marks_of before))
 
 -- what is seen at a pixel of a tile
 abbrev pub seen_in : Tile → (q r : ℕ) → Option Fragment
-seen_in t q r = seen_as (mark_in t.block t.marks.items q r) (colour_in t.block t.colours.items q r)
+seen_in t q r = seen_as (mark_in t.block (marks_of t) q r) (colour_in t.block t.colours.items q r)
 
 -- the tile has a pixel in column q of row r
 pub record IsAt (t : Tile) (q r : ℕ) : Type 0 where
@@ -112,17 +117,17 @@ pub record IsAt (t : Tile) (q r : ℕ) : Type 0 where
 -- Pieces are drawn over a tile whose marks have no rank; where nothing is seen then, the colour is the background's.
 pub record IsDrawn (lens : Lens) (back : List ℕ) (ps : List Piece) (before after : Tile) : Type 0 where
   pub block : after.block ≡ before.block
-  pub seen : (q r : ℕ) → IsAt before q r → (mark_in before.block before.marks.items q r).rank ≡ 0
+  pub seen : (q r : ℕ) → IsAt before q r → (mark_in before.block (marks_of before) q r).rank ≡ 0
       → seen_in after q r ≡ fold nearer (seen_in before q r) (fragments_by lens (before.block.left + q) (before.block.first + r) ps)
-  pub blank : (q r : ℕ) → IsAt before q r → (mark_in before.block before.marks.items q r).rank ≡ 0 → seen_in after q r ≡ None
+  pub blank : (q r : ℕ) → IsAt before q r → (mark_in before.block (marks_of before) q r).rank ≡ 0 → seen_in after q r ≡ None
       → colour_in after.block after.colours.items q r ≡ back
 
 -- the marks have no rank any more; all else stays
 pub record IsSettled (before after : Tile) : Type 0 where
   pub block : after.block ≡ before.block
   pub colours : after.colours.items ≡ before.colours.items
-  pub marks : Follows before.block.width before.block.rows (mark_in before.block before.marks.items)
-      (mark_in before.block after.marks.items) (λ q r m. settled m)
+  pub marks : Follows before.block.width before.block.rows (mark_in before.block (marks_of before))
+      (mark_in before.block (marks_of after)) (λ q r m. settled m)
 
 -- a tile as its drawing starts: before the first one it is cleared, before a later one its marks lose their ranks
 pub record IsBegun (first : Bool) (before after : Tile) : Type 0 where

@@ -133,6 +133,6 @@ pub(crate) fn flush<R: Threads + Sync>(rt: &R, strips: &mut [Strip], batch: &mut
         return;
     }
     batch.make_ready(rt, lens);
-    glaze_strips(rt, work_of(&batch.pieces), lens, &batch.pieces, strips);
+    glaze_strips(rt, work_of(rt, &batch.pieces), lens, &batch.pieces, strips);
     batch.clear();
 }

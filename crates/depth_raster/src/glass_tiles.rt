@@ -10,6 +10,7 @@ use crate::edges::{steps_of, values_at};
 use crate::hiding::is_hidden;
 use crate::marks::Mark;
 use crate::means::Means;
+use crate::owed::pay;
 use crate::pieces::Piece;
 use crate::pixels::{glazed, limit};
 use crate::tile::Tile;
@@ -39,6 +40,7 @@ fn glaze_face(tile: &mut Tile, lens: &Lens, piece: &Piece, face: &Face)
     if is_hidden(face, &block, limit(tile.top, piece.face.shift)) {
         return;
     }
+    pay(tile);
     tile.plain = None;
     glaze_colours(&mut tile.colours, &tile.marks, &block, lens, piece, face);
 }

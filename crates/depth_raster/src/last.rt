@@ -2,17 +2,18 @@
 ghost use Rattle.std.specs.Prelude.{◌≡◌, false, IsTrue};
 ghost use Rattle.depth_raster.specs.Later.{mark_at, ComesLast};
 ghost use Rattle.depth_raster.specs.Marks.{goes_before};
-ghost use Rattle.depth_raster.specs.Tiles.{IsKept};
+ghost use Rattle.depth_raster.specs.Tiles.{marks_of, IsKept};
 
 use crate::faces::Face;
 use crate::marks::Mark;
+use crate::owed::pay;
 use crate::tile::Tile;
 
 /// Whether the mark that a face has at the greatest depth of a tile comes before none of the tile's marks. The last of these is
 /// looked for at most once between two drawings over the tile, and only where it is asked for.
 pub(crate) fn is_after(tile: &mut Tile, face: &Face) -> bool
     ensures kept { IsKept tile.old tile.new }
-    ensures after { IsTrue result → ComesLast (mark_at face.now tile.old.top) tile.old.marks.items }
+    ensures after { IsTrue result → ComesLast (mark_at face.now tile.old.top) (marks_of tile.old) }
 {
     let mark = face.mark_at(tile.top);
     match tile.last {
@@ -24,8 +25,9 @@ pub(crate) fn is_after(tile: &mut Tile, face: &Face) -> bool
 /// Whether a mark comes before none of a tile's marks, the last of which is not known yet.
 fn is_after_all(tile: &mut Tile, mark: &Mark) -> bool
     ensures kept { IsKept tile.old tile.new }
-    ensures after { IsTrue result → ComesLast mark.now tile.old.marks.items }
+    ensures after { IsTrue result → ComesLast mark.now (marks_of tile.old) }
 {
+    pay(tile);
     if is_before_any(mark, &tile.marks) {
         return false;
     }

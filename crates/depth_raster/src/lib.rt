@@ -4,6 +4,8 @@
 mod across;
 mod batch;
 mod blocks;
+mod covered;
+mod covers;
 mod edges;
 mod extents;
 mod faces;
@@ -18,6 +20,7 @@ mod looks;
 mod marks;
 mod means;
 mod opaque;
+mod owed;
 mod painting;
 mod panes;
 mod piece_raster;

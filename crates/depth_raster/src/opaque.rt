@@ -169,7 +169,7 @@ pub(crate) fn flush<R: Threads + Sync>(
     batch.order();
     draw_strips(
         rt,
-        work_of(&batch.pieces),
+        work_of(rt, &batch.pieces),
         is_first,
         lens,
         back,

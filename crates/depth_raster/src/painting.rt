@@ -12,8 +12,10 @@ ghost use Rattle.depth_raster.specs.Small.{IsSmallFace};
 ghost use Rattle.depth_raster.specs.Tiles.{mark_in, painted_within, kept_within, hit_within, HaveRank, IsCleared, IsSettled, IsFilled, IsPainted};
 
 use crate::blocks::Block;
+use crate::covered::paint_covered;
 use crate::marks::{Mark, NOTHING};
 use crate::means::Means;
+use crate::owed::pay;
 use crate::pieces::Piece;
 use crate::runs::Run;
 use crate::spans::span_at;
@@ -22,14 +24,17 @@ use fx_math::Lens;
 use span_shading::{Shade, Span};
 use tri_cover::Face;
 
-/// Clears the marks of a tile, unless they are those of a blank one.
+/// Clears the marks of a tile, unless they are those of a blank one. What is owed is owed no more.
 pub(crate) fn clear(tile: &mut Tile)
     ensures { IsCleared tile.old tile.new }
 {
     if tile.blank {
         return;
     }
-    tile.marks.fill(Mark::nothing());
+    match tile.owed {
+        Some(_) => tile.owed = None,
+        None => tile.marks.fill(Mark::nothing()),
+    }
     tile.blank = true;
     tile.top = NOTHING;
     tile.last = None;
@@ -79,7 +84,18 @@ fn paint_marked(tile: &mut Tile, lens: &Lens, back: [u8; 3], pieces: &[Piece])
 {
     let block = tile.block;
     tile.plain = None;
-    paint_rows(&mut tile.colours, &tile.marks, &block, lens, back, pieces);
+    match tile.owed {
+        Some(owed) => {
+            paint_covered(
+                &mut tile.colours,
+                &block,
+                lens,
+                pieces,
+                owed.piece.face.rank,
+            );
+        }
+        None => paint_rows(&mut tile.colours, &tile.marks, &block, lens, back, pieces),
+    }
 }
 
 /// Takes the ranks from the marks of a tile, before pieces of other ranks are drawn. A blank one has none.
@@ -97,6 +113,7 @@ fn settle_marked(tile: &mut Tile)
     requires marked { tile.old.blank ≡ false }
     ensures { IsSettled tile.old tile.new }
 {
+    pay(tile);
     let block = tile.block;
     settle(&mut tile.marks, &block);
     tile.last = None;
@@ -216,7 +233,13 @@ fn paint_back(colours: &mut [[u8; 3]], place: usize, mark: &Mark, back: [u8; 3])
 }
 
 /// Paints a run of pixels at which a piece is nearest.
-fn paint_piece(colours: &mut [[u8; 3]], block: &Block, lens: &Lens, piece: &Piece, run: &Run)
+pub(crate) fn paint_piece(
+    colours: &mut [[u8; 3]],
+    block: &Block,
+    lens: &Lens,
+    piece: &Piece,
+    run: &Run,
+)
     requires colours { length colours.old ≡ size_of block.now }
     requires block { IsBlockOf lens.now block.now }
     requires ready { IsPieceOf lens.now piece.now }

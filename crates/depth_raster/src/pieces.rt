@@ -7,15 +7,12 @@ ghost use Rattle.depth_raster.specs.Pieces.{IsMadeReady, AreMadeReady};
 use crate::extents::Extent;
 use crate::faces::Face;
 use crate::small::is_small;
-use crate::work::are_many;
+use crate::work::{are_many, processors};
 use edge_values::about;
 use fx_math::Lens;
 use pf_model::Tri;
 use std::thread::{Threads, for_each_mut};
 use tri_cover::face_of;
-
-/// In how many threads many faces are made ready.
-const MAKERS: usize = 4;
 
 /// A labelled face, and of its triangle what is reckoned once it is made ready: the face by which it is looked at, where it can be
 /// hit at all, whether its edge values are small, a float that is about the dividend of its depths, from which they are guessed,
@@ -68,7 +65,7 @@ fn about_dividend(ready: &Option<tri_cover::Face>) -> f64 {
     }
 }
 
-/// Makes pieces ready for a lens: many of them in some threads.
+/// Makes pieces ready for a lens: many of them in some threads, where there are processors for them.
 pub(crate) fn make_ready<R: Threads + Sync>(rt: &R, pieces: &mut [Piece], lens: &Lens)
     ensures { AreMadeReady lens.now pieces.old pieces.new }
 {
@@ -79,14 +76,14 @@ pub(crate) fn make_ready<R: Threads + Sync>(rt: &R, pieces: &mut [Piece], lens: 
     }
 }
 
-/// Makes pieces ready for a lens in some threads.
+/// Makes pieces ready for a lens, in a thread for each processor.
 fn make_ready_beside<R: Threads + Sync>(rt: &R, pieces: &mut [Piece], lens: &Lens)
     ensures { AreMadeReady lens.now pieces.old pieces.new }
 {
     for_each_mut(
         rt,
         pieces,
-        MAKERS,
+        processors(rt),
         &|_i: usize, piece: &mut Piece|
             ensures { IsMadeReady lens.entry.now piece.entry.now piece.exit.now }
         { piece.make_ready(lens) },

@@ -1,5 +1,5 @@
 //! Faces over the marks of a tile.
-ghost use Rattle.std.specs.Prelude.{◌≡◌, ℕ, ◌+◌, ◌-◌, ◌<◌, ◌≤◌, true, All, IfSome, length, min, slice_set, slice_index_or};
+ghost use Rattle.std.specs.Prelude.{◌≡◌, ℕ, ◌+◌, ◌-◌, ◌<◌, ◌≤◌, true, None, All, IfSome, length, min, slice_set, slice_index_or};
 ghost use Rattle.fx_math.specs.Limits.{size_limit};
 ghost use Rattle.fx_math.specs.declared.lenses.Lens.{Lens};
 ghost use Rattle.edge_values.specs.Weights.{IsSmallWeight};
@@ -19,10 +19,12 @@ ghost use Rattle.depth_raster.specs.declared.pieces.Piece.{Piece};
 ghost use Rattle.tri_cover.specs.declared.face.Face as faces;
 
 use crate::blocks::Block;
+use crate::covers::covering_top;
 use crate::edges::{small_line, steps_of, values_at};
 use crate::hiding::{is_beyond, is_hidden};
 use crate::last::is_after;
 use crate::marks::Mark;
+use crate::owed::{Owed, owe, pay};
 use crate::pieces::Piece;
 use crate::pixels::{limit, nearer};
 use crate::runs::Run;
@@ -86,6 +88,39 @@ fn draw_over(tile: &mut Tile, lens: &Lens, piece: &Piece, face: &Face)
     requires face { HasFace piece.now face.now }
     ensures { MarksFollow (face_over lens.now piece.now.face) tile.old tile.new }
 {
+    if tile.blank {
+        if let Some(top) = covering_top(piece, face, &tile.block) {
+            let owed = Owed {
+                lens: *lens,
+                piece: *piece,
+                top,
+            };
+            owe(tile, &owed);
+            return;
+        }
+    }
+    draw_written(tile, lens, piece, face);
+}
+
+/// Draws the piece of a face over the written marks of a tile.
+fn draw_written(tile: &mut Tile, lens: &Lens, piece: &Piece, face: &Face)
+    requires block { IsBlockOf lens.now tile.old.block }
+    requires ready { IsPieceOf lens.now piece.now }
+    requires face { HasFace piece.now face.now }
+    ensures { MarksFollow (face_over lens.now piece.now.face) tile.old tile.new }
+{
+    pay(tile);
+    draw_paid(tile, lens, piece, face);
+}
+
+/// The same where none is owed.
+fn draw_paid(tile: &mut Tile, lens: &Lens, piece: &Piece, face: &Face)
+    requires paid { tile.old.owed ≡ None }
+    requires block { IsBlockOf lens.now tile.old.block }
+    requires ready { IsPieceOf lens.now piece.now }
+    requires face { HasFace piece.now face.now }
+    ensures { MarksFollow (face_over lens.now piece.now.face) tile.old tile.new }
+{
     let block = tile.block;
     tile.blank = false;
     tile.last = None;
@@ -133,7 +168,7 @@ fn greater(a: u32, b: u32) -> u32
 }
 
 /// Draws the piece of a face over the marks of a block.
-fn draw_marks(marks: &mut [Mark], block: &Block, lens: &Lens, piece: &Piece, face: &Face)
+pub(crate) fn draw_marks(marks: &mut [Mark], block: &Block, lens: &Lens, piece: &Piece, face: &Face)
     requires len { length marks.old ≡ size_of block.now }
     requires block { IsBlockOf lens.now block.now }
     requires ready { IsPieceOf lens.now piece.now }
@@ -150,7 +185,7 @@ fn draw_marks(marks: &mut [Mark], block: &Block, lens: &Lens, piece: &Piece, fac
     let stamp = Stamp::of(piece, face);
     for r in block.rows_from(extent.top)..block.rows_to(extent.bottom) {
         let run = Run { r, start, end };
-        draw_row(marks, block, lens, piece, face, stamp, &run);
+        draw_row(marks, block, lens, piece, face, &stamp, &run);
     }
 }
 
@@ -161,14 +196,14 @@ fn draw_row(
     lens: &Lens,
     piece: &Piece,
     face: &Face,
-    stamp: Stamp,
+    stamp: &Stamp,
     run: &Run,
 )
     requires len { length marks.old ≡ size_of block.now }
     requires block { IsBlockOf lens.now block.now }
     requires ready { IsPieceOf lens.now piece.now }
     requires face { HasFace piece.now face.now }
-    requires stamp { IsStampOf piece.now face.now stamp }
+    requires stamp { IsStampOf piece.now face.now stamp.now }
     requires run { IsRunOf block.now run.now }
     requires start { run.now.start ≡ piece.now.extent.left - block.now.left }
     requires end { run.now.end ≡ min block.now.width (piece.now.extent.right - block.now.left) }
@@ -228,7 +263,7 @@ fn draw_narrow(
     lens: &Lens,
     piece: &Piece,
     face: &Face,
-    stamp: Stamp,
+    stamp: &Stamp,
     line: &NarrowLine,
     run: &Run,
 )
@@ -236,7 +271,7 @@ fn draw_narrow(
     requires block { IsBlockOf lens.now block.now }
     requires ready { IsPieceOf lens.now piece.now }
     requires face { HasFace piece.now face.now }
-    requires stamp { IsStampOf piece.now face.now stamp }
+    requires stamp { IsStampOf piece.now face.now stamp.now }
     requires line { IsLineAt face.now (block.now.left + run.now.start) (block.now.left + (run.now.end - 1))
         (block.now.first + run.now.r) line.now }
     requires run { IsRunOf block.now run.now }
@@ -261,7 +296,7 @@ fn draw_inside(
     lens: &Lens,
     piece: &Piece,
     face: &Face,
-    stamp: Stamp,
+    stamp: &Stamp,
     line: &NarrowLine,
     run: &Run,
 )
@@ -269,7 +304,7 @@ fn draw_inside(
     requires block { IsBlockOf lens.now block.now }
     requires ready { IsPieceOf lens.now piece.now }
     requires face { HasFace piece.now face.now }
-    requires stamp { IsStampOf piece.now face.now stamp }
+    requires stamp { IsStampOf piece.now face.now stamp.now }
     requires line { IsLineAt face.now (block.now.left + run.now.start) (block.now.left + (run.now.end - 1))
         (block.now.first + run.now.r) line.now }
     requires inner { AreInnerTo face.now (block.now.left + run.now.start) (block.now.left + (run.now.end - 1))
@@ -296,7 +331,7 @@ fn draw_partly(
     lens: &Lens,
     piece: &Piece,
     face: &Face,
-    stamp: Stamp,
+    stamp: &Stamp,
     line: &NarrowLine,
     run: &Run,
 )
@@ -304,7 +339,7 @@ fn draw_partly(
     requires block { IsBlockOf lens.now block.now }
     requires ready { IsPieceOf lens.now piece.now }
     requires face { HasFace piece.now face.now }
-    requires stamp { IsStampOf piece.now face.now stamp }
+    requires stamp { IsStampOf piece.now face.now stamp.now }
     requires line { IsLineAt face.now (block.now.left + run.now.start) (block.now.left + (run.now.end - 1))
         (block.now.first + run.now.r) line.now }
     requires run { IsRunOf block.now run.now }
@@ -362,9 +397,9 @@ fn draw_pixel(marks: &mut [Mark], place: usize, piece: &Piece, face: &Face, weig
 /// Draws a piece by its stamp over the mark at a place, where the face has these edge values. A float that is about their sum makes
 /// it cheap.
 #[inline(always)]
-fn draw_values(marks: &mut [Mark], place: usize, stamp: Stamp, values: &NarrowValues, about: f64)
+fn draw_values(marks: &mut [Mark], place: usize, stamp: &Stamp, values: &NarrowValues, about: f64)
     requires place { place < length marks.old }
-    ensures { (p : Piece) (f : faces.Face) (lens : Lens) (px py : ℕ) → IsStampOf p f stamp → HasFace p f
+    ensures { (p : Piece) (f : faces.Face) (lens : Lens) (px py : ℕ) → IsStampOf p f stamp.now → HasFace p f
         → px < lens.w → py < lens.h → IsPieceOf lens p → IsWithin p.extent px py → AreNarrowAt f px py values.now
         → marks.new ≡ slice_set marks.old place (mark_over lens px py p.face (slice_index_or marks.old place no_mark)) }
 {

@@ -2,6 +2,7 @@ use Rattle.std.proofs.Common.{sym, subst}
 use Rattle.depth_raster.specs.Blocks.{IsBlockOf}
 use Rattle.depth_raster.specs.Tiles.{face_over}
 use Rattle.depth_raster.specs.declared.blocks.Block.{Block}
+use Rattle.depth_raster.proofs.Owing.{marks_long}
 use Rattle.depth_raster.proofs.Later.{last_marked, kept_marked}
 use Rattle.depth_raster.proofs.across.draw_at_top.Goals as goal
 
@@ -9,7 +10,7 @@ pub returns-then-is_after : goal.returns-then-is_after
 returns-then-is_after c =
     let a = c.args in
     let t = a.tile.now in
-    last_marked a.lens.now a.piece.now.face t c.is_after.new.tile c.is_after.ensures.kept t.marks_whole (c.is_after.ensures.after c.if-is_after.true) c.requires.depth
+    last_marked a.lens.now a.piece.now.face t c.is_after.new.tile c.is_after.ensures.kept (marks_long t) (c.is_after.ensures.after c.if-is_after.true) c.requires.depth
 
 pub draw_piece-requires-clause-block : goal.draw_piece-requires-clause-block
 draw_piece-requires-clause-block c = subst (λ (b : Block). IsBlockOf c.args.lens.now b) (sym c.is_after.ensures.kept.block) c.requires.block

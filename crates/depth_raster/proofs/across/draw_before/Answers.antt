@@ -1,4 +1,5 @@
 use Rattle.std.proofs.Common.{arith}
+use Rattle.depth_raster.proofs.Owing.{marks_long}
 use Rattle.depth_raster.proofs.Foremost.{least_behind}
 use Rattle.depth_raster.proofs.Later.{least_from}
 use Rattle.depth_raster.proofs.Readied.{behind_marked}
@@ -13,5 +14,5 @@ pub returns-else-least-tile-2 : goal.returns-else-least-tile-2
 returns-else-least-tile-2 c =
     let a = c.args in
     let t = a.tile.now in
-    behind_marked a.lens.now a.piece.now.face t t.topped t.marks_whole
+    behind_marked a.lens.now a.piece.now.face t t.topped (marks_long t)
     (least_behind a.lens.now a.piece.now.face t.block a.least t.top c.requires.least c.requires.block (omega (arith, c.if-least-tile.false, c.if-least-tile-2.false)))

@@ -9,18 +9,18 @@ use Rattle.depth_raster.proofs.stamps.Stamp.draw.Goals as goal
 pub returns-then-are_seen_at : goal.returns-then-are_seen_at
 returns-then-are_seen_at c = λ p f lens px py is face column row ready inside sum.
     let a = c.args in
-    let t = a.self.depths in
+    let t = a.self.now.depths in
     let depth = c.in-Some.depth in
     let boxed = face_boxed lens p f ready face px py inside in
     let right = subst (λ (o : Option ℕ). IfSome o (λ d. (0 < a.sum) × (d ≡ t.dividend / a.sum) × (d < 2 ^ 32))) c.in-Some.is c.guessed.ensures in
     let seen = c.are_seen_at.ensures.0 c.if-are_seen_at.true in
     let found = seen_inside f px py a.sum t (Some depth) sum boxed is.depths (right.0, right.1, seen.0, seen.1) tt in
-    c.draw_hit.ensures ∙ hit_stamped p f a.self lens px py depth a.marks.now a.place is face column row ready found
+    c.draw_hit.ensures ∙ hit_stamped p f a.self.now lens px py depth a.marks.now a.place is face column row ready found
 
 pub returns-else-are_seen_at : goal.returns-else-are_seen_at
 returns-else-are_seen_at c = λ p f lens px py is face column row ready inside sum.
     let a = c.args in
-    let t = a.self.depths in
+    let t = a.self.now.depths in
     let depth = c.in-Some.depth in
     let boxed = face_boxed lens p f ready face px py inside in
     let right = subst (λ (o : Option ℕ). IfSome o (λ d. (0 < a.sum) × (d ≡ t.dividend / a.sum) × (d < 2 ^ 32))) c.in-Some.is c.guessed.ensures in

@@ -9,14 +9,14 @@ pub returns-in-Some : goal.returns-in-Some
 returns-in-Some c = λ p f lens px py is face column row ready inside sum.
     let a = c.args in
     let boxed = face_boxed lens p f ready face px py inside in
-    let depth = seen_inside f px py a.sum a.self.depths c.divided.result sum boxed is.depths c.divided.ensures.some c.divided.ensures.none in
+    let depth = seen_inside f px py a.sum a.self.now.depths c.divided.result sum boxed is.depths c.divided.ensures.some c.divided.ensures.none in
     let found = subst (λ (o : Option ℕ). IsDepthAt f px py o) c.in-Some.is depth in
-    c.draw_hit.ensures ∙ hit_stamped p f a.self lens px py c.in-Some.depth a.marks.now a.place is face column row ready found
+    c.draw_hit.ensures ∙ hit_stamped p f a.self.now lens px py c.in-Some.depth a.marks.now a.place is face column row ready found
 
 pub returns-in_default : goal.returns-in_default
 returns-in_default c = λ p f lens px py is face column row ready inside sum.
     let a = c.args in
     let boxed = face_boxed lens p f ready face px py inside in
-    let depth = seen_inside f px py a.sum a.self.depths c.divided.result sum boxed is.depths c.divided.ensures.some c.divided.ensures.none in
+    let depth = seen_inside f px py a.sum a.self.now.depths c.divided.result sum boxed is.depths c.divided.ensures.some c.divided.ensures.none in
     let found = subst (λ (o : Option ℕ). IsDepthAt f px py o) c.in_default.is depth in
     unhit_stamped p f lens px py a.marks.now a.place face column row ready found

@@ -3,9 +3,10 @@ use Rattle.std.specs.List.{All}
 use Rattle.depth_raster.specs.Following.{Follows}
 use Rattle.depth_raster.specs.Tiles.{mark_in, within, face_over}
 use Rattle.depth_raster.specs.declared.marks.Mark.{Mark}
+use Rattle.depth_raster.proofs.Owing.{paid_topped}
 use Rattle.depth_raster.proofs.Shared.{written}
 use Rattle.depth_raster.proofs.Topped.{topped_after}
-use Rattle.depth_raster.proofs.tiles.draw_over.Goals as goal
+use Rattle.depth_raster.proofs.tiles.draw_paid.Goals as goal
 
 pub greatest_within-tile-requires-clause-len : goal.greatest_within-tile-requires-clause-len
 greatest_within-tile-requires-clause-len c =
@@ -28,4 +29,4 @@ greatest_within-tile-requires-clause-most c =
     let drawn : Follows b.width b.rows (mark_in b t.marks.items) (mark_in b new) (within b (face_over c.args.lens.now f)) =
     subst (λ (ms : List Mark). Follows b.width b.rows (mark_in b ms) (mark_in b new) (within b (face_over c.args.lens.now f))) old c.draw_marks.ensures in
     subst (λ (ms : List Mark). All (λ m. m.depth ≤ t.top) ms) (sym value)
-    (topped_after c.args.lens.now f b t.marks.items new t.top t.marks_whole (omega (arith, long, t.marks_whole)) t.topped drawn)
+    (topped_after c.args.lens.now f b t.marks.items new t.top t.marks_whole (omega (arith, long, t.marks_whole)) (paid_topped t c.requires.paid) drawn)
