@@ -14,7 +14,7 @@ use Rattle.tri_cover.proofs.EdgeLines.{total_value}
 use Rattle.edge_values.specs.declared.values.EdgeValues.{EdgeValues}
 use Rattle.depth_raster.proofs.Stepped.{value_after, value_within}
 
-stepped : (g : Linear) (px py : ℕ) (e d : ℤ) → e ≡ value_at g px py → d ≡ step_of g → e +ℤ d ≡ value_at g (px + 1) py
+pub stepped : (g : Linear) (px py : ℕ) (e d : ℤ) → e ≡ value_at g px py → d ≡ step_of g → e +ℤ d ≡ value_at g (px + 1) py
 stepped g px py e d is step = ap (λ (u : ℤ). u +ℤ d) is ∙ ap (λ (u : ℤ). value_at g px py +ℤ u) step ∙ sym (value_after g px py)
 
 pub values_next : (f : Face) (px py : ℕ) (e d t : EdgeValues) → AreValuesAt f px py e → AreSlopesOf f d → IsSumOf e d t → AreValuesAt f (px + 1) py t
@@ -24,7 +24,7 @@ values_next f px py e d t are steps is = record {
   third_is = is.third_is ∙ stepped f.edges.e2 px py e.third d.third are.third_is steps.third_is;
 }
 
-value_fits : (g : Linear) (px py : ℕ) (e d : ℤ) → e ≡ value_at g px py → d ≡ step_of g → px + 1 ≤ size_limit → py ≤ size_limit → IsWithin (2 ^ 82) (e +ℤ d)
+pub value_fits : (g : Linear) (px py : ℕ) (e d : ℤ) → e ≡ value_at g px py → d ≡ step_of g → px + 1 ≤ size_limit → py ≤ size_limit → IsWithin (2 ^ 82) (e +ℤ d)
 value_fits g px py e d is step column row = subst (λ (z : ℤ). IsWithin (2 ^ 82) z) (sym (stepped g px py e d is step)) (value_within g (px + 1) py column row)
 
 pub values_fit : (f : Face) (px py : ℕ) (e d : EdgeValues) → AreValuesAt f px py e → AreSlopesOf f d → px + 1 ≤ size_limit → py ≤ size_limit → DoFit e d

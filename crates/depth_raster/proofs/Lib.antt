@@ -1,6 +1,5 @@
 pub mod BlockHits
 pub mod Composing
-pub mod Copied
 pub mod Covering
 pub mod Deep
 pub mod Depths

@@ -8,11 +8,14 @@ use Rattle.tri_cover.specs.Linears.{value_at, step_of}
 use Rattle.tri_cover.specs.declared.face.Face.{Face}
 use Rattle.tri_cover.specs.declared.linear.Linear.{Linear}
 use Rattle.depth_raster.specs.Looks.{IsMissedTo}
-use Rattle.depth_raster.specs.Narrow.{IsLineAt}
+use Rattle.depth_raster.specs.Edges.{AreValuesAt}
+use Rattle.depth_raster.specs.Narrow.{AreNarrowAt, IsLineAt}
 use Rattle.depth_raster.specs.Weighed.{AreInnerAt, AreInnerTo}
 use Rattle.edge_values.specs.Narrow.{IsInside, IsOutside}
-use Rattle.edge_values.specs.Weights.{AreBelow}
+use Rattle.edge_values.specs.Weights.{AreBelow, AreInner}
 use Rattle.edge_values.specs.declared.narrow.NarrowLine.{NarrowLine}
+use Rattle.edge_values.specs.declared.narrow.NarrowValues.{NarrowValues}
+use Rattle.edge_values.specs.declared.values.EdgeValues.{EdgeValues}
 use Rattle.depth_raster.proofs.BlockHits.{slope_above, slope_below}
 use Rattle.depth_raster.proofs.Looking.{not_inner}
 
@@ -51,11 +54,29 @@ below g px end py x low high start last = by (int_le (pos 0) (step_of g)) refl
     by false e = at_most (value_at g x py) (value_at g px py) start (along g x px py (slope_below (step_of g) x px (falling (step_of g) e) low))
 
 -- ---- lines
+pub ends_inside : (f : Face) (px end py : ℕ) → AreInnerAt f px py → AreInnerAt f end py → AreInnerTo f px end py
+ends_inside f px end py start last x low high = record {
+  first_inner = not_below f.edges.e0 px end py x low high start.first_inner last.first_inner;
+  second_inner = not_below f.edges.e1 px end py x low high start.second_inner last.second_inner;
+  third_inner = not_below f.edges.e2 px end py x low high start.third_inner last.third_inner;
+}
+
+narrow_inner : (f : Face) (px py : ℕ) (v : NarrowValues) → AreNarrowAt f px py v → AreInner v.first v.second v.third → AreInnerAt f px py
+narrow_inner f px py v are is = record {
+  first_inner = subst (λ (z : ℤ). pos 0 ≤ℤ z) are.first_is is.first_inner;
+  second_inner = subst (λ (z : ℤ). pos 0 ≤ℤ z) are.second_is is.second_inner;
+  third_inner = subst (λ (z : ℤ). pos 0 ≤ℤ z) are.third_is is.third_inner;
+}
+
 pub line_inside : (f : Face) (px end py : ℕ) (l : NarrowLine) → IsInside l → IsLineAt f px end py l → AreInnerTo f px end py
-line_inside f px end py l is line x low high = record {
-  first_inner = not_below f.edges.e0 px end py x low high (subst (λ (z : ℤ). pos 0 ≤ℤ z) line.start.first_is is.start.first_inner) (subst (λ (z : ℤ). pos 0 ≤ℤ z) line.last.first_is is.last.first_inner);
-  second_inner = not_below f.edges.e1 px end py x low high (subst (λ (z : ℤ). pos 0 ≤ℤ z) line.start.second_is is.start.second_inner) (subst (λ (z : ℤ). pos 0 ≤ℤ z) line.last.second_is is.last.second_inner);
-  third_inner = not_below f.edges.e2 px end py x low high (subst (λ (z : ℤ). pos 0 ≤ℤ z) line.start.third_is is.start.third_inner) (subst (λ (z : ℤ). pos 0 ≤ℤ z) line.last.third_is is.last.third_inner);
+line_inside f px end py l is line = ends_inside f px end py (narrow_inner f px py l.start line.start is.start) (narrow_inner f end py l.last line.last is.last)
+
+-- the same in 128 bits
+pub values_inner : (f : Face) (px py : ℕ) (e : EdgeValues) → AreValuesAt f px py e → AreInner e.first e.second e.third → AreInnerAt f px py
+values_inner f px py e are is = record {
+  first_inner = subst (λ (z : ℤ). pos 0 ≤ℤ z) are.first_is is.first_inner;
+  second_inner = subst (λ (z : ℤ). pos 0 ≤ℤ z) are.second_is is.second_inner;
+  third_inner = subst (λ (z : ℤ). pos 0 ≤ℤ z) are.third_is is.third_inner;
 }
 
 -- a pixel at which an edge value is below 0

@@ -12,7 +12,7 @@ use Rattle.tri_cover.specs.declared.hit.Hit.{Hit}
 use Rattle.tri_cover.proofs.EdgeLines.{total_value}
 use Rattle.edge_values.specs.Seen.{IsSeenBefore}
 use Rattle.edge_values.specs.declared.depths.Depths.{Depths}
-use Rattle.depth_raster.specs.Looks.{AreDepthsOf, Looks, IsSeen, IsDepthAt}
+use Rattle.depth_raster.specs.Looks.{AreDepthsOf, IsSeen, IsDepthAt}
 use Rattle.depth_raster.specs.Weighed.{AreInnerAt, IsInnerSumAt}
 
 -- ---- the parts of a hit
@@ -102,21 +102,7 @@ hit_at f px py depth = record { depth = depth; colour = colour_at f px py }
 quotient_at : (f : Face) (px py s : ℕ) (t : Depths) → s ≡ weight_at f.edges.sum px py → AreDepthsOf f t → t.dividend / s ≡ depth_at f px py
 quotient_at f px py s t is are = ap (λ (n : ℕ). n / s) are.dividend_is ∙ ap (λ (n : ℕ). f.dividend / n) is
 
-pub looked : (f : Face) (px py limit s : ℕ) (t : Depths) (o : Option ℕ) → is_in_box f.extent px py ≡ true → is_covered f px py ≡ true → s ≡ weight_at f.edges.sum px py → AreDepthsOf f t
-    → IfSome o (λ d. (d ≡ t.dividend / s) × (t.near ≤ d) × (d ≤ t.far) × (d < limit))
-    → IfNone o (t.near ≤ t.dividend / s → t.dividend / s ≤ t.far → limit ≤ t.dividend / s) → Looks f px py limit o
-looked f px py limit s t None inside covered is are some none = λ h hits.
-    let parts = hit_parts f px py h hits in
-    let same = quotient_at f px py s t is are in
-    omega (arith, parts.depth, same, none (omega (arith, parts.near, same, are.near_is)) (omega (arith, parts.far, same, are.far_is)))
-looked f px py limit s t (Some d) inside covered is are some none =
-    let same : d ≡ depth_at f px py = some.0 ∙ quotient_at f px py s t is are in (
-      hit_seen f px py inside covered (omega (arith, some.1, same, are.near_is)) (omega (arith, some.2, same, are.far_is))
-          ∙ ap (λ (n : ℕ). Some (hit_at f px py n)) (sym same),
-      some.3,
-    )
-
--- the same, where the depth does not matter
+-- whether the face is hit before the limit
 pub seen : (f : Face) (px py limit s : ℕ) (t : Depths) (b : Bool) → is_in_box f.extent px py ≡ true → is_covered f px py ≡ true → s ≡ weight_at f.edges.sum px py → AreDepthsOf f t
     → (IsTrue b ↔ IsSeenBefore t limit s) → IsSeen f px py limit b
 seen f px py limit s t true inside covered is are before =

@@ -1,50 +1,20 @@
 -- Edge values in 64 bits along a row.
-use Rattle.std.proofs.Common.{◌≡◌, ℕ, ◌+◌, ◌*◌, ◌≤◌, ◌^◌, Option, Some, None, ap, sym, ◌∙◌, lit≤, subst, arith}
+use Rattle.std.proofs.Common.{◌≡◌, ℕ, ◌+◌, ◌*◌, ◌≤◌, ◌^◌, ap, sym, ◌∙◌, lit≤, subst, arith}
 use Rattle.std.specs.Prelude.{ℤ, pos, ◌+ℤ◌, ◌*ℤ◌}
-use Rattle.std.specs.Option.{IfSome}
 use Rattle.fx_math.specs.Limits.{size_limit}
 use Rattle.fx_math.specs.Within.{IsWithin}
 use Rattle.fx_math.proofs.Size.{within_add, within_mul, within_more}
 use Rattle.tri_cover.specs.Linears.{value_at, step_of}
 use Rattle.tri_cover.specs.declared.face.Face.{Face}
 use Rattle.tri_cover.specs.declared.linear.Linear.{Linear}
-use Rattle.depth_raster.specs.Edges.{AreValuesAt, AreSlopesOf}
 use Rattle.depth_raster.specs.Narrow.{AreNarrowAt, AreNarrowSlopes, IsLineAt}
-use Rattle.edge_values.specs.Narrow.{IsNarrowOf, IsLineOf, DoFit, IsSumOf}
-use Rattle.edge_values.specs.Small.{AreWithin}
-use Rattle.edge_values.specs.declared.values.EdgeValues.{EdgeValues}
+use Rattle.edge_values.specs.Narrow.{DoFit, IsSumOf}
 use Rattle.edge_values.specs.declared.narrow.NarrowLine.{NarrowLine}
 use Rattle.edge_values.specs.declared.narrow.NarrowValues.{NarrowValues}
 use Rattle.depth_raster.proofs.Stepped.{value_ahead, value_after}
 
 stepped : (g : Linear) (px py : ℕ) (e d : ℤ) → e ≡ value_at g px py → d ≡ step_of g → e +ℤ d ≡ value_at g (px + 1) py
 stepped g px py e d is step = ap (λ (u : ℤ). u +ℤ d) is ∙ ap (λ (u : ℤ). value_at g px py +ℤ u) step ∙ sym (value_after g px py)
-
--- the values are those of the face's, in fewer bits
-narrow_at : {most : ℕ} (f : Face) (px py : ℕ) (e : EdgeValues) (v : NarrowValues) → AreValuesAt f px py e → IsNarrowOf most e v → AreNarrowAt f px py v
-narrow_at f px py e v are is = record { first_is = is.first.0 ∙ are.first_is; second_is = is.second.0 ∙ are.second_is; third_is = is.third.0 ∙ are.third_is }
-
-narrow_within : {most : ℕ} (e : EdgeValues) (v : NarrowValues) → IsNarrowOf most e v → AreWithin most v.first v.second v.third
-narrow_within {most} e v is = record {
-  first_within = subst (λ (z : ℤ). IsWithin most z) (sym is.first.0) is.first.1;
-  second_within = subst (λ (z : ℤ). IsWithin most z) (sym is.second.0) is.second.1;
-  third_within = subst (λ (z : ℤ). IsWithin most z) (sym is.third.0) is.third.1;
-}
-
--- the line of a face's values and steps
-pub line_at : (f : Face) (px end py : ℕ) (e k d : EdgeValues) (o : Option NarrowLine) → AreValuesAt f px py e → AreValuesAt f end py k → AreSlopesOf f d → IfSome o (IsLineOf e k d) → IfSome o (IsLineAt f px end py)
-line_at f px end py e k d None are last steps is = tt
-line_at f px end py e k d (Some l) are last steps is = record {
-  start = narrow_at f px py e l.start are is.start;
-  last = narrow_at f end py k l.last last is.last_are;
-  steps = record {
-    first_is = is.steps_are.first.0 ∙ steps.first_is;
-    second_is = is.steps_are.second.0 ∙ steps.second_is;
-    third_is = is.steps_are.third.0 ∙ steps.third_is;
-  };
-  small = narrow_within e l.start is.start;
-  small_steps = narrow_within d l.steps is.steps_are;
-}
 
 -- a small value n pixels further on in the row
 value_stays_small : (g : Linear) (px py n : ℕ) (v s : ℤ) → n ≤ size_limit → v ≡ value_at g px py → s ≡ step_of g → IsWithin (3 * 2 ^ 50) v → IsWithin (2 ^ 40) s → IsWithin (2 ^ 52) (value_at g (px + n) py)

@@ -31,7 +31,7 @@ part_reached h n p count below = let bound : (h ≤ div_ceil h 16 * 16) × (div_
 pub band_within : (lens : Lens) (i : ℕ) → 16 * i < lens.h → IsBlockOf lens (band_at lens i)
 band_within lens i begins = record { columns = omega arith; rows = omega arith }
 
-band_begins : (h n i : ℕ) → n ≡ div_ceil h 16 → i < n → 16 * i < h
+pub band_begins : (h n i : ℕ) → n ≡ div_ceil h 16 → i < n → 16 * i < h
 band_begins h n i count below = let bound : (h ≤ div_ceil h 16 * 16) × (div_ceil h 16 * 16 < h + 16) = div_ceil_times h 16 (omega arith) in omega (arith, bound.1, count)
 
 -- sixteen rows from a multiple of sixteen on are among the same sixty-four

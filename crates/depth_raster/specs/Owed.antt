@@ -24,7 +24,7 @@ abbrev pub marks_with : Block → List Mark → Option Owed → List Mark
 marks_with b written None = written
 marks_with b written (Some o) = owed_marks o b
 
--- the mark has the rank, and lies before nothing
+-- the mark has the rank, and lies before the depth of a pixel at which nothing is drawn
 pub record IsShown (m : Mark) (rank : ℕ) : Type 0 where
   pub rank_is : m.rank ≡ rank
   pub before : m.depth < 2147483648

@@ -1,29 +1,29 @@
--- The colours of a strip's tiles, put together row after row.
-use Rattle.std.specs.Prelude.{◌≡◌, ℕ, ◌+◌, ◌<◌, ◌≤◌, ◌/◌, ◌%◌, List, [], slice_get, slice_index_or}
+-- The colours of tiles, put into an image.
+use Rattle.std.specs.Prelude.{◌≡◌, ℕ, ◌+◌, ◌-◌, ◌<◌, ◌≤◌, ◌/◌, List, [], slice_get}
 use Rattle.std.specs.Option.{option_map_or}
-use Rattle.depth_raster.specs.Blocks.{place_in, colour_in}
-use Rattle.depth_raster.specs.Following.{Relates}
+use Rattle.ppm_out.specs.Pixmap.{Pixmap, pixel}
+use Rattle.depth_raster.specs.Blocks.{colour_in}
 use Rattle.depth_raster.specs.declared.blocks.Block.{Block}
-use Rattle.depth_raster.specs.declared.strip.Strip.{Strip}
 use Rattle.depth_raster.specs.declared.tile.Tile.{Tile}
 
--- the colour of the tiles of a band in column q of row r
-abbrev pub tile_colour : List Tile → (q r : ℕ) → List ℕ
-tile_colour tiles q r = option_map_or (λ t. colour_in t.block t.colours.items (q % 16) r) (slice_get tiles (q / 16)) []
+-- the pixel lies in the block
+pub record IsIn (b : Block) (px py : ℕ) : Type 0 where
+  pub left : b.left ≤ px
+  pub right : px < b.left + b.width
+  pub top : b.first ≤ py
+  pub bottom : py < b.first + b.rows
 
--- the colour put there is that
-abbrev pub tile_coloured : List Tile → (q r : ℕ) → (before after : List ℕ) → Type 0
-tile_coloured tiles q r before after = after ≡ tile_colour tiles q r
+-- the pixels of the block have these colours, and nothing else is changed
+pub record SetsBlock (old new : Pixmap) (b : Block) (colour : ℕ → ℕ → List ℕ) : Type 0 where
+  pub width : new.width ≡ old.width
+  pub height : new.height ≡ old.height
+  pub coloured : (px py : ℕ) → IsIn b px py → pixel new px py ≡ colour px py
+  pub others : (px py : ℕ) → px < old.width → py < old.height → (IsIn b px py → ⊥) → pixel new px py ≡ pixel old px py
 
--- row r of a block's colours is put in its place among those of a band, and nothing else is changed
-pub record IsRowCopied (band b : Block) (colours : List (List ℕ)) (r : ℕ) (before after : List (List ℕ)) : Type 0 where
-  pub copied : (q : ℕ) → q < b.width → colour_in band after (b.left + q) r ≡ colour_in b colours q r
-  pub ahead : (i : ℕ) → i < place_in band b.left r → slice_index_or after i [] ≡ slice_index_or before i []
-  pub behind : (i : ℕ) → place_in band (b.left + b.width) r ≤ i → slice_index_or after i [] ≡ slice_index_or before i []
+-- the colour of a tile at a pixel of the picture
+abbrev pub colour_of : Tile → (px py : ℕ) → List ℕ
+colour_of t px py = colour_in t.block t.colours.items (px - t.block.left) (py - t.block.first)
 
--- the pixels of the strip are put together
-pub record IsAssembled (before after : Strip) : Type 0 where
-  pub band : after.band ≡ before.band
-  pub tiles : after.tiles.items ≡ before.tiles.items
-  pub pixels : Relates before.band (colour_in before.band before.pixels.items) (colour_in before.band after.pixels.items)
-      (tile_coloured before.tiles.items)
+-- the colour of the tiles of a band there
+abbrev pub tile_colour : List Tile → (px py : ℕ) → List ℕ
+tile_colour tiles px py = option_map_or (λ t. colour_of t px py) (slice_get tiles (px / 16)) []

@@ -1,14 +1,8 @@
 -- The sum of the edge values of a face at a pixel.
-use Rattle.std.specs.Prelude.{◌≡◌, ℕ, ◌≤◌, Option, false}
-use Rattle.std.specs.Option.{IfSome, IfNone}
+use Rattle.std.specs.Prelude.{ℕ, ◌≤◌}
 use Rattle.tri_cover.specs.Linears.{value_at}
 use Rattle.tri_cover.specs.declared.face.Face.{Face}
-use Rattle.edge_values.specs.Weights.{are_covering, IsWeightOf, AreInner, IsInnerSum}
-
--- it is the sum of the edge values of the face at the pixel, where it is covered, and none where it is not
-pub record IsWeighedAt (f : Face) (px py : ℕ) (weight : Option ℕ) : Type 0 where
-  pub covered : IfSome weight (IsWeightOf (value_at f.edges.e0 px py) (value_at f.edges.e1 px py) (value_at f.edges.e2 px py))
-  pub uncovered : IfNone weight (are_covering (value_at f.edges.e0 px py) (value_at f.edges.e1 px py) (value_at f.edges.e2 px py) ≡ false)
+use Rattle.edge_values.specs.Weights.{AreInner, IsInnerSum}
 
 -- none of the edge values of the face at the pixel is below 0
 abbrev pub AreInnerAt : Face → (px py : ℕ) → Type 0

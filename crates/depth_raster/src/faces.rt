@@ -1,5 +1,5 @@
 //! Triangles of a draw list in eye coordinates.
-ghost use Rattle.std.specs.Prelude.{◌≡◌, ◌<◌, ◌-◌, [], length};
+ghost use Rattle.std.specs.Prelude.{◌≡◌, ◌<◌, [], length};
 ghost use Rattle.draw_list.specs.Items.{instance_of_item};
 ghost use Rattle.draw_list.specs.Joints.{steps_at};
 ghost use Rattle.tri_cover.specs.Glass.{alpha_of};
@@ -49,19 +49,7 @@ impl Face {
         }
     }
 
-    /// The mark of a hit at a depth.
-    pub(crate) fn mark(&self, depth: u32) -> Mark
-        ensures { result ≡ record {
-          depth = depth - self.now.shift;
-          place = self.now.place;
-          number = self.now.number;
-          rank = self.now.rank;
-        } }
-    {
-        self.mark_at(depth.saturating_sub(self.shift))
-    }
-
-    /// The mark at a depth, which the shift does not change any more.
+    /// The mark at a depth from which the shift is taken.
     pub(crate) fn mark_at(&self, depth: u32) -> Mark
         ensures { result ≡ record {
           depth = depth;

@@ -15,7 +15,7 @@ use crate::glass_strips::glaze_strips;
 use crate::panes::next_pane;
 use crate::recent::Recent;
 use crate::strip::Strip;
-use crate::work::work_of;
+use crate::work::parts_of;
 use draw_list::{DrawList, Item};
 use fx_math::Lens;
 use std::thread::Threads;
@@ -133,6 +133,6 @@ pub(crate) fn flush<R: Threads + Sync>(rt: &R, strips: &mut [Strip], batch: &mut
         return;
     }
     batch.make_ready(rt, lens);
-    glaze_strips(rt, work_of(rt, &batch.pieces), lens, &batch.pieces, strips);
+    glaze_strips(rt, parts_of(rt, &batch.pieces), lens, &batch.pieces, strips);
     batch.clear();
 }

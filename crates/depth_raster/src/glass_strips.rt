@@ -12,16 +12,16 @@ use crate::glass_tiles::glaze_tile;
 use crate::pieces::Piece;
 use crate::strip::Strip;
 use crate::tile::Tile;
-use crate::work::is_worth_a_thread;
+use crate::work::{Layer, end_of_part, work_of_panes};
 use fx_math::Lens;
 use std::thread::{Threads, join_mut};
 
-/// Draws pieces of glass in strips as they stand. The strips are halved down to single ones, and the halves are drawn side by
-/// side where so much work is worth a thread, and else one after the other.
-#[cycle(halves)]
+/// Draws pieces of glass in strips as they stand, in so many parts side by side; the strips of a part are drawn one after the
+/// other.
+#[cycle(parts)]
 pub(crate) fn glaze_strips<R: Threads + Sync>(
     rt: &R,
-    work: u64,
+    parts: usize,
     lens: &Lens,
     pieces: &[Piece],
     strips: &mut [Strip],
@@ -34,15 +34,15 @@ pub(crate) fn glaze_strips<R: Threads + Sync>(
         glaze_last(strips, lens, pieces);
         return;
     }
-    let (upper, lower) = strips.split_at_mut(strips.len() / 2);
-    glaze_halves(rt, work, lens, pieces, upper, lower);
+    let (upper, lower) = strips.split_at_mut(end_of_part(strips, parts, Layer::Glass));
+    glaze_parts(rt, parts, lens, pieces, upper, lower);
 }
 
-/// Draws pieces of glass in the two halves of strips, each of which has about half the work.
-#[cycle(halves)]
-fn glaze_halves<R: Threads + Sync>(
+/// Draws pieces of glass in the strips of one part, in a thread of its own where there are several, and in those of the others.
+#[cycle(parts)]
+fn glaze_parts<R: Threads + Sync>(
     rt: &R,
-    work: u64,
+    parts: usize,
     lens: &Lens,
     pieces: &[Piece],
     upper: &mut [Strip],
@@ -56,20 +56,20 @@ fn glaze_halves<R: Threads + Sync>(
     ensures upper { StripsRelate (ColoursFollow (pieces_glazes lens.now pieces.now)) upper.old upper.new }
     ensures lower { StripsRelate (ColoursFollow (pieces_glazes lens.now pieces.now)) lower.old lower.new }
 {
-    let half = work / 2;
-    if !is_worth_a_thread(work) {
-        glaze_strips(rt, half, lens, pieces, upper);
-        glaze_strips(rt, half, lens, pieces, lower);
+    if parts < 2 {
+        glaze_strips(rt, 1, lens, pieces, upper);
+        glaze_strips(rt, 1, lens, pieces, lower);
         return;
     }
+    let others = parts - 1;
     let mut above = ||
         requires { IsSync R.row × All (IsStripOf lens.now) upper.now × All (IsPieceOf lens.now) pieces.now }
         ensures { StripsRelate (ColoursFollow (pieces_glazes lens.entry.now pieces.entry.now)) upper.entry.now upper.exit.now }
-    { glaze_strips(rt, half, lens, pieces, upper) };
+    { glaze_strips(rt, 1, lens, pieces, upper) };
     let mut below = ||
         requires { IsSync R.row × All (IsStripOf lens.now) lower.now × All (IsPieceOf lens.now) pieces.now }
         ensures { StripsRelate (ColoursFollow (pieces_glazes lens.entry.now pieces.entry.now)) lower.entry.now lower.exit.now }
-    { glaze_strips(rt, half, lens, pieces, lower) };
+    { glaze_strips(rt, others, lens, pieces, lower) };
     join_mut(rt, &mut above, &mut below);
 }
 
@@ -94,6 +94,7 @@ fn glaze_strip(strip: &mut Strip, lens: &Lens, pieces: &[Piece])
 {
     let band = strip.band;
     glaze_tiles(&mut strip.tiles, &band, lens, pieces);
+    strip.glass_work = work_of_panes(pieces, &band);
 }
 
 /// Draws pieces of glass over the tiles of a band.

@@ -1,27 +1,11 @@
 //! Faces at pixels: hit before a depth or not.
-ghost use Rattle.std.specs.Prelude.{◌≡◌, ℕ, ◌<◌, ◌^◌, true, IfSome};
+ghost use Rattle.std.specs.Prelude.{◌≡◌, ℕ, ◌<◌, ◌^◌, true};
 ghost use Rattle.tri_cover.specs.Faces.{is_in_box};
-ghost use Rattle.edge_values.specs.Weights.{IsSmallWeight};
 ghost use Rattle.depth_raster.specs.Edges.{AreValuesAt};
-ghost use Rattle.depth_raster.specs.Looks.{AreDepthsOf, Looks, IsSeen};
-ghost use Rattle.depth_raster.specs.Weighed.{IsWeighedAt};
+ghost use Rattle.depth_raster.specs.Looks.{AreDepthsOf, IsSeen};
 
 use edge_values::{Depths, EdgeValues};
 use tri_cover::Face;
-
-/// The depth of a face at a pixel of its box, where it is hit there before a depth, from the sum of its edge values there, if
-/// it is covered. A float that is about the face's dividend makes it cheap, and whatever it is, the depth is exact.
-pub(crate) fn look(face: &Face, weight: Option<u128>, limit: u64, about: f64) -> Option<u32>
-    requires weight { IfSome weight IsSmallWeight }
-    requires limit { limit < 2 ^ 40 }
-    ensures { (px py : ℕ) → IsWeighedAt face.now px py weight → is_in_box face.now.extent px py ≡ true
-        → Looks face.now px py limit result }
-{
-    match weight {
-        Some(sum) => depths_of(face).seen_before(limit, about, sum),
-        None => None,
-    }
-}
 
 /// Whether a face is hit at a pixel of its box before a depth, from its edge values there.
 pub(crate) fn is_seen(face: &Face, values: &EdgeValues, limit: u64) -> bool

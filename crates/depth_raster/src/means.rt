@@ -1,5 +1,5 @@
 //! The colours of a face along a row, by steps from each pixel to the next.
-ghost use Rattle.std.specs.Prelude.{◌≡◌, ℕ, ◌+◌, ◌<◌, IfSome, IsTrue};
+ghost use Rattle.std.specs.Prelude.{◌≡◌, ℕ, ◌+◌, ◌<◌, ◌^◌, pos, ◌≤ℤ◌, IfSome, IsTrue, ◌↔◌};
 ghost use Rattle.fx_math.specs.Limits.{size_limit};
 ghost use Rattle.tri_cover.specs.Faces.{face_hit};
 ghost use Rattle.tri_cover.specs.declared.face.Face as faces;
@@ -78,7 +78,7 @@ impl Means {
     #[inline(always)]
     pub(crate) fn are_even(&self, count: u16) -> bool
         requires { AreSmallMeans self.now }
-        ensures { IsTrue result → AreEven self.now count }
+        ensures { IsTrue result ↔ AreEven self.now count }
     {
         let there = self.weight.ahead(count);
         self.red.stays(&self.weight, count, there)
@@ -87,9 +87,9 @@ impl Means {
     }
 }
 
-/// The sum of a face's edge values at a pixel.
+/// The sum of a face's edge values at a pixel, and by how much it changes to the next one of its row.
 #[inline(always)]
-fn weight_at(face: &Face, px: u16, py: u16) -> WideWeight
+pub(crate) fn weight_at(face: &Face, px: u16, py: u16) -> WideWeight
     requires x { px < size_limit }
     requires y { py < size_limit }
     ensures { IsWeightAt face.now px py result }
@@ -98,4 +98,14 @@ fn weight_at(face: &Face, px: u16, py: u16) -> WideWeight
         here: face.edges.sum.at(px, py),
         step: face.edges.sum.step(),
     }
+}
+
+/// The sum of edge values none of which is below 0.
+#[inline(always)]
+pub(crate) fn natural(weight: &WideWeight) -> u128
+    requires { pos 0 ≤ℤ weight.now.here }
+    ensures value { pos result ≡ weight.now.here }
+    ensures bound { result < 2 ^ 84 }
+{
+    weight.here as u128
 }

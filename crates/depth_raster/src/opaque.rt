@@ -13,7 +13,7 @@ use crate::faces::Face;
 use crate::recent::Recent;
 use crate::strip::Strip;
 use crate::strips::draw_strips;
-use crate::work::work_of;
+use crate::work::parts_of;
 use draw_list::{DrawList, Item};
 use fx_math::Lens;
 use std::thread::Threads;
@@ -169,7 +169,7 @@ pub(crate) fn flush<R: Threads + Sync>(
     batch.order();
     draw_strips(
         rt,
-        work_of(rt, &batch.pieces),
+        parts_of(rt, &batch.pieces),
         is_first,
         lens,
         back,

@@ -1,38 +1,20 @@
 //! A piece at a pixel.
-ghost use Rattle.std.specs.Prelude.{◌≡◌, ℕ, ◌+◌, ◌<◌, ◌^◌, IfSome};
-ghost use Rattle.std.specs.Option.{unwrap_or};
+ghost use Rattle.std.specs.Prelude.{◌≡◌, ℕ, ◌+◌, ◌<◌, ◌^◌};
 ghost use Rattle.fx_math.specs.declared.lenses.Lens.{Lens};
-ghost use Rattle.edge_values.specs.Weights.{IsSmallWeight};
 ghost use Rattle.depth_raster.specs.Around.{IsWithin};
 ghost use Rattle.depth_raster.specs.Edges.{AreValuesAt};
 ghost use Rattle.depth_raster.specs.Faces.{glazed_by_face};
-ghost use Rattle.depth_raster.specs.Marks.{mark_over, behind_as};
+ghost use Rattle.depth_raster.specs.Marks.{behind_as};
 ghost use Rattle.depth_raster.specs.Means.{AreMeansAt, AreSmallMeans};
 ghost use Rattle.depth_raster.specs.Pieces.{IsPieceOf, HasFace};
-ghost use Rattle.depth_raster.specs.Weighed.{IsWeighedAt};
 
 use crate::glazing::blend;
-use crate::looks::{is_seen, look};
+use crate::looks::is_seen;
 use crate::marks::Mark;
 use crate::means::Means;
 use crate::pieces::Piece;
 use edge_values::EdgeValues;
 use tri_cover::Face;
-
-/// What a piece of a face makes of a mark at a pixel where the edge values of the face have this sum, if it is covered; none
-/// where the mark stays.
-pub(crate) fn nearer(piece: &Piece, face: &Face, weight: Option<u128>, mark: &Mark) -> Option<Mark>
-    requires face { HasFace piece.now face.now }
-    requires weight { IfSome weight IsSmallWeight }
-    ensures { (lens : Lens) (px py : ℕ) → px < lens.w → py < lens.h → IsPieceOf lens piece.now → IsWithin piece.now.extent px py
-        → IsWeighedAt face.now px py weight → unwrap_or result mark.now ≡ mark_over lens px py piece.now.face mark.now }
-{
-    let limit = limit(mark.depth, piece.face.shift);
-    match look(face, weight, limit, piece.about) {
-        Some(depth) => mark.nearer(piece.face.mark(depth)),
-        None => None,
-    }
-}
 
 /// What a piece of a face of glass leaves of the colour under it, over a mark, at a pixel where the face has these edge values and
 /// means. The means are settled where it is seen.

@@ -173,11 +173,12 @@ fn new_strip(alloc: Global, band: Block) -> Result<Strip, NoMemory>
     ensures { IfOk result (λ s. (s.band ≡ band) × AreTilesOf band s.tiles.items) }
 {
     let tiles = new_tiles(alloc, &band)?;
-    let count = band.rows as usize * band.width as usize;
+    let work = u64::from(band.rows) * u64::from(band.width);
     Ok(Strip {
         band,
         tiles,
-        pixels: vec![in alloc; [0; 3]; count]?,
+        opaque_work: work,
+        glass_work: work,
     })
 }
 

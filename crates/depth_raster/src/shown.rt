@@ -1,11 +1,10 @@
-//! The colours of strips, put into an image.
-ghost use Rattle.std.specs.Prelude.{◌≡◌, ℕ, ◌+◌, ◌<◌, ◌≤◌, length};
-ghost use Rattle.ppm_out.specs.Pixmap.{SetsRows, pixel};
-ghost use Rattle.depth_raster.specs.Blocks.{size_of, colour_in};
+//! The colours of tiles, put into an image.
+ghost use Rattle.std.specs.Prelude.{◌≡◌, ℕ, ◌+◌, ◌<◌, ◌≤◌};
+ghost use Rattle.fx_math.specs.Limits.{size_limit};
+ghost use Rattle.ppm_out.specs.Pixmap.{pixel};
 ghost use Rattle.depth_raster.specs.Canvas.{colour_at};
-ghost use Rattle.depth_raster.specs.Following.{Relates};
-ghost use Rattle.depth_raster.specs.Shown.{tile_coloured, IsRowCopied, IsAssembled};
-ghost use Rattle.depth_raster.specs.Strips.{AreTilesOf, IsTiled, AreStrips};
+ghost use Rattle.depth_raster.specs.Shown.{SetsBlock, colour_of, tile_colour};
+ghost use Rattle.depth_raster.specs.Strips.{AreTilesOf, AreStrips};
 
 use crate::blocks::Block;
 use crate::strip::Strip;
@@ -13,77 +12,46 @@ use crate::tile::Tile;
 use fx_math::Lens;
 use ppm_out::Image;
 
-/// Puts the colours of the tiles of all strips into an image. One strip after the other is put together and copied, while its
-/// colours are at hand.
-pub(crate) fn show(image: &mut Image, strips: &mut [Strip], lens: &Lens)
+/// Puts the colours of the tiles of all strips into an image.
+pub(crate) fn show(image: &mut Image, strips: &[Strip], lens: &Lens)
     requires width { image.old.width ≡ lens.now.w }
     requires height { image.old.height ≡ lens.now.h }
-    requires strips { AreStrips lens.now strips.old }
+    requires strips { AreStrips lens.now strips.now }
     ensures width { image.new.width ≡ image.old.width }
     ensures height { image.new.height ≡ image.old.height }
-    ensures strips { AreStrips lens.now strips.new }
-    ensures pixels { (px py : ℕ) → px < lens.now.w → py < lens.now.h → pixel image.new px py ≡ colour_at strips.old px py }
+    ensures pixels { (px py : ℕ) → px < lens.now.w → py < lens.now.h → pixel image.new px py ≡ colour_at strips.now px py }
 {
     for i in 0..strips.len() {
-        show_strip(image, &mut strips[i]);
+        let strip = &strips[i];
+        show_tiles(image, &strip.tiles, &strip.band);
     }
 }
 
-/// Puts the colours of the tiles of a strip together, and into an image.
-fn show_strip(image: &mut Image, strip: &mut Strip)
-    requires tiles { IsTiled strip.old }
-    requires width { strip.old.band.width ≡ image.old.width }
-    requires height { strip.old.band.first + strip.old.band.rows ≤ image.old.height }
-    ensures assembled { IsAssembled strip.old strip.new }
-    ensures rows { SetsRows image.old image.new strip.new.band.first strip.new.pixels.items }
-{
-    assemble(strip);
-    put(image, strip);
-}
-
-/// Puts the colours of the tiles of a strip together, row after row.
-fn assemble(strip: &mut Strip)
-    requires { IsTiled strip.old }
-    ensures { IsAssembled strip.old strip.new }
-{
-    let band = strip.band;
-    copy_rows(&mut strip.pixels, &strip.tiles, &band);
-}
-
-fn copy_rows(pixels: &mut [[u8; 3]], tiles: &[Tile], band: &Block)
-    requires pixels { length pixels.old ≡ size_of band.now }
+/// Puts the colours of the tiles of a band into an image.
+fn show_tiles(image: &mut Image, tiles: &[Tile], band: &Block)
     requires tiles { AreTilesOf band.now tiles.now }
-    ensures { Relates band.now (colour_in band.now pixels.old) (colour_in band.now pixels.new) (tile_coloured tiles.now) }
+    requires left { band.now.left ≡ 0 }
+    requires width { band.now.width ≡ image.old.width }
+    requires height { band.now.first + band.now.rows ≤ image.old.height }
+    requires most { image.old.height ≤ size_limit }
+    ensures { SetsBlock image.old image.new band.now (tile_colour tiles.now) }
 {
-    for r in 0..band.rows {
-        for j in 0..tiles.len() {
-            let tile = &tiles[j];
-            copy_row(pixels, &tile.colours, &tile.block, band, r);
-        }
+    for j in 0..tiles.len() {
+        show_tile(image, &tiles[j]);
     }
 }
 
-/// Puts a row of the colours of a block among those of a band.
-fn copy_row(pixels: &mut [[u8; 3]], colours: &[[u8; 3]], block: &Block, band: &Block, r: u16)
-    requires pixels { length pixels.old ≡ size_of band.now }
-    requires colours { length colours.now ≡ size_of block.now }
-    requires row { r < band.now.rows }
-    requires rows { block.now.rows ≡ band.now.rows }
-    requires columns { block.now.left + block.now.width ≤ band.now.width }
-    ensures { IsRowCopied band.now block.now colours.now r pixels.old pixels.new }
+/// Puts the colours of a tile into an image, row after row.
+fn show_tile(image: &mut Image, tile: &Tile)
+    requires columns { tile.now.block.left + tile.now.block.width ≤ image.old.width }
+    requires rows { tile.now.block.first + tile.now.block.rows ≤ image.old.height }
+    requires most { image.old.height ≤ size_limit }
+    ensures { SetsBlock image.old image.new tile.now.block (colour_of tile.now) }
 {
-    let start = band.place(block.left, r);
-    let end = start + block.width as usize;
-    let from = block.place(0, r);
-    let row = &colours[from..from + block.width as usize];
-    pixels[start..end].copy_from_slice(row);
-}
-
-/// Puts the colours of a strip into an image.
-fn put(image: &mut Image, strip: &Strip)
-    requires width { strip.now.band.width ≡ image.old.width }
-    requires height { strip.now.band.first + strip.now.band.rows ≤ image.old.height }
-    ensures { SetsRows image.old image.new strip.now.band.first strip.now.pixels.items }
-{
-    image.set_rows(strip.band.first, &strip.pixels);
+    let block = tile.block;
+    for r in 0..block.rows {
+        let from = block.place(0, r);
+        let row = &tile.colours[from..from + block.width as usize];
+        image.set_row(block.left, block.first + r, row);
+    }
 }

@@ -49,9 +49,9 @@ impl Stamp {
     /// Leaves the piece's mark at a place, where it is nearer: at a pixel that the piece covers, none of whose edge values is below
     /// 0, and this is their sum. A float that is about the sum makes it cheap, and whatever it is, the mark is exact.
     #[inline(always)]
-    pub(crate) fn draw(&self, marks: &mut [Mark], place: usize, sum: u64, about: f64)
+    pub(crate) fn draw(&self, marks: &mut [Mark], place: usize, sum: u128, about: f64)
         requires place { place < length marks.old }
-        requires sum { sum < 2 ^ 63 }
+        requires sum { sum < 2 ^ 84 }
         ensures { (p : Piece) (f : faces.Face) (lens : Lens) (px py : ℕ) → IsStampOf p f self.now → HasFace p f
             → px < lens.w → py < lens.h → IsPieceOf lens p → IsWithin p.extent px py → IsInnerSumAt f px py sum
             → marks.new ≡ slice_set marks.old place (mark_over lens px py p.face (slice_index_or marks.old place no_mark)) }
@@ -69,7 +69,7 @@ impl Stamp {
     /// The same, by a division.
     #[cold]
     #[inline(never)]
-    fn draw_divided(&self, marks: &mut [Mark], place: usize, sum: u64)
+    fn draw_divided(&self, marks: &mut [Mark], place: usize, sum: u128)
         requires place { place < length marks.old }
         ensures { (p : Piece) (f : faces.Face) (lens : Lens) (px py : ℕ) → IsStampOf p f self.now → HasFace p f
             → px < lens.w → py < lens.h → IsPieceOf lens p → IsWithin p.extent px py → IsInnerSumAt f px py sum

@@ -16,19 +16,19 @@ use crate::shares::share_of;
 use crate::slots::Slot;
 use crate::strip::Strip;
 use crate::tile::Tile;
-use crate::work::is_worth_a_thread;
+use crate::work::{Layer, end_of_part, work_of_tiles};
 use fx_math::Lens;
 use std::thread::{Threads, join_mut};
 
 /// The rows of a strip; the last one of a picture may have fewer.
 pub(crate) const ROWS: u16 = 16;
 
-/// Draws opaque pieces in strips, which are halved down to single ones. The halves are drawn side by side where so much work
-/// is worth a thread, and else one after the other. The first drawing of a picture is over strips that are cleared.
-#[cycle(halves)]
+/// Draws opaque pieces in strips, in so many parts side by side, which are about as much work each; the strips of a part are
+/// drawn one after the other. The first drawing of a picture is over strips that are cleared.
+#[cycle(parts)]
 pub(crate) fn draw_strips<R: Threads + Sync>(
     rt: &R,
-    work: u64,
+    parts: usize,
     is_first: bool,
     lens: &Lens,
     back: [u8; 3],
@@ -46,15 +46,17 @@ pub(crate) fn draw_strips<R: Threads + Sync>(
         draw_last(strips, is_first, lens, back, pieces, shares);
         return;
     }
-    let (upper, lower) = strips.split_at_mut(strips.len() / 2);
-    draw_halves(rt, work, is_first, lens, back, pieces, shares, upper, lower);
+    let (upper, lower) = strips.split_at_mut(end_of_part(strips, parts, Layer::Opaque));
+    draw_parts(
+        rt, parts, is_first, lens, back, pieces, shares, upper, lower,
+    );
 }
 
-/// Draws opaque pieces in the two halves of strips, each of which has about half the work.
-#[cycle(halves)]
-fn draw_halves<R: Threads + Sync>(
+/// Draws opaque pieces in the strips of one part, in a thread of its own where there are several, and in those of the others.
+#[cycle(parts)]
+fn draw_parts<R: Threads + Sync>(
     rt: &R,
-    work: u64,
+    parts: usize,
     is_first: bool,
     lens: &Lens,
     back: [u8; 3],
@@ -73,22 +75,22 @@ fn draw_halves<R: Threads + Sync>(
     ensures upper { StripsRelate (IsDrawnFrom lens.now back pieces.now is_first) upper.old upper.new }
     ensures lower { StripsRelate (IsDrawnFrom lens.now back pieces.now is_first) lower.old lower.new }
 {
-    let half = work / 2;
-    if !is_worth_a_thread(work) {
-        draw_strips(rt, half, is_first, lens, back, pieces, shares, upper);
-        draw_strips(rt, half, is_first, lens, back, pieces, shares, lower);
+    if parts < 2 {
+        draw_strips(rt, 1, is_first, lens, back, pieces, shares, upper);
+        draw_strips(rt, 1, is_first, lens, back, pieces, shares, lower);
         return;
     }
+    let others = parts - 1;
     let mut above = ||
         requires { IsSync R.row × All (IsStripOf lens.now) upper.now × All (IsPieceOf lens.now) pieces.now
             × AreRanked pieces.now × AreSharesOf lens.now pieces.now shares.now }
         ensures { StripsRelate (IsDrawnFrom lens.entry.now back pieces.entry.now is_first) upper.entry.now upper.exit.now }
-    { draw_strips(rt, half, is_first, lens, back, pieces, shares, upper) };
+    { draw_strips(rt, 1, is_first, lens, back, pieces, shares, upper) };
     let mut below = ||
         requires { IsSync R.row × All (IsStripOf lens.now) lower.now × All (IsPieceOf lens.now) pieces.now
             × AreRanked pieces.now × AreSharesOf lens.now pieces.now shares.now }
         ensures { StripsRelate (IsDrawnFrom lens.entry.now back pieces.entry.now is_first) lower.entry.now lower.exit.now }
-    { draw_strips(rt, half, is_first, lens, back, pieces, shares, lower) };
+    { draw_strips(rt, others, is_first, lens, back, pieces, shares, lower) };
     join_mut(rt, &mut above, &mut below);
 }
 
@@ -134,6 +136,7 @@ fn draw_strip(
     let band = strip.band;
     let share = &shares[share_of(shares.len(), band.first)];
     draw_tiles(&mut strip.tiles, &band, lens, back, pieces, &share.slots);
+    strip.opaque_work = work_of_tiles(&strip.tiles, share.slots.len());
 }
 
 /// Clears the marks of a strip before the first drawing, and takes the ranks from them before a later one.

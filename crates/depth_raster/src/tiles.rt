@@ -1,20 +1,18 @@
 //! Faces over the marks of a tile.
-ghost use Rattle.std.specs.Prelude.{◌≡◌, ℕ, ◌+◌, ◌-◌, ◌<◌, ◌≤◌, true, None, All, IfSome, length, min, slice_set, slice_index_or};
-ghost use Rattle.fx_math.specs.Limits.{size_limit};
+ghost use Rattle.std.specs.Prelude.{◌≡◌, ℕ, ◌+◌, ◌-◌, ◌<◌, ◌≤◌, None, All, length, min, slice_set, slice_index_or};
 ghost use Rattle.fx_math.specs.declared.lenses.Lens.{Lens};
-ghost use Rattle.edge_values.specs.Weights.{IsSmallWeight};
 ghost use Rattle.depth_raster.specs.Around.{IsWithin};
 ghost use Rattle.depth_raster.specs.Blocks.{IsBlockOf, size_of};
+ghost use Rattle.depth_raster.specs.Edges.{AreValuesAt};
 ghost use Rattle.depth_raster.specs.Following.{Follows, RowFollows, SpanRelates};
 ghost use Rattle.depth_raster.specs.Marks.{mark_over, no_mark};
 ghost use Rattle.depth_raster.specs.Narrow.{AreNarrowAt, IsLineAt};
 ghost use Rattle.depth_raster.specs.Pieces.{IsPieceOf, HasFace};
 ghost use Rattle.depth_raster.specs.Runs.{IsRunOf};
-ghost use Rattle.depth_raster.specs.Small.{IsSmallFace};
 ghost use Rattle.depth_raster.specs.Spans.{LiesIn, becomes};
 ghost use Rattle.depth_raster.specs.Stamps.{IsStampOf};
 ghost use Rattle.depth_raster.specs.Tiles.{mark_in, within, face_over, IsNoNearer, MarksFollow};
-ghost use Rattle.depth_raster.specs.Weighed.{IsWeighedAt, AreInnerTo};
+ghost use Rattle.depth_raster.specs.Weighed.{AreInnerTo};
 ghost use Rattle.depth_raster.specs.declared.pieces.Piece.{Piece};
 ghost use Rattle.tri_cover.specs.declared.face.Face as faces;
 
@@ -24,13 +22,15 @@ use crate::edges::{small_line, steps_of, values_at};
 use crate::hiding::{is_beyond, is_hidden};
 use crate::last::is_after;
 use crate::marks::Mark;
+use crate::means::{natural, weight_at};
 use crate::owed::{Owed, owe, pay};
 use crate::pieces::Piece;
-use crate::pixels::{limit, nearer};
+use crate::pixels::limit;
 use crate::runs::Run;
 use crate::stamps::Stamp;
 use crate::tile::Tile;
-use edge_values::{NarrowLine, NarrowValues};
+use crate::work::work_within;
+use edge_values::{EdgeValues, NarrowLine, NarrowValues};
 use fx_math::Lens;
 use tri_cover::Face;
 
@@ -124,6 +124,7 @@ fn draw_paid(tile: &mut Tile, lens: &Lens, piece: &Piece, face: &Face)
     let block = tile.block;
     tile.blank = false;
     tile.last = None;
+    tile.work = tile.work.saturating_add(work_within(piece, &block));
     draw_marks(&mut tile.marks, &block, lens, piece, face);
     tile.top = greatest_within(&tile.marks, &block, tile.top);
 }
@@ -212,47 +213,14 @@ fn draw_row(
     ensures { RowFollows block.now (mark_in block.now marks.old) (mark_in block.now marks.new)
         (within block.now (face_over lens.now piece.now.face)) run.now.r }
 {
-    match line_of(
-        piece,
-        face,
-        block.left + run.start,
-        block.left + (run.end - 1),
-        block.first + run.r,
-    ) {
-        Some(line) => draw_narrow(marks, block, lens, piece, face, stamp, &line, run),
-        None => draw_wide(marks, block, lens, piece, face, run),
-    }
-}
-
-/// The edge values of a face in 64 bits from a pixel to another of its row, where they are small enough.
-fn line_of(piece: &Piece, face: &Face, px: u16, end: u16, py: u16) -> Option<NarrowLine>
-    requires x { px < size_limit }
-    requires end { end < size_limit }
-    requires y { py < size_limit }
-    requires small { piece.now.small ≡ true → IsSmallFace face.now }
-    ensures { IfSome result (IsLineAt face.now px end py) }
-{
     if piece.small {
-        Some(small_line(face, px, end, py))
+        let px = block.left + run.start;
+        let end = block.left + (run.end - 1);
+        let line = small_line(face, px, end, block.first + run.r);
+        draw_narrow(marks, block, lens, piece, face, stamp, &line, run);
     } else {
-        judged_line(face, px, end, py)
+        draw_wide(marks, block, lens, piece, face, stamp, run);
     }
-}
-
-/// The same, where it is not known of the face that they are.
-#[cold]
-#[inline(never)]
-fn judged_line(face: &Face, px: u16, end: u16, py: u16) -> Option<NarrowLine>
-    requires x { px < size_limit }
-    requires end { end < size_limit }
-    requires y { py < size_limit }
-    ensures { IfSome result (IsLineAt face.now px end py) }
-{
-    NarrowLine::of(
-        &values_at(face, px, py),
-        &values_at(face, end, py),
-        &steps_of(face),
-    )
 }
 
 /// Draws the piece of a face over the marks of a run in its box by its edge values in 64 bits. Where these tell that all pixels
@@ -318,7 +286,12 @@ fn draw_inside(
     let mut values = line.start;
     let mut about = values.about();
     for q in run.start..run.end {
-        stamp.draw(marks, block.place(q, run.r), values.sum(), about);
+        stamp.draw(
+            marks,
+            block.place(q, run.r),
+            u128::from(values.sum()),
+            about,
+        );
         values = values.plus(&steps);
         about = about + stamp.step;
     }
@@ -357,40 +330,121 @@ fn draw_partly(
     }
 }
 
-/// Draws the piece of a face over the marks of a run in its box, from each pixel to the next.
+/// Draws the piece of a face over the marks of a run in its box by its edge values in 128 bits. Where these tell that all pixels
+/// of the run are covered, they are not asked for at each one.
 #[cold]
 #[inline(never)]
-fn draw_wide(marks: &mut [Mark], block: &Block, lens: &Lens, piece: &Piece, face: &Face, run: &Run)
+fn draw_wide(
+    marks: &mut [Mark],
+    block: &Block,
+    lens: &Lens,
+    piece: &Piece,
+    face: &Face,
+    stamp: &Stamp,
+    run: &Run,
+)
     requires len { length marks.old ≡ size_of block.now }
     requires block { IsBlockOf lens.now block.now }
     requires ready { IsPieceOf lens.now piece.now }
     requires face { HasFace piece.now face.now }
+    requires stamp { IsStampOf piece.now face.now stamp.now }
+    requires run { IsRunOf block.now run.now }
+    requires inside { LiesIn piece.now.extent block.now run.now }
+    ensures { SpanRelates block.now (mark_in block.now marks.old) (mark_in block.now marks.new)
+        (becomes (within block.now (face_over lens.now piece.now.face))) run.now.r run.now.start run.now.end }
+{
+    let row = block.first + run.r;
+    let values = values_at(face, block.left + run.start, row);
+    let last = values_at(face, block.left + (run.end - 1), row);
+    if values.are_inner() && last.are_inner() {
+        draw_wide_inside(marks, block, lens, piece, face, stamp, &values, run);
+    } else {
+        draw_wide_partly(marks, block, lens, piece, face, stamp, &values, run);
+    }
+}
+
+/// Draws the piece of a face over the marks of a run in its box all of which it covers, by the sum of its edge values in 128 bits,
+/// from each pixel to the next.
+fn draw_wide_inside(
+    marks: &mut [Mark],
+    block: &Block,
+    lens: &Lens,
+    piece: &Piece,
+    face: &Face,
+    stamp: &Stamp,
+    first: &EdgeValues,
+    run: &Run,
+)
+    requires len { length marks.old ≡ size_of block.now }
+    requires block { IsBlockOf lens.now block.now }
+    requires ready { IsPieceOf lens.now piece.now }
+    requires face { HasFace piece.now face.now }
+    requires stamp { IsStampOf piece.now face.now stamp.now }
+    requires inner { AreInnerTo face.now (block.now.left + run.now.start) (block.now.left + (run.now.end - 1))
+        (block.now.first + run.now.r) }
+    requires run { IsRunOf block.now run.now }
+    requires inside { LiesIn piece.now.extent block.now run.now }
+    ensures { SpanRelates block.now (mark_in block.now marks.old) (mark_in block.now marks.new)
+        (becomes (within block.now (face_over lens.now piece.now.face))) run.now.r run.now.start run.now.end }
+{
+    let mut weight = weight_at(face, block.left + run.start, block.first + run.r);
+    let mut about = first.about();
+    for q in run.start..run.end {
+        stamp.draw(marks, block.place(q, run.r), natural(&weight), about);
+        weight.advance();
+        about = about + stamp.step;
+    }
+}
+
+/// Draws the piece of a face over the marks of a run in its box by its edge values in 128 bits, from each pixel to the next.
+fn draw_wide_partly(
+    marks: &mut [Mark],
+    block: &Block,
+    lens: &Lens,
+    piece: &Piece,
+    face: &Face,
+    stamp: &Stamp,
+    first: &EdgeValues,
+    run: &Run,
+)
+    requires len { length marks.old ≡ size_of block.now }
+    requires block { IsBlockOf lens.now block.now }
+    requires ready { IsPieceOf lens.now piece.now }
+    requires face { HasFace piece.now face.now }
+    requires stamp { IsStampOf piece.now face.now stamp.now }
+    requires values { AreValuesAt face.now (block.now.left + run.now.start) (block.now.first + run.now.r) first.now }
     requires run { IsRunOf block.now run.now }
     requires inside { LiesIn piece.now.extent block.now run.now }
     ensures { SpanRelates block.now (mark_in block.now marks.old) (mark_in block.now marks.new)
         (becomes (within block.now (face_over lens.now piece.now.face))) run.now.r run.now.start run.now.end }
 {
     let steps = steps_of(face);
-    let mut values = values_at(face, block.left + run.start, block.first + run.r);
+    let mut values = *first;
+    let mut about = values.about();
     for q in run.start..run.end {
-        draw_pixel(marks, block.place(q, run.r), piece, face, values.covered());
+        draw_wide_values(marks, block.place(q, run.r), stamp, &values, about);
         values = values.plus(&steps);
+        about = about + stamp.step;
     }
 }
 
-/// Draws a piece of a face over the mark at a place, where the edge values of the face have this sum, if it is covered. The mark
-/// is written only where the piece is nearer.
+/// Draws a piece by its stamp over the mark at a place, where the face has these edge values in 128 bits. A float that is about
+/// their sum makes it cheap.
 #[inline(always)]
-fn draw_pixel(marks: &mut [Mark], place: usize, piece: &Piece, face: &Face, weight: Option<u128>)
+fn draw_wide_values(
+    marks: &mut [Mark],
+    place: usize,
+    stamp: &Stamp,
+    values: &EdgeValues,
+    about: f64,
+)
     requires place { place < length marks.old }
-    requires face { HasFace piece.now face.now }
-    requires weight { IfSome weight IsSmallWeight }
-    ensures { (lens : Lens) (px py : ℕ) → px < lens.w → py < lens.h → IsPieceOf lens piece.now → IsWithin piece.now.extent px py
-        → IsWeighedAt face.now px py weight
-        → marks.new ≡ slice_set marks.old place (mark_over lens px py piece.now.face (slice_index_or marks.old place no_mark)) }
+    ensures { (p : Piece) (f : faces.Face) (lens : Lens) (px py : ℕ) → IsStampOf p f stamp.now → HasFace p f
+        → px < lens.w → py < lens.h → IsPieceOf lens p → IsWithin p.extent px py → AreValuesAt f px py values.now
+        → marks.new ≡ slice_set marks.old place (mark_over lens px py p.face (slice_index_or marks.old place no_mark)) }
 {
-    if let Some(nearer) = nearer(piece, face, weight, &marks[place]) {
-        marks[place] = nearer;
+    if let Some(sum) = values.inner_sum() {
+        stamp.draw(marks, place, sum, about);
     }
 }
 
@@ -404,6 +458,6 @@ fn draw_values(marks: &mut [Mark], place: usize, stamp: &Stamp, values: &NarrowV
         → marks.new ≡ slice_set marks.old place (mark_over lens px py p.face (slice_index_or marks.old place no_mark)) }
 {
     if let Some(sum) = values.inner_sum() {
-        stamp.draw(marks, place, sum, about);
+        stamp.draw(marks, place, u128::from(sum), about);
     }
 }

@@ -23,11 +23,11 @@ quotient_is n s g some low high =
     omega (arith, most, least)
 
 -- ---- what a guess leaves, in 128 bits
-product_most : (g s : ℕ) → g < 2 ^ 32 → s < 2 ^ 64 → g * s ≤ 2 ^ 96
-product_most g s few small = mul-le g s (2 ^ 32) (2 ^ 64) (omega (arith, few)) (omega (arith, small))
+product_most : (g s : ℕ) → g < 2 ^ 32 → s < 2 ^ 84 → g * s ≤ 2 ^ 116
+product_most g s few small = mul-le g s (2 ^ 32) (2 ^ 84) (omega (arith, few)) (omega (arith, small))
 
 -- it wraps around where the product is greater than the dividend
-left_over : (n s low : ℕ) → n < 2 ^ 128 → s < 2 ^ 64 → low ≤ 2 ^ 96 → (n + (2 ^ 128 - low)) % 2 ^ 128 < s → (low ≤ n) × (n < low + s)
+left_over : (n s low : ℕ) → n < 2 ^ 128 → s < 2 ^ 84 → low ≤ 2 ^ 116 → (n + (2 ^ 128 - low)) % 2 ^ 128 < s → (low ≤ n) × (n < low + s)
 left_over n s low fits small most l = ⊎_elim
     (λ under.
     let around : (n + (2 ^ 128 - low)) % 2 ^ 128 ≡ n + (2 ^ 128 - low) = mod-eq_of_lt (omega (arith, under, most)) in
@@ -42,7 +42,7 @@ left_over n s low fits small most l = ⊎_elim
 pub divisor_left : (m s : ℕ) → m < s → 0 < s
 divisor_left m s l = omega (arith, l)
 
-pub quotient_left : (n s g low m : ℕ) → n < 2 ^ 128 → s < 2 ^ 64 → g < 2 ^ 32 → low ≡ g * s → m ≡ (n + (2 ^ 128 - low)) % 2 ^ 128 → m < s → g ≡ n / s
+pub quotient_left : (n s g low m : ℕ) → n < 2 ^ 128 → s < 2 ^ 84 → g < 2 ^ 32 → low ≡ g * s → m ≡ (n + (2 ^ 128 - low)) % 2 ^ 128 → m < s → g ≡ n / s
 quotient_left n s g low m fits small few product left l =
     let parts = left_over n s low fits small (omega (arith, product, product_most g s few small)) (omega (arith, left, l)) in
     quotient_is n s g (omega (arith, l)) (omega (arith, product, parts.0)) (omega (arith, product, parts.1))

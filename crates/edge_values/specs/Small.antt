@@ -1,5 +1,5 @@
 -- Numbers that are small enough for 64 bits, and edge values of small coefficients.
-use Rattle.std.specs.Prelude.{◌≡◌, ℕ, ◌^◌, ℤ, pos, ◌+ℤ◌, ◌*ℤ◌}
+use Rattle.std.specs.Prelude.{ℕ, ◌^◌, ℤ, pos, ◌+ℤ◌, ◌*ℤ◌}
 use Rattle.fx_math.specs.Within.{IsWithin}
 
 -- none of three numbers has a magnitude above the most
@@ -7,10 +7,6 @@ pub record AreWithin (most : ℕ) (first second third : ℤ) : Type 0 where
   pub first_within : IsWithin most first
   pub second_within : IsWithin most second
   pub third_within : IsWithin most third
-
--- the number in fewer bits, where it has no magnitude above the most
-abbrev pub IsNarrow : (most : ℕ) → (number narrow : ℤ) → Type 0
-IsNarrow most number narrow = (narrow ≡ number) × IsWithin most number
 
 -- the value of the linear function of these coefficients at the pixel (px, py)
 abbrev pub value_of : (a b c : ℤ) → (px py : ℕ) → ℤ

@@ -20,11 +20,6 @@ pub record IsWeightOf (first second third : ℤ) (sum : ℕ) : Type 0 where
   pub some : 0 < sum
   pub bound : sum < 2 ^ 84
 
--- the bounds of such a sum
-pub record IsSmallWeight (sum : ℕ) : Type 0 where
-  pub some : 0 < sum
-  pub bound : sum < 2 ^ 84
-
 -- none of three edge values is below 0
 pub record AreInner (first second third : ℤ) : Type 0 where
   pub first_inner : pos 0 ≤ℤ first
@@ -35,7 +30,6 @@ pub record AreInner (first second third : ℤ) : Type 0 where
 pub record IsInnerSum (first second third : ℤ) (sum : ℕ) : Type 0 where
   pub inner : AreInner first second third
   pub is_sum : pos sum ≡ first +ℤ second +ℤ third
-  pub bound : sum < 2 ^ 63
 
 -- both numbers are below 0
 pub record AreBelow (a b : ℤ) : Type 0 where

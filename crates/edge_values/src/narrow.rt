@@ -4,15 +4,7 @@ ghost use Rattle.fx_math.specs.Within.{IsWithin};
 ghost use Rattle.edge_values.specs.Small.{AreWithin};
 ghost use Rattle.edge_values.specs.Weights.{AreBelow, AreInner, IsInnerSum};
 
-use crate::values::EdgeValues;
 use std::num::nearest_i64_to_f64;
-
-/// The greatest magnitude of an edge value at the start of a row, 3 * 2^50.
-const MOST_VALUE: u64 = 3_377_699_720_527_872;
-
-/// The greatest magnitude of a step, 2^40. After a step for each pixel of a row of a picture the edge values have a magnitude of
-/// at most 2^52.
-const MOST_STEP: u64 = 1_099_511_627_776;
 
 /// Three edge values, each of a magnitude of at most 2^52, or by how much they change from a pixel to the next one of its row.
 #[derive(Clone, Copy)]
@@ -86,18 +78,7 @@ impl NarrowValues {
 }
 
 impl NarrowLine {
-    ghost use Rattle.edge_values.specs.Narrow.{IsLineOf, IsSmallLine, IsInside, IsOutside};
-
-    /// The same values and steps, where they are so small that the values fit at all pixels of a row.
-    pub fn of(values: &EdgeValues, last: &EdgeValues, steps: &EdgeValues) -> Option<NarrowLine>
-        ensures some { IfSome result (IsLineOf values.now last.now steps.now) }
-        ensures none { IfNone result (IsSmallLine values.now last.now steps.now → ⊥) }
-    {
-        let start = values.narrow(MOST_VALUE)?;
-        let last = last.narrow(MOST_VALUE)?;
-        let steps = steps.narrow(MOST_STEP)?;
-        Some(NarrowLine { start, last, steps })
-    }
+    ghost use Rattle.edge_values.specs.Narrow.{IsInside, IsOutside};
 
     /// Whether no edge value is below 0 at the first and at the last pixel; none is so between them then.
     pub fn is_inside(&self) -> bool

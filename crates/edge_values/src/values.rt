@@ -1,10 +1,9 @@
 //! The three edge values of a triangle along a row in 128 bits, by steps from each pixel to the next.
-ghost use Rattle.std.specs.Prelude.{◌≡◌, ◌≤◌, ◌^◌, false, IfSome, IfNone};
+ghost use Rattle.std.specs.Prelude.{◌≡◌, ◌<◌, ◌^◌, false, IfSome, IfNone, IsTrue, ◌↔◌};
 ghost use Rattle.fx_math.specs.Within.{IsWithin};
-ghost use Rattle.edge_values.specs.Small.{AreWithin, IsNarrow};
-ghost use Rattle.edge_values.specs.Weights.{AreSmall, are_covering, IsWeightOf};
+ghost use Rattle.edge_values.specs.Weights.{AreSmall, are_covering, IsWeightOf, AreInner, IsInnerSum};
 
-use crate::narrow::NarrowValues;
+use crate::quotients::near;
 
 /// The three edge values of a triangle, each of a magnitude of at most 2^82: at a pixel, or by how much they change from a pixel
 /// to the next one of its row.
@@ -17,7 +16,6 @@ pub struct EdgeValues {
 }
 
 impl EdgeValues {
-    ghost use Rattle.edge_values.specs.Narrow.{IsNarrowOf};
     ghost use Rattle.edge_values.specs.Steps.{DoFit, IsSumOf};
 
     /// Those after a step.
@@ -32,20 +30,36 @@ impl EdgeValues {
         }
     }
 
-    /// The same in 64 bits, where none has a magnitude above the most, which is at most 2^52.
-    pub(crate) fn narrow(&self, most: u64) -> Option<NarrowValues>
-        requires { most ≤ 2 ^ 52 }
-        ensures some { IfSome result (IsNarrowOf most self.now) }
-        ensures none { IfNone result (AreWithin most self.now.first self.now.second self.now.third → ⊥) }
+    /// Their sum, where none of them is below 0.
+    #[inline(always)]
+    pub fn inner_sum(&self) -> Option<u128>
+        ensures some { IfSome result (IsInnerSum self.now.first self.now.second self.now.third) }
+        ensures bound { IfSome result (λ s. s < 2 ^ 84) }
+        ensures none { IfNone result (AreInner self.now.first self.now.second self.now.third → ⊥) }
     {
-        let first = narrow(self.first, most)?;
-        let second = narrow(self.second, most)?;
-        let third = narrow(self.third, most)?;
-        Some(NarrowValues {
-            first,
-            second,
-            third,
-        })
+        if self.are_inner() {
+            Some((self.first + self.second + self.third).unsigned_abs())
+        } else {
+            None
+        }
+    }
+
+    /// Whether none of them is below 0.
+    #[inline(always)]
+    pub fn are_inner(&self) -> bool
+        ensures { IsTrue result ↔ AreInner self.now.first self.now.second self.now.third }
+    {
+        self.first >= 0 && self.second >= 0 && self.third >= 0
+    }
+
+    /// A float that is about their sum. Nothing rests on its value.
+    pub fn about(&self) -> f64 {
+        let sum = self
+            .first
+            .wrapping_add(self.second)
+            .wrapping_add(self.third);
+        let size = near(sum.unsigned_abs());
+        if sum < 0 { 0.0 - size } else { size }
     }
 
     /// Their sum, where they are those of a pixel that is covered: none of them below 0, and the sum above 0.
@@ -54,19 +68,6 @@ impl EdgeValues {
         ensures none { IfNone result (are_covering self.now.first self.now.second self.now.third ≡ false) }
     {
         weight(self.first, self.second, self.third)
-    }
-}
-
-/// A number in 64 bits, where it has no magnitude above the most.
-fn narrow(number: i128, most: u64) -> Option<i64>
-    requires { most ≤ 2 ^ 52 }
-    ensures some { IfSome result (IsNarrow most number) }
-    ensures none { IfNone result (IsWithin most number → ⊥) }
-{
-    if number.unsigned_abs() <= u128::from(most) {
-        Some(number as i64)
-    } else {
-        None
     }
 }
 

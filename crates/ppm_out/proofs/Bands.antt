@@ -1,11 +1,13 @@
--- What a write of rows of pixels leaves.
-use Rattle.std.proofs.Common.{◌≡◌, ℕ, zero, suc, ◌+◌, ◌*◌, ◌<◌, ◌≤◌, List, [], ◌∷◌, refl, sym, ap, ◌∙◌, arith, rules, length, length-append, take, get_or}
+-- What a write of pixels of a row leaves.
+use Rattle.std.proofs.Common.{◌≡◌, ℕ, zero, suc, ◌+◌, ◌*◌, ◌-◌, ◌<◌, ◌≤◌, List, [], ◌∷◌, refl, sym, ap, ◌∙◌, arith, rules, length, length-append, take, get_or, ⊎_elim}
 use Rattle.std.specs.List.{flat_map}
 use Rattle.std.proofs.lemmas.List.{places}
 use Rattle.std.proofs.lemmas.List.Concat.{get_or-flat_map}
 use borrow.Rule.Slice.PartMut.{put_mid}
-use Rattle.std.proofs.lemmas.Nat.{mul-add-lt}
-use Rattle.ppm_out.specs.Pixmap.{SetsRows, place_of}
+use Rattle.std.proofs.lemmas.Bool.{cases_lt}
+use Rattle.std.proofs.lemmas.Nat.{same_from_place, mul-le}
+use Rattle.std.proofs.Math.Nat.{add-mul}
+use Rattle.ppm_out.specs.Pixmap.{SetsRow, place_of}
 use Rattle.ppm_out.proofs.Places.{three}
 use Rattle.ppm_out.proofs.Pictures.{colour_of_three}
 
@@ -30,6 +32,12 @@ byte_of colours i k each below few =
     ap (λ n. get_or (flat_map (λ c. c) colours) (n + k) 0) (sym front)
     ∙ get_or-flat_map (λ c. c) colours i k [] 0 below (omega (arith, long, few))
 
+rows_within : (row width height : ℕ) → row < height → row * width + width ≤ height * width
+rows_within row width height below = omega (arith, mul-le (row + 1) width height width (omega (arith, below)) (omega arith), add-mul row 1 width)
+
+pub row_room : (row left width height long count all : ℕ) → row < height → left + long ≤ width → count ≡ 3 * long → all ≡ 3 * (height * width) → 3 * (row * width + left) + count ≤ all
+row_room row left width height long count all below columns is whole = omega (arith, rows_within row width height below, columns, is, whole)
+
 -- bytes in front of a part that was written, in it, and behind it
 in_front : (a k i : ℕ) (xs ys : List ℕ) → i < a → a ≤ length xs → get_or (put_mid a k xs ys) i 0 ≡ get_or xs i 0
 in_front a k i xs ys before within = search (rules, places)
@@ -45,42 +53,50 @@ behind a k i xs ys past within long = search (rules, places)
 pub size_kept : (a k : ℕ) (xs ys : List ℕ) → a + k ≤ length xs → length ys ≡ k → length (put_mid a k xs ys) ≡ length xs
 size_kept a k xs ys within long = search (rules, places)
 
--- a write of the colours from the left of a row on sets them
-pub sets_rows : (width height from : ℕ) (bytes flat : List ℕ) (colours : List (List ℕ)) (k : ℕ)
-    → length bytes ≡ 3 * (height * width) → from * width + length colours ≤ height * width
+-- a write of the colours from a pixel of a row on sets them
+pub sets_row : (width height left row : ℕ) (bytes flat : List ℕ) (colours : List (List ℕ)) (k : ℕ)
+    → length bytes ≡ 3 * (height * width) → left + length colours ≤ width → row < height
     → ((j : ℕ) → j < length colours → length (get_or colours j []) ≡ 3)
     → flat ≡ flat_map (λ c. c) colours → length flat ≡ length colours * 3 → k ≡ length flat
-    → SetsRows (record { width = width; height = height; bytes = bytes })
-    (record { width = width; height = height; bytes = put_mid (3 * (from * width)) k bytes flat })
-    from colours
-sets_rows width height from bytes flat colours k whole room each is long count =
-    let a = 3 * (from * width) in
+    → SetsRow (record { width = width; height = height; bytes = bytes })
+    (record { width = width; height = height; bytes = put_mid (3 * (row * width + left)) k bytes flat })
+    left row colours
+sets_row width height left row bytes flat colours k whole columns below each is long count =
+    let start = row * width + left in
+    let a = 3 * start in
     let new = put_mid a k bytes flat in
-    let within : a + k ≤ length bytes = omega (arith, whole, room, long, count) in
-    let place : (px row n : ℕ) → 3 * ((from + row) * width + px) + n ≡ a + (3 * (row * width + px) + n) =
-    λ px row n. grind arith in
+    let room : row * width + width ≤ height * width = rows_within row width height below in
+    let within : a + k ≤ length bytes = omega (arith, whole, room, columns, long, count) in
     record {
       width = refl;
       height = refl;
-      above = λ px py across over.
-          let row_in = mul-add-lt py width px from over across in
-          let same : (j : ℕ) → j < place_of width px py + 3 → get_or new j 0 ≡ get_or bytes j 0 =
-          λ j few. in_front a k j bytes flat (omega (arith, row_in, few)) (omega (arith, within)) in
-          three _ _ _ _ _ _ (same _ (omega arith)) (same _ (omega arith)) (same _ (omega arith));
-      coloured = λ px row across here.
-          let i = row * width + px in
-          let byte : (j n : ℕ) → j ≡ place_of width px (from + row) + n → n < 3
-          → get_or new j 0 ≡ get_or (get_or colours i []) n 0 =
-          λ j n at few. ap (λ b. get_or new b 0) (at ∙ place px row n)
-          ∙ inside a k (3 * i + n) bytes flat (omega (arith, here, long, count, few)) within (sym count)
-          ∙ ap (λ bs. get_or bs (3 * i + n) 0) is ∙ byte_of colours i n each here few in
+      coloured = λ q here.
+          let byte : (j n : ℕ) → j ≡ place_of width (left + q) row + n → n < 3
+          → get_or new j 0 ≡ get_or (get_or colours q []) n 0 =
+          λ j n at few. ap (λ b. get_or new b 0) (at ∙ omega arith)
+          ∙ inside a k (3 * q + n) bytes flat (omega (arith, here, long, count, few)) within (sym count)
+          ∙ ap (λ bs. get_or bs (3 * q + n) 0) is ∙ byte_of colours q n each here few in
           three _ _ _ _ _ _
           (byte _ 0 (omega arith) (omega arith)) (byte _ 1 refl (omega arith)) (byte _ 2 refl (omega arith))
-          ∙ sym (colour_of_three (get_or colours i []) (each i here));
-      behind = λ px row across below past.
-          let same : (j n : ℕ) → j ≡ place_of width px (from + row) + n → get_or new j 0 ≡ get_or bytes j 0 =
-          λ j n at. ap (λ b. get_or new b 0) (at ∙ place px row n)
-          ∙ behind a k (3 * (row * width + px) + n) bytes flat (omega (arith, past, long, count)) within (sym count)
-          ∙ ap (λ b. get_or bytes b 0) (sym (at ∙ place px row n)) in
-          three _ _ _ _ _ _ (same _ 0 (omega arith)) (same _ 1 refl) (same _ 2 refl);
+          ∙ sym (colour_of_three (get_or colours q []) (each q here));
+      others = λ px py across over apart.
+          let n = py * width + px in
+          let same : ((j : ℕ) → 3 * n ≤ j → j < 3 * n + 3 → get_or new j 0 ≡ get_or bytes j 0) → pixel_of new width px py ≡ pixel_of bytes width px py =
+          λ each_byte. three _ _ _ _ _ _ (each_byte _ (omega arith) (omega arith)) (each_byte _ (omega arith) (omega arith)) (each_byte _ (omega arith) (omega arith)) in
+          ⊎_elim
+          (λ before. same (λ j low high. in_front a k j bytes flat (omega (arith, high, before)) (omega (arith, within))))
+          (λ from. ⊎_elim
+          (λ in_row. absurd (
+          let both = same_from_place py px row (left + (n - start)) width across (omega (arith, in_row, from, columns)) (omega (arith, from)) in
+          apart both.0 (omega (arith, both.1)) (omega (arith, both.1, in_row, from))))
+          (λ past. same (λ j low high.
+          let at : j ≡ a + (j - a) = omega (arith, low, from) in
+          ap (λ b. get_or new b 0) at
+          ∙ behind a k (j - a) bytes flat (omega (arith, low, past, long, count)) within (sym count)
+          ∙ ap (λ b. get_or bytes b 0) (sym at)))
+          (cases_lt n (start + length colours)))
+          (cases_lt n start);
     }
+  where
+    pixel_of : List ℕ → (width px py : ℕ) → List ℕ
+    pixel_of bs w px py = get_or bs (place_of w px py) 0 ∷ get_or bs (place_of w px py + 1) 0 ∷ get_or bs (place_of w px py + 2) 0 ∷ []

@@ -27,15 +27,13 @@ abbrev pub Shows : Pixmap → (ℕ → ℕ → List ℕ) → Type 0
 Shows image colour =
     (px py : ℕ) → px < image.width → py < image.height → pixel image px py ≡ colour px py
 
--- the pixels from the left of a row on have the colours, row after row, and nothing else is changed
-pub record SetsRows (old new : Pixmap) (from : ℕ) (colours : List (List ℕ)) : Type 0 where
+-- the pixels of a row from a column on have the colours, and nothing else is changed
+pub record SetsRow (old new : Pixmap) (left row : ℕ) (colours : List (List ℕ)) : Type 0 where
   pub width : new.width ≡ old.width
   pub height : new.height ≡ old.height
-  pub above : (px py : ℕ) → px < old.width → py < from → pixel new px py ≡ pixel old px py
-  pub coloured : (px row : ℕ) → px < old.width → row * old.width + px < length colours
-      → pixel new px (from + row) ≡ slice_index_or colours (row * old.width + px) []
-  pub behind : (px row : ℕ) → px < old.width → from + row < old.height → length colours ≤ row * old.width + px
-      → pixel new px (from + row) ≡ pixel old px (from + row)
+  pub coloured : (q : ℕ) → q < length colours → pixel new (left + q) row ≡ slice_index_or colours q []
+  pub others : (px py : ℕ) → px < old.width → py < old.height → (py ≡ row → left ≤ px → px < left + length colours → ⊥)
+      → pixel new px py ≡ pixel old px py
 
 -- one pixel has the colour, and nothing else is changed
 pub record SetsPixel (old new : Pixmap) (px py : ℕ) (colour : List ℕ) : Type 0 where

@@ -1,6 +1,6 @@
 //! An image of three bytes a pixel.
 ghost use Rattle.std.specs.Prelude.{◌≡◌, ◌+◌, ◌*◌, ◌<◌, ◌≤◌, length, replicate, vec_len, IfOk};
-ghost use Rattle.ppm_out.specs.Pixmap.{Pixmap, IsPixmap, SetsPixel, SetsRows, pixel, place_of};
+ghost use Rattle.ppm_out.specs.Pixmap.{Pixmap, IsPixmap, SetsPixel, SetsRow, pixel, place_of};
 ghost use Rattle.ppm_out.specs.Ppm.{pixel_bytes};
 
 use pf_io::NoMemory;
@@ -84,14 +84,15 @@ impl Image {
         self.bytes[start + 2] = blue;
     }
 
-    /// Gives colours to the pixels from the left of row `from_row` on, row after row, so that bands of rows that were
+    /// Gives colours to the pixels of the row `py` from the top, from the column `px` from the left on, so that blocks that were
     /// drawn apart are put together.
-    pub fn set_rows(&mut self, from_row: u16, colours: &[[u8; 3]])
-        requires { from_row * self.old.width + length colours.now ≤ self.old.height * self.old.width }
-        ensures rows { SetsRows self.old self.new from_row colours.now }
+    pub fn set_row(&mut self, px: u16, py: u16, colours: &[[u8; 3]])
+        requires columns { px + length colours.now ≤ self.old.width }
+        requires row { py < self.old.height }
+        ensures row { SetsRow self.old self.new px py colours.now }
         ensures whole { IsPixmap self.new }
     {
-        let start = 3 * (from_row as usize * self.width as usize);
+        let start = 3 * (py as usize * self.width as usize + px as usize);
         let bytes = colours.as_flattened();
         self.bytes[start..start + bytes.len()].copy_from_slice(bytes);
     }

@@ -31,7 +31,7 @@ returns-then-are_even c =
     let y = b.first + a.run.now.r in
     let m = c.settle.new.self in
     let at : AreMeansAt f x y m = c.settle.ensures.kept f x y c.requires.means in
-    let even : AreEven m (a.run.now.end - a.run.now.start - 1) = c.are_even.ensures (search rules) in
+    let even : AreEven m (a.run.now.end - a.run.now.start - 1) = c.are_even.ensures.0 (search rules) in
     span_weaker b (colour_in b a.colours.now) (colour_in b c.fill_run.new.colours) (filled c.colour.result) (shaded_within f b) a.run.now.r a.run.now.start a.run.now.end c.fill_run.ensures
     (λ q lo hi column before after is.
     let i = q - a.run.now.start in

@@ -1,55 +1,59 @@
-use Rattle.std.proofs.Common.{◌+◌, ◌<◌, length, set, length-set, refl, sym, ◌∙◌, subst, arith}
-use Rattle.depth_raster.specs.Shown.{IsAssembled}
+use Rattle.std.proofs.Common.{◌≡◌, ◌+◌, ◌*◌, ◌<◌, List, length, ap, sym, refl, ◌∙◌, subst, arith}
+use Rattle.std.specs.Prelude.{min}
+use Rattle.depth_raster.specs.Canvas.{colour_at}
+use Rattle.depth_raster.specs.Shown.{SetsBlock, tile_colour}
+use Rattle.depth_raster.specs.Strips.{band_at, AreTilesOf}
+use Rattle.depth_raster.specs.declared.blocks.Block.{Block}
 use Rattle.depth_raster.specs.declared.strip.Strip.{Strip}
-use Rattle.depth_raster.proofs.Composing.{none_shown, partly_kept, strip_added, all_shown, pixel_shown}
-use Rattle.depth_raster.proofs.PixelTiles.{strips_within}
-use Rattle.depth_raster.proofs.Tiling.{PartsSoFar, tile_drawn, tiles_begun, tiles_done}
+use Rattle.depth_raster.specs.declared.tile.Tile.{Tile}
+use Rattle.depth_raster.proofs.Composing.{both_set, joined_below, recoloured, strip_seen, last_part}
+use Rattle.depth_raster.proofs.PixelTiles.{band_begins}
 use Rattle.depth_raster.proofs.shown.show.Goals as goal
 
-pub loop-i-init : goal.loop-i-init
-loop-i-init c = record {
-  width = refl;
-  height = refl;
-  parts = tiles_begun IsAssembled c.args.strips.now;
-  shown = none_shown c.args.image.now c.args.lens.now.w c.args.strips.now;
-}
+pub show_tiles-requires : goal.show_tiles-requires
+show_tiles-requires c =
+    let lens = c.args.lens.now in
+    let strips = c.args.strips.now in
+    let i = c.loop-i.i in
+    let s = c.index-strips-i.result in
+    let below : i < length strips = omega (arith, c.loop-i-test.true) in
+    let band : s.band ≡ band_at lens i = ap (λ (u : Strip). u.band) c.index-strips-i.is ∙ c.requires.strips.bands i s below in
+    let starts : 16 * i < lens.h = band_begins lens.h (length strips) i c.requires.strips.count below in
+    record {
+      tiles = subst (λ (ts : List Tile). AreTilesOf s.band ts) (sym c.deref.ensures.value)
+          (subst (λ (b : Block). AreTilesOf b s.tiles.items) (sym band)
+          (subst (λ (u : Strip). AreTilesOf (band_at lens i) u.tiles.items) (sym c.index-strips-i.is) (c.requires.strips.tiles i s below)));
+      left = ap (λ (b : Block). b.left) band;
+      width = omega (arith, ap (λ (b : Block). b.width) band, c.requires.width, c.loop-i.invariant.width);
+      height = omega (arith, starts, ap (λ (b : Block). b.first) band, ap (λ (b : Block). b.rows) band, c.requires.height, c.loop-i.invariant.height);
+      most = omega (arith, c.requires.height, c.loop-i.invariant.height, lens.in_range.most_height);
+    }
 
 pub loop-i-preserved : goal.loop-i-preserved
 loop-i-preserved c =
-    let a = c.args in
-    let n = c.loop-i.i in
-    let strips = c.loop-i.strips in
-    let old = c.index-strips-i.result in
-    let new = c.show_strip.new.strip in
-    let below : n < length strips = omega (arith, c.loop-i-test.true, c.loop-i.auto.strips) in
-    let assembled = subst (λ (t : Strip). IsAssembled t new) (sym c.index-strips-i.is) c.show_strip.ensures.assembled in
-    let parts : PartsSoFar IsAssembled a.strips.now (set strips n new) (n + 1) =
-    tile_drawn IsAssembled a.strips.now strips n old new c.loop-i.invariant.parts c.loop-i.auto.strips below c.index-strips-i.is assembled in
-    let kept = partly_kept a.lens.now a.strips.now (set strips n new) (n + 1) c.requires.strips (length-set strips n new ∙ c.loop-i.auto.strips) parts in
-    record {
-      width = c.show_strip.ensures.rows.width ∙ c.loop-i.invariant.width;
-      height = c.show_strip.ensures.rows.height ∙ c.loop-i.invariant.height;
-      parts = parts;
-      shown = strip_added a.lens.now c.loop-i.image c.show_strip.new.image strips n new kept below new.pixels_whole
-          (c.loop-i.invariant.width ∙ c.requires.width) c.loop-i.invariant.shown c.show_strip.ensures.rows;
-    }
-
-pub show_strip-requires-clause-tiles : goal.show_strip-requires-clause-tiles
-show_strip-requires-clause-tiles c =
-    let a = c.args in
-    let strips = c.loop-i.strips in
-    let kept = partly_kept a.lens.now a.strips.now strips c.loop-i.i c.requires.strips c.loop-i.auto.strips c.loop-i.invariant.parts in
-    (strips_within a.lens.now strips kept c.loop-i.i c.index-strips-i.result (omega arith)).tiles
-
-pub returns-clause-strips : goal.returns-clause-strips
-returns-clause-strips c =
-    let a = c.args in
-    partly_kept a.lens.now a.strips.now c.loop-i.strips c.loop-i.i c.requires.strips c.loop-i.auto.strips c.loop-i.invariant.parts
+    let lens = c.args.lens.now in
+    let strips = c.args.strips.now in
+    let i = c.loop-i.i in
+    let s = c.index-strips-i.result in
+    let below : i < length strips = omega (arith, c.loop-i-test.true) in
+    let band : s.band ≡ band_at lens i = ap (λ (u : Strip). u.band) c.index-strips-i.is ∙ c.requires.strips.bands i s below in
+    let starts : 16 * i < lens.h = band_begins lens.h (length strips) i c.requires.strips.count below in
+    let left = ap (λ (b : Block). b.left) band in
+    let first = ap (λ (b : Block). b.first) band in
+    let width = ap (λ (b : Block). b.width) band in
+    let rows = ap (λ (b : Block). b.rows) band in
+    let done : Block = record { left = 0; first = 0; width = lens.w; rows = min (16 * i) lens.h } in
+    let whole : Block = record { left = 0; first = 0; width = lens.w; rows = min (16 * (i + 1)) lens.h } in
+    let sets = subst (λ (ts : List Tile). SetsBlock c.loop-i.image c.show_tiles.new.image s.band (tile_colour ts)) c.deref.ensures.value c.show_tiles.ensures in
+    both_set c.args.image.now c.loop-i.image c.show_tiles.new.image done s.band whole (colour_at strips)
+    (joined_below done s.band whole left width (omega (arith, first, starts)) refl refl refl (omega (arith, rows, starts)))
+    (omega (arith, c.requires.width)) (omega (arith, c.requires.height)) c.loop-i.invariant
+    (recoloured c.loop-i.image c.show_tiles.new.image s.band (tile_colour s.tiles.items) (colour_at strips)
+    (λ px py at. strip_seen lens strips i s c.requires.strips c.index-strips-i.is below px py (omega (arith, at.right, left, width)) (omega (arith, at.bottom, first, rows, starts)) (omega (arith, at.top, at.bottom, first, rows)))
+    sets)
 
 pub returns-clause-pixels : goal.returns-clause-pixels
 returns-clause-pixels c = λ px py column row.
-    let a = c.args in
-    pixel_shown a.lens.now a.strips.now c.loop-i.strips c.loop-i.image c.requires.strips c.loop-i.auto.strips
-    (tiles_done IsAssembled a.strips.now c.loop-i.strips c.loop-i.i (omega arith) c.loop-i.invariant.parts)
-    (all_shown c.loop-i.image a.lens.now.w c.loop-i.strips c.loop-i.i (omega (arith, c.loop-i.auto.strips)) c.loop-i.invariant.shown)
-    px py column row
+    let lens = c.args.lens.now in
+    let end = last_part lens.h (length c.args.strips.now) c.loop-i.i c.requires.strips.count (omega arith) in
+    c.loop-i.invariant.coloured px py (record { left = omega arith; right = omega (arith, column); top = omega arith; bottom = omega (arith, row, end) })

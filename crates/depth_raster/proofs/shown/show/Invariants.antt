@@ -1,13 +1,7 @@
-use Rattle.std.proofs.Common.{◌≡◌}
-use Rattle.depth_raster.specs.Shown.{IsAssembled}
-use Rattle.depth_raster.proofs.Composing.{StripsShown}
-use Rattle.depth_raster.proofs.Tiling.{PartsSoFar}
+use Rattle.std.specs.Prelude.{◌*◌, min}
+use Rattle.depth_raster.specs.Canvas.{colour_at}
+use Rattle.depth_raster.specs.Shown.{SetsBlock}
 use Rattle.depth_raster.proofs.shown.show.Given as goal
 
 abbrev pub invariant-loop-i : goal.invariant-loop-i
-invariant-loop-i l = record {
-  width : l.image.width ≡ l.initial.image.width;
-  height : l.image.height ≡ l.initial.image.height;
-  parts : PartsSoFar IsAssembled l.initial.strips l.strips l.i;
-  shown : StripsShown l.image l.lens.w l.strips l.i;
-}
+invariant-loop-i l = SetsBlock l.initial.image l.image (record { left = 0; first = 0; width = l.lens.w; rows = min (16 * l.i) l.lens.h }) (colour_at l.strips)

@@ -6,6 +6,7 @@ use Rattle.depth_raster.specs.Spans.{becomes}
 use Rattle.depth_raster.specs.Marks.{no_mark}
 use Rattle.depth_raster.specs.Tiles.{mark_in, within, face_over}
 use Rattle.depth_raster.specs.declared.marks.Mark.{Mark}
+use Rattle.depth_raster.specs.Weighed.{IsInnerSumAt}
 use Rattle.depth_raster.proofs.Weighed.{inner_sum_at, inner_values}
 use Rattle.depth_raster.proofs.Following.{none_spanned, span_written}
 use Rattle.depth_raster.proofs.Narrowed.{narrow_next, narrow_fits}
@@ -28,9 +29,6 @@ sum-requires c =
     inner_values a.face.now (b.left + q) (b.first + a.run.now.r) c.loop-q.values c.loop-q.invariant.values
     (c.requires.inner (b.left + q) (omega (arith, c.loop-q.auto.q)) (omega (arith, c.loop-q-test.true)))
 
-pub draw-requires-clause-sum : goal.draw-requires-clause-sum
-draw-requires-clause-sum c = c.sum.ensures.bound
-
 pub loop-q-preserved : goal.loop-q-preserved
 loop-q-preserved c =
     let a = c.args in
@@ -47,7 +45,7 @@ loop-q-preserved c =
       top = c.requires.inside.top;
       bottom = c.requires.inside.bottom;
     } in
-    let sum = inner_sum_at f (b.left + q) (b.first + r) v c.sum.result are c.sum.ensures in
+    let sum = subst (λ (s : ℕ). IsInnerSumAt f (b.left + q) (b.first + r) s) (sym c.from.ensures) (inner_sum_at f (b.left + q) (b.first + r) v c.sum.result are c.sum.ensures) in
     let g = within b (face_over a.lens.now a.piece.now.face) in
     let place = c.place.result in
     let here = c.draw.ensures a.piece.now f a.lens.now (b.left + q) (b.first + r) c.requires.stamp c.requires.face (omega (arith, column, c.requires.block.columns)) (omega (arith, c.requires.run.row, c.requires.block.rows)) c.requires.ready inside sum in

@@ -1,21 +1,11 @@
-use Rattle.std.proofs.Common.{◌+◌, ◌-◌, Option, subst, arith}
-use Rattle.std.specs.Option.{IfSome}
-use Rattle.depth_raster.specs.Narrow.{IsLineAt}
+use Rattle.std.proofs.Common.{arith}
 use Rattle.depth_raster.specs.Tiles.{mark_in, within, face_over}
-use Rattle.edge_values.specs.declared.narrow.NarrowLine.{NarrowLine}
 use Rattle.depth_raster.proofs.Skipped.{missed_left, missed_right}
 use Rattle.depth_raster.proofs.Spanned.{row_by_span}
 use Rattle.depth_raster.proofs.tiles.draw_row.Goals as goal
 
-pub line_of-requires-clause-small : goal.line_of-requires-clause-small
-line_of-requires-clause-small c = λ small. c.requires.ready.small small c.args.face.now c.requires.face
-
-pub draw_narrow-requires-clause-line : goal.draw_narrow-requires-clause-line
-draw_narrow-requires-clause-line c =
-    let a = c.args in
-    let b = a.block.now in
-    let run = a.run.now in
-    subst (λ (o : Option NarrowLine). IfSome o (IsLineAt a.face.now (b.left + run.start) (b.left + (run.end - 1)) (b.first + run.r))) c.in-Some.is c.line_of.ensures
+pub small_line-line-requires-clause-small : goal.small_line-line-requires-clause-small
+small_line-line-requires-clause-small c = c.requires.ready.small c.if-piece.true c.args.face.now c.requires.face
 
 pub draw_narrow-requires-clause-inside : goal.draw_narrow-requires-clause-inside
 draw_narrow-requires-clause-inside c = record {
@@ -33,8 +23,8 @@ draw_wide-requires-clause-inside c = record {
   bottom = c.requires.bottom;
 }
 
-pub returns-in-Some : goal.returns-in-Some
-returns-in-Some c =
+pub returns-then-piece : goal.returns-then-piece
+returns-then-piece c =
     let a = c.args in
     let b = a.block.now in
     let run = a.run.now in
@@ -42,8 +32,8 @@ returns-in-Some c =
     (λ q before column. missed_left a.lens.now a.piece.now b a.marks.now q run.r c.requires.ready c.requires.block column c.requires.run.row (omega (arith, before, c.requires.start)))
     (λ q behind column. missed_right a.lens.now a.piece.now b a.marks.now q run.r c.requires.ready c.requires.block column c.requires.run.row (omega (arith, behind, column, c.requires.end)))
 
-pub returns-in-None : goal.returns-in-None
-returns-in-None c =
+pub returns-else-piece : goal.returns-else-piece
+returns-else-piece c =
     let a = c.args in
     let b = a.block.now in
     let run = a.run.now in

@@ -6,20 +6,15 @@ use Rattle.edge_values.specs.Weights.{AreInner, IsInnerSum}
 use Rattle.depth_raster.proofs.Looking.{not_inner}
 use Rattle.depth_raster.proofs.Readied.{face_hits}
 use Rattle.depth_raster.proofs.Skipped.{mark_missed}
+use Rattle.depth_raster.specs.Weighed.{IsInnerSumAt}
 use Rattle.depth_raster.proofs.Weighed.{inner_sum_at, inner_values}
 use Rattle.depth_raster.proofs.tiles.draw_values.Goals as goal
-
-pub draw-requires-clause-sum : goal.draw-requires-clause-sum
-draw-requires-clause-sum c =
-    let v = c.args.values.now in
-    let some = subst (λ (o : Option ℕ). IfSome o (IsInnerSum v.first v.second v.third)) c.in-Some.is c.inner_sum.ensures.some in
-    some.bound
 
 pub returns-in-Some : goal.returns-in-Some
 returns-in-Some c = λ p f lens px py stamp face column row ready inside are.
     let v = c.args.values.now in
     let some = subst (λ (o : Option ℕ). IfSome o (IsInnerSum v.first v.second v.third)) c.in-Some.is c.inner_sum.ensures.some in
-    c.draw.ensures p f lens px py stamp face column row ready inside (inner_sum_at f px py v c.in-Some.sum are some)
+    c.draw.ensures p f lens px py stamp face column row ready inside (subst (λ (s : ℕ). IsInnerSumAt f px py s) (sym c.from.ensures) (inner_sum_at f px py v c.in-Some.sum are some))
 
 pub returns-in_default : goal.returns-in_default
 returns-in_default c = λ p f lens px py stamp face column row ready inside are.

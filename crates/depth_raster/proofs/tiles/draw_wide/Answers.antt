@@ -1,67 +1,16 @@
-use Rattle.std.proofs.Common.{ℕ, ◌+◌, ◌<◌, List, get_or, refl, sym, subst, arith}
-use Rattle.depth_raster.specs.Around.{IsWithin}
-use Rattle.depth_raster.specs.Edges.{AreValuesAt}
-use Rattle.depth_raster.specs.Following.{SpanRelates}
-use Rattle.depth_raster.specs.Spans.{becomes}
-use Rattle.depth_raster.specs.Marks.{no_mark}
-use Rattle.depth_raster.specs.Tiles.{mark_in, within, face_over}
-use Rattle.depth_raster.specs.declared.marks.Mark.{Mark}
-use Rattle.depth_raster.proofs.Edged.{values_next, values_fit}
-use Rattle.depth_raster.proofs.Weighed.{small_weight, weighed_at}
-use Rattle.depth_raster.proofs.Following.{none_spanned, span_written}
+use Rattle.std.proofs.Common.{◌+◌, ◌-◌}
+use Rattle.depth_raster.proofs.LineSigns.{ends_inside, values_inner}
 use Rattle.depth_raster.proofs.tiles.draw_wide.Goals as goal
 
-pub loop-q-init : goal.loop-q-init
-loop-q-init c =
+pub draw_wide_inside-requires-clause-inner : goal.draw_wide_inside-requires-clause-inner
+draw_wide_inside-requires-clause-inner c =
     let a = c.args in
-    let b = a.block.now in
-    record {
-      drawn = none_spanned b (mark_in b a.marks.now) (becomes (within b (face_over a.lens.now a.piece.now.face))) a.run.now.r a.run.now.start;
-      values = c.values_at-values.ensures;
-    }
-
-pub draw_pixel-requires-clause-weight : goal.draw_pixel-requires-clause-weight
-draw_pixel-requires-clause-weight c =
-    let v = c.loop-q.values in
-    small_weight v.first v.second v.third c.covered.result c.covered.ensures.some
-
-pub loop-q-preserved : goal.loop-q-preserved
-loop-q-preserved c =
-    let a = c.args in
-    let b = a.block.now in
     let f = a.face.now in
-    let r = a.run.now.r in
-    let q = c.loop-q.q in
-    let v = c.loop-q.values in
-    let are = c.loop-q.invariant.values in
-    let column : q < b.width = omega (arith, c.loop-q-test.true, c.requires.run.within) in
-    let inside : IsWithin a.piece.now.extent (b.left + q) (b.first + r) = record {
-      left = omega (arith, c.requires.inside.left, c.loop-q.auto.q);
-      right = omega (arith, c.requires.inside.right, c.loop-q-test.true);
-      top = c.requires.inside.top;
-      bottom = c.requires.inside.bottom;
-    } in
-    let weighed = weighed_at f (b.left + q) (b.first + r) v.first v.second v.third c.covered.result are.first_is are.second_is are.third_is c.covered.ensures.some c.covered.ensures.none in
-    let g = within b (face_over a.lens.now a.piece.now.face) in
-    let place = c.place.result in
-    let here = c.draw_pixel.ensures a.lens.now (b.left + q) (b.first + r) (omega (arith, column, c.requires.block.columns)) (omega (arith, c.requires.run.row, c.requires.block.rows)) c.requires.ready inside weighed in
-    record {
-      drawn = subst (λ (ms : List Mark). SpanRelates b (mark_in b a.marks.now) (mark_in b ms) (becomes g) r a.run.now.start (q + 1)) (sym here)
-          (span_written (λ (m : Mark). m) no_mark b (mark_in b a.marks.now) c.loop-q.marks (becomes g) r a.run.now.start q place (g q r (get_or c.loop-q.marks place no_mark))
-          c.loop-q.invariant.drawn (omega (arith, c.requires.len)) (omega (arith, c.loop-q.auto.q)) column c.requires.run.row c.place.ensures refl);
-      values = subst (λ (n : ℕ). AreValuesAt f n (b.first + r) c.plus-values.result) (omega arith)
-          (values_next f (b.left + q) (b.first + r) v c.steps_of-steps.result c.plus-values.result are c.steps_of-steps.ensures c.plus-values.ensures);
-    }
-
-pub plus-values-requires : goal.plus-values-requires
-plus-values-requires c =
-    let a = c.args in
     let b = a.block.now in
-    values_fit a.face.now (b.left + c.loop-q.q) (b.first + a.run.now.r) c.loop-q.values c.steps_of-steps.result c.loop-q.invariant.values c.steps_of-steps.ensures
-    (omega (arith, c.loop-q-test.true, c.requires.run.within, c.requires.block.columns, a.lens.now.in_range.most_width)) (omega (arith, c.requires.run.row, c.requires.block.rows, a.lens.now.in_range.most_height))
-
-pub returns : goal.returns
-returns c =
-    let a = c.args in
-    let b = a.block.now in
-    subst (λ (n : ℕ). SpanRelates b (mark_in b a.marks.now) (mark_in b c.loop-q.marks) (becomes (within b (face_over a.lens.now a.piece.now.face))) a.run.now.r a.run.now.start n) (omega (arith, c.requires.run.some)) c.loop-q.invariant.drawn
+    let run = a.run.now in
+    let px = b.left + run.start in
+    let end = b.left + (run.end - 1) in
+    let py = b.first + run.r in
+    ends_inside f px end py
+    (values_inner f px py c.values_at-values.result c.values_at-values.ensures (c.are_inner.ensures.0 c.if-are_inner.true))
+    (values_inner f end py c.values_at-last.result c.values_at-last.ensures (c.are_inner-then-are_inner.ensures.0 c.if-are_inner-2.true))

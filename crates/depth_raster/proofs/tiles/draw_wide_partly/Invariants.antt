@@ -3,7 +3,7 @@ use Rattle.depth_raster.specs.Edges.{AreValuesAt}
 use Rattle.depth_raster.specs.Following.{SpanRelates}
 use Rattle.depth_raster.specs.Spans.{becomes}
 use Rattle.depth_raster.specs.Tiles.{mark_in, within, face_over}
-use Rattle.depth_raster.proofs.tiles.draw_wide.Given as goal
+use Rattle.depth_raster.proofs.tiles.draw_wide_partly.Given as goal
 
 abbrev pub invariant-loop-q : goal.invariant-loop-q
 invariant-loop-q l = record {

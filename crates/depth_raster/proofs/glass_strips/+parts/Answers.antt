@@ -3,13 +3,13 @@ use Rattle.depth_raster.specs.Strips.{StripRelates}
 use Rattle.depth_raster.specs.Tiles.{ColoursFollow, pieces_glazes}
 use Rattle.depth_raster.specs.declared.strip.Strip.{Strip}
 use Rattle.depth_raster.proofs.Halves.{EachRelates, halves_relate}
-use Rattle.depth_raster.proofs.glass_strips.+halves.Goals as goal
+use Rattle.depth_raster.proofs.glass_strips.+parts.Goals as goal
 
 pub glaze_strips-returns : goal.glaze_strips-returns
 glaze_strips-returns g t c =
     let a = c.args in
     let cut = c.split_at_mut-upper in
-    let halves = c.glaze_halves in
+    let parts = c.glaze_parts in
     let P = StripRelates (ColoursFollow (pieces_glazes a.lens.now a.pieces.now)) in
-    subst (λ (xs : List Strip). EachRelates P xs (halves.new.upper ++ halves.new.lower)) (sym cut.ensures.value)
-    (halves_relate P cut.result.0.now halves.new.upper cut.result.1.now halves.new.lower (omega (arith, halves.auto.upper)) halves.ensures.upper halves.ensures.lower)
+    subst (λ (xs : List Strip). EachRelates P xs (parts.new.upper ++ parts.new.lower)) (sym cut.ensures.value)
+    (halves_relate P cut.result.0.now parts.new.upper cut.result.1.now parts.new.lower (omega (arith, parts.auto.upper)) parts.ensures.upper parts.ensures.lower)
