@@ -115,6 +115,12 @@ pub fn for_each_mut<R, T>(_rt: &R, values: &mut [T], _threads: usize, act: &dyn 
     }
 }
 
+pub fn for_each_chunk_mut<R, T>(_rt: &R, values: &mut [T], size: usize, act: &dyn Fn(usize, &mut [T])) {
+    for (i, part) in values.chunks_mut(size).enumerate() {
+        act(i * size, part);
+    }
+}
+
 pub fn nearest_i64_to_f64(n: i64) -> f64 {
     n as f64
 }

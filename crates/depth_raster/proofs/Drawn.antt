@@ -1,19 +1,18 @@
 -- Pieces over a tile: what is seen.
-use Rattle.std.proofs.Common.{◌≡◌, ℕ, ◌+◌, ◌/◌, ◌<◌, Bool, true, false, List, get_or, refl, ap, sym, ◌∙◌, subst, arith}
+use Rattle.std.proofs.Common.{◌≡◌, ℕ, ◌+◌, ◌<◌, Bool, true, false, List, length, get_or, refl, ap, sym, ◌∙◌, subst, arith}
 use Rattle.std.specs.Prelude.{fold}
 use Rattle.fx_math.specs.declared.lenses.Lens.{Lens}
 use Rattle.tri_cover.specs.Picture.{nearer}
-use Rattle.depth_raster.specs.Blocks.{IsBlockOf, colour_in}
+use Rattle.depth_raster.specs.Blocks.{colour_in}
 use Rattle.depth_raster.specs.Marks.{seen_as}
 use Rattle.depth_raster.specs.Pieces.{AreRanked, fragments_by, pieces_over, IsColoured}
 use Rattle.depth_raster.specs.Slots.{slots_over}
-use Rattle.depth_raster.specs.Strips.{AreTilesOf, TilesRelate, IsStripOf, StripRelates}
+use Rattle.depth_raster.specs.Strips.{AreTilesOf, TilesRelate}
 use Rattle.depth_raster.specs.Tiles.{marks_of, mark_in, MarksFollow, IsPainted, IsAt, IsBegun, IsDrawn, IsDrawnFrom}
 use Rattle.depth_raster.specs.declared.blocks.Block.{Block}
 use Rattle.depth_raster.specs.declared.marks.Mark.{Mark}
 use Rattle.depth_raster.specs.declared.pieces.Piece.{Piece}
 use Rattle.depth_raster.specs.declared.slots.Slot.{Slot}
-use Rattle.depth_raster.specs.declared.strip.Strip.{Strip}
 use Rattle.depth_raster.specs.declared.tile.Tile.{Tile}
 use Rattle.depth_raster.proofs.Settling.{pieces_seen, pieces_blank}
 use Rattle.depth_raster.proofs.Slotted.{tiles_kept}
@@ -84,20 +83,12 @@ begun_block false t start begun = (begun.settled refl).block
 pub drawn_block : (lens : Lens) (back : List ℕ) (ps : List Piece) (first : Bool) (before after : Tile) → IsDrawnFrom lens back ps first before after → after.block ≡ before.block
 drawn_block lens back ps first before after h = h.drawn.block ∙ begun_block first before h.start h.begun
 
--- a strip stays a strip
-pub strip_begun : (lens : Lens) (first : Bool) (s t : Strip) → IsStripOf lens s → StripRelates (IsBegun first) s t → IsStripOf lens t
-strip_begun lens first s t is begun = record {
-  band = subst (λ (b : Block). IsBlockOf lens b) (sym begun.band) is.band;
-  begins = subst (λ (b : Block). b.first < lens.h) (sym begun.band) is.begins;
-  share = subst (λ (b : Block). (r : ℕ) → r < b.rows → (b.first + r) / 64 ≡ b.first / 64) (sym begun.band) is.share;
-  tiles = subst (λ (b : Block). AreTilesOf b t.tiles.items) (sym begun.band)
-      (tiles_kept s.band s.tiles.items t.tiles.items is.tiles begun.count
-      (λ j d below. begun_block first (get_or s.tiles.items j d) (get_or t.tiles.items j d) (begun.tiles j d below)));
-}
+pub begun_tiles_kept : (first : Bool) (band : Block) (before after : List Tile) → AreTilesOf band before → length after ≡ length before → TilesRelate (IsBegun first) before after → AreTilesOf band after
+begun_tiles_kept first band before after are long begun = tiles_kept band before after are long (λ j d below. begun_block first (get_or before j d) (get_or after j d) (begun j d below))
 
-pub tiles_drawn_from : (lens : Lens) (back : List ℕ) (ps : List Piece) (first : Bool) (s t : Strip) (after : List Tile) → StripRelates (IsBegun first) s t → TilesRelate (IsDrawn lens back ps) t.tiles.items after → TilesRelate (IsDrawnFrom lens back ps first) s.tiles.items after
-tiles_drawn_from lens back ps first s t after begun drawn j d below = record {
-  start = get_or t.tiles.items j d;
-  begun = begun.tiles j d below;
-  drawn = drawn j d (omega (arith, below, begun.count));
+pub tiles_drawn_from : (lens : Lens) (back : List ℕ) (ps : List Piece) (first : Bool) (before start after : List Tile) → length start ≡ length before → TilesRelate (IsBegun first) before start → TilesRelate (IsDrawn lens back ps) start after → TilesRelate (IsDrawnFrom lens back ps first) before after
+tiles_drawn_from lens back ps first before start after long begun drawn j d below = record {
+  start = get_or start j d;
+  begun = begun j d below;
+  drawn = drawn j d (omega (arith, below, long));
 }

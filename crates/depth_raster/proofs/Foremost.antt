@@ -20,7 +20,7 @@ use Rattle.tri_cover.proofs.Signs.{inside_above, inside_flat}
 use Rattle.tri_cover.proofs.Turned.{turned_edges, judged_turned, turned_above, weighed_turned}
 use Rattle.tri_cover.proofs.Weights.{seen_pixel}
 use Rattle.depth_raster.specs.Blocks.{IsBlockOf}
-use Rattle.depth_raster.specs.Slots.{IsLeast}
+use Rattle.depth_raster.specs.Pieces.{IsLeast}
 use Rattle.depth_raster.specs.Tiles.{IsBehind}
 use Rattle.depth_raster.specs.declared.blocks.Block.{Block}
 use Rattle.depth_raster.specs.declared.faces.Face.{Face}

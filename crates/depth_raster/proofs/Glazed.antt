@@ -106,7 +106,7 @@ pub nothing_glazed : (lens : Lens) (strips : List Strip) (ps : List Piece) → G
 nothing_glazed lens strips ps = record { behind = λ px py column row. refl; colours = λ px py column row. refl }
 
 -- a face more
-pub pane_more : (lens : Lens) (strips : List Strip) (f : Face) (before after : List Piece) → IsWithFace f before after → Glazes lens strips before strips after (face_glazed lens f)
+pub pane_more : (lens : Lens) (strips : List Strip) (f : Face) (before after : List Piece) → IsWithFace (record f { rank = length before + 1 }) before after → Glazes lens strips before strips after (face_glazed lens f)
 unfolding glazed_by_face fragment_by
 pane_more lens strips f before after is = record {
   behind = λ px py column row. refl;

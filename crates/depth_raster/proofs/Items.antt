@@ -1,5 +1,5 @@
 -- Items drawn triangle by triangle, and lists item by item.
-use Rattle.std.proofs.Common.{◌≡◌, ℕ, zero, suc, ◌+◌, ◌≤◌, Bool, true, false, cond, List, [], ◌∷◌, ◌++◌, length, take, Option, Some, None, option_map, refl, ap, sym, ◌∙◌, add-one}
+use Rattle.std.proofs.Common.{◌≡◌, ℕ, zero, suc, ◌+◌, ◌≤◌, Bool, true, false, cond, List, [], ◌∷◌, ◌++◌, length, take, Option, Some, None, option_map, refl, ap, sym, ◌∙◌, subst, add-one}
 use Rattle.std.specs.Prelude.{fold, filter, filter_map, flat_map, is_none}
 use Rattle.std.specs.List.{enumerate_from, slice_get}
 use Rattle.std.specs.Option.{option_map_or, option_to_list}
@@ -7,15 +7,19 @@ use Rattle.std.proofs.lemmas.Option.{get_or_from_slice_get, slice_get_within}
 use Rattle.std.proofs.lemmas.List.{append-nil}
 use Rattle.std.proofs.lemmas.List.Sums.{fold-append}
 use Rattle.std.proofs.lemmas.List.Concat.{flat_map-append}
+use Rattle.fx_math.specs.Plain.{Matrix}
+use Rattle.draw_list.specs.Items.{instance_of_item}
+use Rattle.draw_list.specs.Joints.{steps_at}
+use Rattle.draw_list.specs.declared.items.Item.{Item}
 use Rattle.fx_math.specs.declared.lenses.Lens.{Lens}
 use Rattle.pf_model.specs.declared.geometry.Tri.{Tri}
 use Rattle.pf_model.specs.Walks.{Instance}
 use Rattle.tri_cover.specs.declared.hit.Hit.{Hit}
-use Rattle.tri_cover.specs.Hits.{hit}
+use Rattle.tri_cover.specs.Hits.{hit, HitsAs}
 use Rattle.tri_cover.specs.Glass.{is_opaque, alpha_of}
 use Rattle.tri_cover.specs.Picture.{Fragment, fragment_of, fragment_at, fragments, nearer, glazed, glazed_by, opaque_fragments}
 use Rattle.depth_raster.specs.declared.faces.Face.{Face}
-use Rattle.depth_raster.specs.Faces.{fragment_in, fragment_by, over, glazed_by_face, IsFaceOf}
+use Rattle.depth_raster.specs.Faces.{fragment_in, fragment_by, fragment_after, face_of_item, over, glazed_by_face, IsFaceOf}
 use Rattle.depth_raster.specs.Drawing.{instance_over, opaque_over, instance_glazes}
 use Rattle.depth_raster.proofs.Folding.{fold_numbered_more, fold_numbered_all}
 
@@ -28,15 +32,32 @@ face_shows x n t f lens px py is = ap (option_map (fragment_in f)) (is.tri lens 
     by None = refl
     by (Some h) = rw (is.shift, is.place, is.number)
 
+-- so does one whose triangle has the steps of its instance left
+face_shows_after : (lists : List (List Matrix)) (tris : List Tri) (item : Item) (n : ℕ) (t : Tri) (lens : Lens) (px py : ℕ) → fragment_after (steps_at lists item.joint) lens px py (face_of_item item n t) ≡ fragment_at lens px py (instance_of_item lists tris item) (n, t)
+unfolding fragment_after
+face_shows_after lists tris item n t lens px py = by (hit lens px py (steps_at lists item.joint) t)
+  where
+    by : (h : Option Hit) → option_map (fragment_in (face_of_item item n t)) h ≡ option_map (fragment_of (instance_of_item lists tris item) n) h
+    by None = refl
+    by (Some h) = refl
+
+-- a face whose triangle has come to the eye stands for it
+pub face_stands : (lists : List (List Matrix)) (tris : List Tri) (item : Item) (n : ℕ) (t carried : Tri) (f : Face) → HitsAs t (steps_at lists item.joint) carried → f ≡ face_of_item item n carried → IsFaceOf (instance_of_item lists tris item) n t f
+face_stands lists tris item n t carried f hits is =
+    subst (λ (g : Face). IsFaceOf (instance_of_item lists tris item) n t g) (sym is) (record { tri = hits; place = refl; shift = refl; number = refl; alpha = refl })
+
 -- ---- the first n triangles of an instance
 abbrev pub part_over : Lens → Instance → ℕ → (px py : ℕ) → Option Fragment → Option Fragment
 part_over lens x n px py drawn = fold nearer drawn (filter_map (fragment_at lens px py x) (take n (enumerate_from 0 x.tris)))
 
-pub part_more : (lens : Lens) (x : Instance) (n : ℕ) (t : Tri) (f : Face) (px py : ℕ) (drawn : Option Fragment) → slice_get x.tris n ≡ Some t → IsFaceOf x n t f → over lens px py f (part_over lens x n px py drawn) ≡ part_over lens x (n + 1) px py drawn
+pub part_more : (lists : List (List Matrix)) (tris : List Tri) (lens : Lens) (item : Item) (n : ℕ) (t : Tri) (f : Face) (px py : ℕ) (drawn : Option Fragment) → slice_get (instance_of_item lists tris item).tris n ≡ Some t → f ≡ face_of_item item n t →
+    over (steps_at lists item.joint) lens px py f (part_over lens (instance_of_item lists tris item) n px py drawn) ≡ part_over lens (instance_of_item lists tris item) (n + 1) px py drawn
 unfolding over
-part_more lens x n t f px py drawn at is =
+part_more lists tris lens item n t f px py drawn at is =
+    let x = instance_of_item lists tris item in
     let m : Option Fragment = part_over lens x n px py drawn in
-    ap (λ (o : Option Fragment). option_map_or (nearer m) o m) (face_shows x n t f lens px py is)
+    ap (λ (g : Face). over (steps_at lists item.joint) lens px py g m) is
+    ∙ ap (λ (o : Option Fragment). option_map_or (nearer m) o m) (face_shows_after lists tris item n t lens px py)
     ∙ sym (fold_numbered_more nearer (fragment_at lens px py x) drawn x.tris n t (slice_get_within x.tris n t at) (sym (get_or_from_slice_get x.tris n t t at)))
 
 pub part_all : (lens : Lens) (x : Instance) (n : ℕ) (px py : ℕ) (drawn : Option Fragment) → length x.tris ≤ n → part_over lens x n px py drawn ≡ instance_over lens x px py drawn

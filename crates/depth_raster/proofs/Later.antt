@@ -11,7 +11,7 @@ use Rattle.depth_raster.specs.Later.{mark_at, ComesLast}
 use Rattle.depth_raster.specs.Looks.{IsHidden}
 use Rattle.depth_raster.specs.Marks.{goes_before, mark_of, mark_with, mark_over, no_mark}
 use Rattle.depth_raster.specs.Pieces.{IsPieceOf}
-use Rattle.depth_raster.specs.Slots.{IsLeast}
+use Rattle.depth_raster.specs.Pieces.{IsLeast}
 use Rattle.depth_raster.specs.Tiles.{marks_of, mark_in, within, face_over, IsNoNearer, IsKept, MarksFollow}
 use Rattle.depth_raster.specs.declared.blocks.Block.{Block}
 use Rattle.depth_raster.specs.declared.faces.Face.{Face}

@@ -1,5 +1,6 @@
 pub mod BlockHits
 pub mod Composing
+pub mod Copied
 pub mod Covering
 pub mod Deep
 pub mod Depths
@@ -31,6 +32,7 @@ pub mod Owing
 pub mod PaneOrder
 pub mod PanesLeft
 pub mod PixelTiles
+pub mod Prepared
 pub mod Readied
 pub mod Settling
 pub mod Shared

@@ -34,19 +34,12 @@ band_within lens i begins = record { columns = omega arith; rows = omega arith }
 pub band_begins : (h n i : ℕ) → n ≡ div_ceil h 16 → i < n → 16 * i < h
 band_begins h n i count below = let bound : (h ≤ div_ceil h 16 * 16) × (div_ceil h 16 * 16 < h + 16) = div_ceil_times h 16 (omega arith) in omega (arith, bound.1, count)
 
--- sixteen rows from a multiple of sixteen on are among the same sixty-four
-same_share : (first r i : ℕ) → first ≡ 16 * i → r < 16 → (first + r) / 64 ≡ first / 64
-same_share first r i is l = omega (arith, is, l)
-
 pub strips_within : (lens : Lens) (strips : List Strip) → AreStrips lens strips → (i : ℕ) (d : Strip) → i < length strips → IsStripOf lens (get_or strips i d)
 strips_within lens strips are i d below =
     let starts = band_begins lens.h (length strips) i are.count below in
     record {
       band = subst (λ (b : Block). IsBlockOf lens b) (sym (are.bands i d below)) (band_within lens i starts);
       begins = omega (arith, starts, ap (λ (b : Block). b.first) (are.bands i d below));
-      share = λ r row.
-          let first = ap (λ (b : Block). b.first) (are.bands i d below) in
-          same_share (get_or strips i d).band.first r i first (omega (arith, row, ap (λ (b : Block). b.rows) (are.bands i d below)));
       tiles = subst (λ (b : Block). AreTilesOf b (get_or strips i d).tiles.items) (sym (are.bands i d below)) (are.tiles i d below);
     }
 

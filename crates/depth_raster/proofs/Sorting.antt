@@ -11,7 +11,9 @@ use Rattle.std.proofs.lemmas.Option.{slice_get-get_or, get_or_from_slice_get}
 use Rattle.fx_math.specs.declared.lenses.Lens.{Lens}
 use Rattle.depth_raster.specs.Marks.{mark_by, mark_with, mark_over}
 use Rattle.depth_raster.specs.Pieces.{pieces_over}
+use Rattle.depth_raster.specs.Shares.{AreSlotsFor}
 use Rattle.depth_raster.specs.Slots.{mark_in_slot, slot_over, slots_over, IsSlotFor, IsSlotOf, AreSlotsOf}
+use Rattle.depth_raster.specs.declared.blocks.Block.{Block}
 use Rattle.depth_raster.specs.declared.marks.Mark.{Mark}
 use Rattle.depth_raster.specs.declared.pieces.Piece.{Piece}
 use Rattle.depth_raster.specs.declared.slots.Slot.{Slot}
@@ -49,8 +51,14 @@ slots_all ps ss n all so_far lens = record {
   over = λ px py m. so_far.over lens px py m ∙ ap (λ (qs : List Piece). pieces_over lens qs px py m) (take_all n ps all);
 }
 
-pub slots_sorted : (lens : Lens) (ps : List Piece) (before after : List Slot) → IsPermutation before after → AreSlotsOf lens ps before → AreSlotsOf lens ps after
-slots_sorted lens ps before after moved are = record {
+pub slots_sorted : (lens : Lens) (ps : List Piece) (b : Block) (before after : List Slot) → IsPermutation before after → AreSlotsFor lens ps b before → AreSlotsFor lens ps b after
+slots_sorted lens ps b before after moved are = record {
+  rows = All-permutation (IsSlotOf ps) before after moved are.rows;
+  over = λ px r m column row. nearest_permuted (mark_in_slot lens ps px (b.first + r)) m before after moved ∙ are.over px r m column row;
+}
+
+pub all_sorted : (lens : Lens) (ps : List Piece) (before after : List Slot) → IsPermutation before after → AreSlotsOf lens ps before → AreSlotsOf lens ps after
+all_sorted lens ps before after moved are = record {
   rows = All-permutation (IsSlotOf ps) before after moved are.rows;
   over = λ px py m. nearest_permuted (mark_in_slot lens ps px py) m before after moved ∙ are.over px py m;
 }

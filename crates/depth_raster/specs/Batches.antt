@@ -1,5 +1,5 @@
 -- Pieces that are drawn together.
-use Rattle.std.specs.Prelude.{◌≡◌, ◌+◌, List, [], ◌∷◌, ◌++◌, map, length}
+use Rattle.std.specs.Prelude.{◌≡◌, List, [], ◌∷◌, ◌++◌, map}
 use Rattle.depth_raster.specs.declared.faces.Face.{Face}
 use Rattle.depth_raster.specs.declared.pieces.Piece.{Piece}
 
@@ -11,4 +11,4 @@ faces_of ps = map (λ p. p.face) ps
 pub record IsWithFace (f : Face) (before after : List Piece) : Type 0 where
   pub piece : Piece
   pub pieces : after ≡ before ++ piece ∷ []
-  pub face : piece.face ≡ record f { rank = length before + 1 }
+  pub face : piece.face ≡ f

@@ -2,6 +2,7 @@
 use Rattle.std.specs.Prelude.{◌≡◌, ℕ, ◌/◌, ◌%◌, ◌<◌, Bool, if◌then◌else◌, List, [], fold, Option, None, option_and_then, slice_get}
 use Rattle.std.specs.Option.{option_map_or}
 use Rattle.fx_math.specs.declared.lenses.Lens.{Lens}
+use Rattle.fx_math.specs.Plain.{Matrix}
 use Rattle.tri_cover.specs.Picture.{Fragment, nearer}
 use Rattle.depth_raster.specs.Blocks.{colour_in}
 use Rattle.pf_model.specs.Walks.{Instance}
@@ -9,8 +10,9 @@ use Rattle.depth_raster.specs.Drawing.{instance_glazes, glass_glazes}
 use Rattle.depth_raster.specs.Faces.{over, glazed_by_face}
 use Rattle.depth_raster.specs.Following.{Follows}
 use Rattle.depth_raster.specs.Marks.{no_mark, behind_as}
-use Rattle.depth_raster.specs.Pieces.{fragments_by, pieces_glaze}
+use Rattle.depth_raster.specs.Pieces.{fragments_by, fragments_after, pieces_glaze}
 use Rattle.depth_raster.specs.Tiles.{marks_of, mark_in, seen_in}
+use Rattle.depth_raster.specs.declared.bare.Bare.{Bare}
 use Rattle.depth_raster.specs.declared.faces.Face.{Face}
 use Rattle.depth_raster.specs.declared.marks.Mark.{Mark}
 use Rattle.depth_raster.specs.declared.pieces.Piece.{Piece}
@@ -45,6 +47,10 @@ behind_at strips px py = behind_as (mark_at strips px py)
 abbrev pub drawn_with : Lens → (first : Bool) → List Strip → List Piece → (px py : ℕ) → Option Fragment
 drawn_with lens first strips ps px py = fold nearer (seen_from first strips px py) (fragments_by lens px py ps)
 
+-- the same, and then the faces that are still to come to the eye
+abbrev pub drawn_after : List (List Matrix) → Lens → (first : Bool) → List Strip → List Piece → List Bare → (px py : ℕ) → Option Fragment
+drawn_after lists lens first strips ps bs px py = fold nearer (drawn_with lens first strips ps px py) (fragments_after lists lens px py bs)
+
 -- the colour at a pixel once pieces of glass are drawn
 abbrev pub glazed_with : Lens → List Strip → List Piece → (px py : ℕ) → List ℕ
 glazed_with lens strips ps px py = pieces_glaze lens ps (behind_at strips px py) px py (colour_at strips px py)
@@ -55,6 +61,13 @@ abbrev pub Draws : Lens → (first : Bool) → (strips : List Strip) → (ps : L
 Draws lens first strips ps first' strips' ps' f =
     Follows lens.w lens.h (drawn_with lens first strips ps) (drawn_with lens first' strips' ps') f
 
+-- the same, with faces that are still to come to the eye
+abbrev pub Gathers : List (List Matrix) → Lens → (first : Bool) → (strips : List Strip) → (ps : List Piece) → (bs : List Bare)
+    → (first' : Bool) → (strips' : List Strip) → (ps' : List Piece) → (bs' : List Bare)
+    → (f : ℕ → ℕ → Option Fragment → Option Fragment) → Type 0
+Gathers lists lens first strips ps bs first' strips' ps' bs' f =
+    Follows lens.w lens.h (drawn_after lists lens first strips ps bs) (drawn_after lists lens first' strips' ps' bs') f
+
 -- at each pixel f is made of the colour once the pieces are drawn, and what glass has behind it stays
 pub record Glazes (lens : Lens) (strips : List Strip) (ps : List Piece) (strips' : List Strip) (ps' : List Piece)
     (f : Option Fragment → ℕ → ℕ → List ℕ → List ℕ) : Type 0 where
@@ -62,9 +75,9 @@ pub record Glazes (lens : Lens) (strips : List Strip) (ps : List Piece) (strips'
   pub colours : (px py : ℕ) → px < lens.w → py < lens.h
       → glazed_with lens strips' ps' px py ≡ f (behind_at strips px py) px py (glazed_with lens strips ps px py)
 
--- what a face makes of what is seen
-abbrev pub face_drawn : Lens → Face → (px py : ℕ) → Option Fragment → Option Fragment
-face_drawn lens f px py drawn = over lens px py f drawn
+-- what a face makes of what is seen, where its triangle has these steps left
+abbrev pub face_drawn : List Matrix → Lens → Face → (px py : ℕ) → Option Fragment → Option Fragment
+face_drawn steps lens f px py drawn = over steps lens px py f drawn
 
 -- what a face of glass makes of a colour
 abbrev pub face_glazed : Lens → Face → (behind : Option Fragment) → (px py : ℕ) → List ℕ → List ℕ

@@ -2,8 +2,11 @@
 use Rattle.std.specs.Prelude.{◌≡◌, ℕ, ◌-◌, List, [], Option}
 use Rattle.std.specs.Option.{option_map, option_map_or}
 use Rattle.fx_math.specs.declared.lenses.Lens.{Lens}
+use Rattle.fx_math.specs.Plain.{Matrix}
 use Rattle.pf_model.specs.declared.geometry.Tri.{Tri}
 use Rattle.pf_model.specs.Walks.{Instance}
+use Rattle.draw_list.specs.declared.items.Item.{Item}
+use Rattle.draw_list.specs.Items.{instance_of_item}
 use Rattle.tri_cover.specs.declared.hit.Hit.{Hit}
 use Rattle.tri_cover.specs.Glass.{alpha_of}
 use Rattle.tri_cover.specs.Hits.{hit, HitsAs}
@@ -19,9 +22,13 @@ fragment_in f h =
 unfoldable pub fragment_by : Lens → (px py : ℕ) → Face → Option Fragment
 fragment_by lens px py f = option_map (fragment_in f) (hit lens px py [] f.tri)
 
--- the nearer of what is drawn at a pixel and the face
-unfoldable pub over : Lens → (px py : ℕ) → Face → Option Fragment → Option Fragment
-over lens px py f drawn = option_map_or (nearer drawn) (fragment_by lens px py f) drawn
+-- the same, where its triangle has still to take steps to the eye
+unfoldable pub fragment_after : List Matrix → Lens → (px py : ℕ) → Face → Option Fragment
+fragment_after steps lens px py f = option_map (fragment_in f) (hit lens px py steps f.tri)
+
+-- the nearer of what is drawn at a pixel and the face, where its triangle has still to take steps
+unfoldable pub over : List Matrix → Lens → (px py : ℕ) → Face → Option Fragment → Option Fragment
+over steps lens px py f drawn = option_map_or (nearer drawn) (fragment_after steps lens px py f) drawn
 
 -- what a hit of the face, of glass, leaves of the colour under it
 abbrev pub glazed_by_hit : Face → (behind : Option Fragment) → Option Hit → List ℕ → List ℕ
@@ -30,6 +37,11 @@ glazed_by_hit f behind h under = option_map_or (glazed behind f.alpha under) (op
 -- what the face, of glass, leaves of the colour under it
 unfoldable pub glazed_by_face : Lens → (px py : ℕ) → Face → (behind : Option Fragment) → List ℕ → List ℕ
 glazed_by_face lens px py f behind under = option_map_or (glazed behind f.alpha under) (fragment_by lens px py f) under
+
+-- the face of an item's triangle of a number, of no rank yet
+abbrev pub face_of_item : Item → (number : ℕ) → Tri → Face
+face_of_item item number tri =
+    record { tri = tri; place = item.place; shift = item.shift; number = number; rank = 0; alpha = alpha_of (instance_of_item [] [] item) }
 
 -- the face stands for the triangle of a number of an instance
 pub record IsFaceOf (x : Instance) (n : ℕ) (t : Tri) (f : Face) : Type 0 where

@@ -1,24 +1,35 @@
 -- What pieces that are drawn together make of a pixel.
-use Rattle.std.specs.Prelude.{◌≡◌, ℕ, ◌+◌, ◌-◌, ◌<◌, true, List, [], fold, filter_map, length, if◌then◌else◌, nat_lt, Option, Some, slice_get, slice_index_or}
+use Rattle.std.specs.Prelude.{◌≡◌, ℕ, ◌+◌, ◌-◌, ◌<◌, ◌≤◌, true, List, [], fold, filter_map, length, if◌then◌else◌, nat_lt, Option, Some, slice_get, slice_index_or, ◌++◌}
+use Rattle.std.specs.List.{All}
 use Rattle.std.specs.Option.{ForSome}
 use Rattle.fx_math.specs.declared.lenses.Lens.{Lens}
+use Rattle.fx_math.specs.Plain.{Matrix}
+use Rattle.draw_list.specs.Joints.{steps_at}
 use Rattle.tri_cover.specs.declared.face.Face as faces
+use Rattle.depth_raster.specs.declared.faces.Face as labels
 use Rattle.tri_cover.specs.declared.hit.Hit.{Hit}
-use Rattle.tri_cover.specs.Hits.{hit}
+use Rattle.tri_cover.specs.Hits.{hit, HitsAs}
 use Rattle.tri_cover.specs.Picture.{Fragment}
-use Rattle.depth_raster.specs.Faces.{fragment_by, glazed_by_face}
+use Rattle.depth_raster.specs.Faces.{fragment_by, fragment_after, glazed_by_face}
 use Rattle.depth_raster.specs.Marks.{mark_over}
 use Rattle.depth_raster.specs.Small.{IsSmallFace}
 use Rattle.tri_cover.specs.Readiness.{IsReady}
 use Rattle.depth_raster.specs.Around.{IsAround, IsBoxOf}
+use Rattle.depth_raster.specs.declared.bare.Bare.{Bare}
 use Rattle.depth_raster.specs.declared.marks.Mark.{Mark}
 use Rattle.depth_raster.specs.declared.pieces.Piece.{Piece}
+
+-- no mark of a hit of the face has a depth below this one
+abbrev pub IsLeast : labels.Face → (least : ℕ) → Type 0
+IsLeast f least = (lens : Lens) (px py : ℕ) (h : Hit) → px < lens.w → py < lens.h → hit lens px py [] f.tri ≡ Some h
+    → least ≤ h.depth - f.shift
 
 -- what is reckoned of a piece is right for the lens
 pub record IsPieceOf (lens : Lens) (p : Piece) : Type 0 where
   pub extent : IsAround lens p.face.tri p.extent
   pub box : IsBoxOf p.ready p.extent
   pub ready : IsReady lens p.face.tri p.ready
+  pub least : IsLeast p.face p.least
   pub small : p.small ≡ true → ForSome p.ready IsSmallFace
 
 -- the piece made ready for the lens: its face stays
@@ -30,6 +41,35 @@ pub record IsMadeReady (lens : Lens) (before after : Piece) : Type 0 where
 abbrev pub AreMadeReady : Lens → (before after : List Piece) → Type 0
 AreMadeReady lens before after =
     (i : ℕ) (d : Piece) → i < length before → IsMadeReady lens (slice_index_or before i d) (slice_index_or after i d)
+
+-- the joint of the face is there
+abbrev pub HasJoint : List (List Matrix) → Bare → Type 0
+HasJoint lists b = b.joint < length lists
+
+-- the piece is that of the face, with its triangle at the eye, and is ready for the lens
+pub record IsPrepared (lists : List (List Matrix)) (lens : Lens) (b : Bare) (p : Piece) : Type 0 where
+  pub tri : HitsAs b.face.tri (steps_at lists b.joint) p.face.tri
+  pub face : p.face ≡ record b.face { tri = p.face.tri }
+  pub ready : IsPieceOf lens p
+
+-- each of the pieces is that of its face
+abbrev pub ArePrepared : List (List Matrix) → Lens → List Bare → List Piece → Type 0
+ArePrepared lists lens bs ps =
+    (i : ℕ) (d : Bare) (e : Piece) → i < length bs → IsPrepared lists lens (slice_index_or bs i d) (slice_index_or ps i e)
+
+-- the pieces of the faces have become the last ones
+pub record AreAppended (lists : List (List Matrix)) (lens : Lens) (bs : List Bare) (before after : List Piece) : Type 0 where
+  pub fresh : List Piece
+  pub pieces : after ≡ before ++ fresh
+  pub count : length fresh ≡ length bs
+  pub prepared : ArePrepared lists lens bs fresh
+
+-- the pieces are ready, and the faces, which come after them, have their joints; they are not too many
+pub record AreGathered (lists : List (List Matrix)) (lens : Lens) (ps : List Piece) (bs : List Bare) : Type 0 where
+  pub few : length ps + length bs ≤ 16384
+  pub ready : All (IsPieceOf lens) ps
+  pub joints : All (HasJoint lists) bs
+  pub ranks : (k : ℕ) (d : Bare) → k < length bs → (slice_index_or bs k d).face.rank ≡ length ps + k + 1
 
 -- the piece has this face
 abbrev pub HasFace : Piece → faces.Face → Type 0
@@ -47,6 +87,10 @@ pub record IsRanked (ps : List Piece) (p : Piece) (rank : ℕ) : Type 0 where
 -- the fragments of pieces at a pixel
 abbrev pub fragments_by : Lens → (px py : ℕ) → List Piece → List Fragment
 fragments_by lens px py ps = filter_map (λ p. fragment_by lens px py p.face) ps
+
+-- those of faces, once their triangles have taken the steps of their joints
+abbrev pub fragments_after : List (List Matrix) → Lens → (px py : ℕ) → List Bare → List Fragment
+fragments_after lists lens px py bs = filter_map (λ b. fragment_after (steps_at lists b.joint) lens px py b.face) bs
 
 -- what pieces make of a mark
 abbrev pub pieces_over : Lens → List Piece → (px py : ℕ) → Mark → Mark

@@ -4,6 +4,7 @@ use Rattle.std.specs.Option.{ForSome}
 use Rattle.fx_math.specs.Fixed.{carry}
 use Rattle.fx_math.specs.Plain.{Matrix}
 use Rattle.fx_math.specs.Views.{point_of}
+use Rattle.draw_list.specs.Joints.{steps_at}
 use Rattle.depth_raster.specs.declared.recent.Carried.{Carried}
 use Rattle.depth_raster.specs.declared.recent.Recent.{Recent}
 
@@ -11,6 +12,6 @@ use Rattle.depth_raster.specs.declared.recent.Recent.{Recent}
 abbrev pub IsCarried : List Matrix → Carried → Type 0
 IsCarried steps c = point_of c.eye ≡ carry steps (point_of c.point)
 
--- all that are kept are so
-abbrev pub AreCarried : List Matrix → Recent → Type 0
-AreCarried steps r = All (λ o. ForSome o (IsCarried steps)) r.points
+-- all that are kept are so, by the steps of their joint
+abbrev pub AreCarried : List (List Matrix) → Recent → Type 0
+AreCarried lists r = All (λ o. ForSome o (IsCarried (steps_at lists r.joint))) r.points

@@ -1,12 +1,9 @@
 -- The order in which pieces are drawn, and what they make of a pixel.
-use Rattle.std.specs.Prelude.{◌≡◌, ℕ, ◌-◌, ◌<◌, ◌≤◌, List, [], fold, Option, Some, option_and_then, slice_get}
+use Rattle.std.specs.Prelude.{◌≡◌, ℕ, List, fold, Option, Some, option_and_then, slice_get}
 use Rattle.std.specs.List.{All}
 use Rattle.fx_math.specs.declared.lenses.Lens.{Lens}
-use Rattle.tri_cover.specs.declared.hit.Hit.{Hit}
-use Rattle.tri_cover.specs.Hits.{hit}
-use Rattle.depth_raster.specs.declared.faces.Face.{Face}
 use Rattle.depth_raster.specs.Marks.{mark_by, mark_with}
-use Rattle.depth_raster.specs.Pieces.{pieces_over}
+use Rattle.depth_raster.specs.Pieces.{IsLeast, pieces_over}
 use Rattle.depth_raster.specs.declared.marks.Mark.{Mark}
 use Rattle.depth_raster.specs.declared.pieces.Piece.{Piece}
 use Rattle.depth_raster.specs.declared.slots.Slot.{Slot}
@@ -22,11 +19,6 @@ slot_over lens ps s px py m = mark_with m (mark_in_slot lens ps px py s)
 -- what those of slots make of it, in their order
 abbrev pub slots_over : Lens → List Piece → List Slot → (px py : ℕ) → Mark → Mark
 slots_over lens ps ss px py m = fold (λ n s. slot_over lens ps s px py n) m ss
-
--- no mark of a hit of the face has a depth below this one
-abbrev pub IsLeast : Face → (least : ℕ) → Type 0
-IsLeast f least = (lens : Lens) (px py : ℕ) (h : Hit) → px < lens.w → py < lens.h → hit lens px py [] f.tri ≡ Some h
-    → least ≤ h.depth - f.shift
 
 -- the slot has the columns and rows that the piece can reach, and a least depth of its marks
 pub record IsSlotFor (p : Piece) (s : Slot) : Type 0 where

@@ -1,5 +1,5 @@
 -- A picture in strips of rows, and a strip in tiles.
-use Rattle.std.specs.Prelude.{◌≡◌, ℕ, ◌+◌, ◌-◌, ◌*◌, ◌/◌, ◌<◌, List, length, slice_index_or, min}
+use Rattle.std.specs.Prelude.{◌≡◌, ℕ, ◌+◌, ◌-◌, ◌*◌, ◌<◌, ◌≤◌, List, length, slice_index_or, min}
 use Rattle.std.specs.Int.{div_ceil}
 use Rattle.fx_math.specs.declared.lenses.Lens.{Lens}
 use Rattle.depth_raster.specs.Blocks.{IsBlockOf}
@@ -28,11 +28,10 @@ IsTiled s = AreTilesOf s.band s.tiles.items
 abbrev pub TilesRelate : (Tile → Tile → Type 0) → (before after : List Tile) → Type 0
 TilesRelate P before after = (j : ℕ) (d : Tile) → j < length before → P (slice_index_or before j d) (slice_index_or after j d)
 
--- the strip is one of the lens's picture: its rows are among the same sixty-four
+-- the strip is one of the lens's picture
 pub record IsStripOf (lens : Lens) (s : Strip) : Type 0 where
   pub band : IsBlockOf lens s.band
   pub begins : s.band.first < lens.h
-  pub share : (r : ℕ) → r < s.band.rows → (s.band.first + r) / 64 ≡ s.band.first / 64
   pub tiles : AreTilesOf s.band s.tiles.items
 
 -- P holds of each tile of a strip before and after
@@ -51,3 +50,10 @@ pub record AreStrips (lens : Lens) (strips : List Strip) : Type 0 where
   pub count : length strips ≡ div_ceil lens.h 16
   pub bands : (i : ℕ) (d : Strip) → i < length strips → (slice_index_or strips i d).band ≡ band_at lens i
   pub tiles : (i : ℕ) (d : Strip) → i < length strips → AreTilesOf (band_at lens i) (slice_index_or strips i d).tiles.items
+
+-- strips so wide, one below the other, each of sixteen rows, the last one perhaps of fewer
+pub record AreBands (width : ℕ) (strips : List Strip) : Type 0 where
+  pub widths : (i : ℕ) (d : Strip) → i < length strips → (slice_index_or strips i d).band.width ≡ width
+  pub full : (i : ℕ) (d : Strip) → i + 1 < length strips → (slice_index_or strips i d).band.rows ≡ 16
+  pub most : (i : ℕ) (d : Strip) → i < length strips → (slice_index_or strips i d).band.rows ≤ 16
+  pub tiles : (i : ℕ) (d : Strip) → i < length strips → IsTiled (slice_index_or strips i d)

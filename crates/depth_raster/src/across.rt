@@ -2,8 +2,8 @@
 ghost use Rattle.std.specs.Prelude.{◌≡◌, ◌/◌, All};
 ghost use Rattle.std.specs.Int.{div_ceil};
 ghost use Rattle.depth_raster.specs.Blocks.{IsBlockOf};
-ghost use Rattle.depth_raster.specs.Pieces.{IsPieceOf};
-ghost use Rattle.depth_raster.specs.Slots.{IsLeast, IsSlotFor, IsSlotOf, slot_over, slots_over};
+ghost use Rattle.depth_raster.specs.Pieces.{IsPieceOf, IsLeast};
+ghost use Rattle.depth_raster.specs.Slots.{IsSlotFor, IsSlotOf, slot_over, slots_over};
 ghost use Rattle.depth_raster.specs.Strips.{AreTilesOf, TilesRelate};
 ghost use Rattle.depth_raster.specs.Tiles.{face_over, IsNoNearer, MarksFollow};
 

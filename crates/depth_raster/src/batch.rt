@@ -1,120 +1,168 @@
-//! Pieces that are drawn together, and the order in which they are drawn.
-ghost use Rattle.std.specs.Prelude.{◌≡◌, ◌≤◌, ◌<◌, true, [], ◌∷◌, ◌++◌, All, length, nat_le, IfOk};
+//! Pieces that are drawn together.
+ghost use Rattle.std.specs.Prelude.{◌≡◌, ℕ, List, ◌+◌, ◌≤◌, ◌<◌, true, [], ◌∷◌, ◌++◌, All, length, nat_le, IfOk};
 ghost use Rattle.std.specs.Vec.{vec_len, vec_capacity};
 ghost use Rattle.depth_raster.specs.Pieces.{AreRanked};
 
+use crate::bare::Bare;
 use crate::faces::Face;
-use crate::pieces::{Piece, make_ready};
-use crate::share::Share;
-use crate::shares::{new_shares, share_out};
+use crate::piece_buffer::{PieceBuffer, ROOM};
 use crate::slots::{Slot, fill, sort};
+use draw_list::DrawList;
 use fx_math::Lens;
 use pf_io::NoMemory;
 use std::alloc::Global;
 use std::thread::Threads;
 
-/// The most pieces that are drawn together.
-const ROOM: usize = 16_384;
-
-/// Pieces, with the slots that order them and the shares of these, and room for as many as are drawn together. The first
-/// ones of a picture are drawn over nothing.
+/// Pieces and their slots, and faces that are still to become pieces, with room for as many as are drawn together. The first ones
+/// of a picture are drawn over nothing.
 #[derive(Drop)]
 pub(crate) struct Batch {
     pub(crate) is_first: bool,
-    pub(crate) pieces: Vec<Piece>,
-    slots: Vec<Slot>,
-    pub(crate) shares: Vec<Share>,
-    ghost few: { length pieces.items ≤ 16384 },
-    ghost ranked: { AreRanked pieces.items },
-    ghost pieces_room: { 16384 ≤ vec_capacity pieces },
+    pub(crate) pieces: PieceBuffer,
+    pub(crate) bare: Vec<Bare>,
+    pub(crate) slots: Vec<Slot>,
+    ghost few: { length pieces ≤ 16384 },
+    ghost few_bare: { length bare.items ≤ 16384 },
+    ghost ranked: { AreRanked pieces },
+    ghost bare_room: { 16384 ≤ vec_capacity bare },
     ghost slots_room: { 16384 ≤ vec_capacity slots },
-    ghost shares_some: { 0 < length shares.items },
 }
 
 impl Batch {
     ghost use Rattle.fx_math.specs.declared.lenses.Lens.{Lens};
-    ghost use Rattle.depth_raster.specs.Pieces.{IsPieceOf};
-    ghost use Rattle.depth_raster.specs.Shares.{AreSharesOf};
+    ghost use Rattle.depth_raster.specs.Pieces.{IsPieceOf, IsLeast, AreGathered, AreAppended};
+    ghost use Rattle.depth_raster.specs.Slots.{AreSlotsOf};
+    ghost use Rattle.depth_raster.specs.declared.pieces.Piece.{Piece};
     ghost use Rattle.depth_raster.specs.Batches.{IsWithFace, faces_of};
 
-    /// No pieces, to be drawn for a lens.
-    pub(crate) fn new(alloc: Global, lens: &Lens) -> Result<Batch, NoMemory>
-        ensures { IfOk result (λ b. b.pieces.items ≡ []) }
+    /// No pieces.
+    pub(crate) fn new(alloc: Global) -> Result<Batch, NoMemory>
+        ensures { IfOk result (λ b. b.pieces ≡ []) }
     {
-        let mut pieces = Vec::new(alloc);
-        pieces.reserve(ROOM)?;
+        let pieces = PieceBuffer::new(alloc)?;
+        let mut bare = Vec::new(alloc);
+        bare.reserve(ROOM)?;
         let mut slots = Vec::new(alloc);
         slots.reserve(ROOM)?;
-        let shares = new_shares(alloc, lens)?;
         Ok(Batch {
             is_first: true,
             pieces,
+            bare,
             slots,
-            shares,
         })
     }
 
-    /// Whether no piece has room.
+    /// Whether no face has room.
     pub(crate) fn is_full(&self) -> bool
-        ensures { result ≡ nat_le 16384 (length self.now.pieces.items) }
+        ensures { result ≡ nat_le 16384 (length self.now.pieces + length self.now.bare.items) }
     {
-        ROOM <= self.pieces.len()
+        ROOM <= self.pieces.len() + self.bare.len()
     }
 
     /// Begins a picture: its first pieces are still to be drawn.
     pub(crate) fn begin(&mut self)
         ensures first { self.new.is_first ≡ true }
-        ensures pieces { self.new.pieces.items ≡ self.old.pieces.items }
+        ensures pieces { self.new.pieces ≡ self.old.pieces }
     {
         self.is_first = true;
     }
 
-    /// Leaves no pieces.
+    /// Leaves no pieces and no faces.
     pub(crate) fn clear(&mut self)
-        ensures { self.new.pieces.items ≡ [] }
+        ensures pieces { self.new.pieces ≡ [] }
+        ensures bare { self.new.bare.items ≡ [] }
     {
         self.pieces.clear();
+        self.bare.clear();
     }
 
-    /// Takes a face as the last piece, which is still to be made ready.
-    pub(crate) fn push(&mut self, face: Face)
-        requires { length self.old.pieces.items < 16384 }
+    /// Leaves no faces.
+    pub(crate) fn clear_bare(&mut self)
         ensures first { self.new.is_first ≡ self.old.is_first }
-        ensures pieces { IsWithFace face self.old.pieces.items self.new.pieces.items }
+        ensures pieces { self.new.pieces ≡ self.old.pieces }
+        ensures bare { self.new.bare.items ≡ [] }
+    {
+        self.bare.clear();
+    }
+
+    /// Takes a face, whose triangle has come to the eye, as the last piece, which is still to be made ready.
+    pub(crate) fn push(&mut self, face: Face)
+        requires { length self.old.pieces < 16384 }
+        ensures first { self.new.is_first ≡ self.old.is_first }
+        ensures pieces { IsWithFace (record face { rank = length self.old.pieces + 1 }) self.old.pieces self.new.pieces }
+        ensures bare { self.new.bare.items ≡ self.old.bare.items }
     {
         let rank = self.pieces.len() as u32 + 1;
-        let piece = Piece::bare(Face { rank, ..face });
-        append(&mut self.pieces, piece);
+        self.pieces.push(Face { rank, ..face });
+    }
+
+    /// Takes a face whose triangle is in the coordinates of a joint, as the last one.
+    pub(crate) fn gather(&mut self, face: Face, joint: u32)
+        requires { length self.old.pieces + length self.old.bare.items < 16384 }
+        ensures first { self.new.is_first ≡ self.old.is_first }
+        ensures pieces { self.new.pieces ≡ self.old.pieces }
+        ensures bare { self.new.bare.items ≡ self.old.bare.items ++ record {
+          face = record face { rank = length self.old.pieces + length self.old.bare.items + 1 };
+          joint = joint;
+        } ∷ [] }
+    {
+        let rank = (self.pieces.len() + self.bare.len()) as u32 + 1;
+        let face = Face { rank, ..face };
+        append(&mut self.bare, Bare { face, joint });
+    }
+
+    /// Prepares the faces of a list, which become the last pieces: their triangles come to the eye, and they are ready to be drawn
+    /// for a lens.
+    pub(crate) fn prepare<R: Threads + Sync>(&mut self, rt: &R, list: &DrawList, lens: &Lens)
+        requires { AreGathered list.now.joints.lists lens.now self.old.pieces self.old.bare.items }
+        ensures first { self.new.is_first ≡ self.old.is_first }
+        ensures none { self.new.bare.items ≡ [] }
+        ensures pieces { AreAppended list.now.joints.lists lens.now self.old.bare.items self.old.pieces self.new.pieces }
+    {
+        self.pieces.prepare(rt, &self.bare, list, lens);
+        self.bare.clear();
     }
 
     /// Makes the pieces ready to be drawn for a lens.
     pub(crate) fn make_ready<R: Threads + Sync>(&mut self, rt: &R, lens: &Lens)
         ensures first { self.new.is_first ≡ self.old.is_first }
-        ensures faces { faces_of self.new.pieces.items ≡ faces_of self.old.pieces.items }
-        ensures ready { All (IsPieceOf lens.now) self.new.pieces.items }
+        ensures faces { faces_of self.new.pieces ≡ faces_of self.old.pieces }
+        ensures ready { All (IsPieceOf lens.now) self.new.pieces }
     {
-        make_ready(rt, &mut self.pieces, lens);
+        self.pieces.make_ready(rt, lens);
     }
 
-    /// Puts the slots of the pieces in the order of their least depths, and into shares.
-    pub(crate) fn order(&mut self)
-        ensures pieces { self.new.pieces.items ≡ self.old.pieces.items }
-        ensures shares { (lens : Lens) → All (IsPieceOf lens) self.new.pieces.items
-            → AreSharesOf lens self.new.pieces.items self.new.shares.items }
+    /// Makes the slots of the pieces, as the pieces stand.
+    pub(crate) fn fill_slots(&mut self)
+        requires { All (λ p. IsLeast p.face p.least) self.old.pieces }
+        ensures pieces { self.new.pieces ≡ self.old.pieces }
+        ensures few { length self.new.slots.items ≤ 16384 }
+        ensures slots { (lens : Lens) → AreSlotsOf lens self.new.pieces self.new.slots.items }
     {
-        fill(&mut self.slots, &self.pieces);
-        sort(&mut self.slots, &self.pieces);
-        share_out(&mut self.shares, &self.slots);
+        fill(&mut self.slots, self.pieces.as_slice());
+    }
+
+    /// Sorts the slots by the least depths of their pieces, where the strips are drawn in one part. Where there are several, each
+    /// sorts the slots of its strips.
+    pub(crate) fn sort_slots(&mut self, parts: usize)
+        ensures pieces { self.new.pieces ≡ self.old.pieces }
+        ensures count { length self.new.slots.items ≡ length self.old.slots.items }
+        ensures slots { (lens : Lens) (ps : List Piece) → AreSlotsOf lens ps self.old.slots.items
+            → AreSlotsOf lens ps self.new.slots.items }
+    {
+        if parts < 2 {
+            sort(&mut self.slots);
+        }
     }
 }
 
-/// Appends a piece, for which there is room.
-fn append(pieces: &mut Vec<Piece>, piece: Piece)
-    requires { vec_len pieces.old < vec_capacity pieces.old }
-    ensures items { pieces.new.items ≡ pieces.old.items ++ piece ∷ [] }
-    ensures capacity { vec_capacity pieces.old ≤ vec_capacity pieces.new }
+/// Appends a face, for which there is room.
+fn append(bare: &mut Vec<Bare>, face: Bare)
+    requires { vec_len bare.old < vec_capacity bare.old }
+    ensures items { bare.new.items ≡ bare.old.items ++ face ∷ [] }
+    ensures capacity { vec_capacity bare.old ≤ vec_capacity bare.new }
 {
-    match pieces.push(piece) {
+    match bare.push(face) {
         Ok(()) => {}
         Err(_) => unreachable!(),
     }

@@ -1,10 +1,10 @@
-//! Triangles of a draw list in eye coordinates.
+//! Triangles of a draw list with what their items say of them, and their way to the eye.
 ghost use Rattle.std.specs.Prelude.{◌≡◌, ◌<◌, [], length};
 ghost use Rattle.draw_list.specs.Items.{instance_of_item};
 ghost use Rattle.draw_list.specs.Joints.{steps_at};
 ghost use Rattle.tri_cover.specs.Glass.{alpha_of};
 ghost use Rattle.tri_cover.specs.Hits.{HitsAs};
-ghost use Rattle.depth_raster.specs.Faces.{IsFaceOf};
+ghost use Rattle.depth_raster.specs.Faces.{face_of_item};
 ghost use Rattle.depth_raster.specs.Recent.{AreCarried};
 
 use crate::marks::Mark;
@@ -12,7 +12,7 @@ use crate::recent::Recent;
 use draw_list::{DrawList, Item};
 use pf_model::Tri;
 
-/// A triangle in eye coordinates, with what its item says of it: its place, its decal shift, its number in the item and the
+/// A triangle, with what its item says of it: its place, its decal shift, its number in the item and the
 /// alpha of glass; and its rank among the faces that are drawn together, from 1.
 #[derive(Clone, Copy)]
 pub(crate) struct Face {
@@ -25,22 +25,12 @@ pub(crate) struct Face {
 }
 
 impl Face {
-    /// The face of the triangle of a number in an item, of no rank yet; the last points of the item that were carried to the
-    /// eye are known.
-    pub(crate) fn of(
-        list: &DrawList,
-        item: &Item,
-        number: u32,
-        tri: &Tri,
-        recent: &mut Recent,
-    ) -> Face
-        requires joint { item.now.joint < length list.now.joints.lists }
-        requires carried { AreCarried (steps_at list.now.joints.lists item.now.joint) recent.old }
-        ensures carried { AreCarried (steps_at list.now.joints.lists item.now.joint) recent.new }
-        ensures face { IsFaceOf (instance_of_item list.now.joints.lists list.now.kept.tris item.now) number tri.now result }
+    /// The face of the triangle of a number in an item, of no rank yet.
+    pub(crate) fn of(item: &Item, number: u32, tri: Tri) -> Face
+        ensures { result ≡ face_of_item item.now number tri }
     {
         Face {
-            tri: at_eye(list, item.joint, tri, recent),
+            tri,
             place: item.place,
             shift: item.shift,
             number,
@@ -78,10 +68,10 @@ fn alpha(item: &Item) -> u8
 }
 
 /// A triangle after the steps of a joint: it is hit as the triangle is after the steps.
-fn at_eye(list: &DrawList, joint: u32, tri: &Tri, recent: &mut Recent) -> Tri
+pub(crate) fn at_eye(list: &DrawList, joint: u32, tri: &Tri, recent: &mut Recent) -> Tri
     requires joint { joint < length list.now.joints.lists }
-    requires carried { AreCarried (steps_at list.now.joints.lists joint) recent.old }
-    ensures carried { AreCarried (steps_at list.now.joints.lists joint) recent.new }
+    requires carried { AreCarried list.now.joints.lists recent.old }
+    ensures carried { AreCarried list.now.joints.lists recent.new }
     ensures hits { HitsAs tri.now (steps_at list.now.joints.lists joint) result }
 {
     let [u, v, w] = tri.v;

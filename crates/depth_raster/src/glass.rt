@@ -10,12 +10,12 @@ ghost use Rattle.depth_raster.specs.Canvas.{Glazes, face_glazed, instance_glazed
 ghost use Rattle.depth_raster.specs.Strips.{AreStrips};
 
 use crate::batch::Batch;
-use crate::faces::Face;
+use crate::faces::{Face, at_eye};
 use crate::glass_strips::glaze_strips;
 use crate::panes::next_pane;
 use crate::recent::Recent;
 use crate::strip::Strip;
-use crate::work::parts_of;
+use crate::work::{parts_of, work_of_pieces};
 use draw_list::{DrawList, Item};
 use fx_math::Lens;
 use std::thread::Threads;
@@ -30,7 +30,7 @@ pub(crate) fn draw_glass<R: Threads + Sync>(
 )
     requires sound { AreStrips lens.now strips.old }
     ensures sound { AreStrips lens.now strips.new }
-    ensures glass { Glazes lens.now strips.old batch.old.pieces.items strips.new batch.new.pieces.items
+    ensures glass { Glazes lens.now strips.old batch.old.pieces strips.new batch.new.pieces
         (glass_glazed lens.now (sorted is_drawn_before (filter is_glass (instances_in list.now)))) }
 {
     let mut last = None;
@@ -55,7 +55,7 @@ fn draw_pane<R: Threads + Sync>(
 )
     requires sound { AreStrips lens.now strips.old }
     ensures sound { AreStrips lens.now strips.new }
-    ensures glass { Glazes lens.now strips.old batch.old.pieces.items strips.new batch.new.pieces.items
+    ensures glass { Glazes lens.now strips.old batch.old.pieces strips.new batch.new.pieces
         (glass_glazed lens.now (option_to_list (slice_get (instances_in list.now) number))) }
 {
     match list.item(number) {
@@ -76,16 +76,17 @@ fn draw_item<R: Threads + Sync>(
     requires sound { AreStrips lens.now strips.old }
     requires joint { item.now.joint < length list.now.joints.lists }
     ensures sound { AreStrips lens.now strips.new }
-    ensures glass { Glazes lens.now strips.old batch.old.pieces.items strips.new batch.new.pieces.items
+    ensures glass { Glazes lens.now strips.old batch.old.pieces strips.new batch.new.pieces
         (instance_glazed lens.now (instance_of_item list.now.joints.lists list.now.kept.tris item.now)) }
 {
-    let mut recent = Recent::new();
+    let mut recent = Recent::new(item.joint);
     for number in 0..item.geom.len {
         let tri = match list.tri(item.geom, number) {
             Some(tri) => tri,
             None => return,
         };
-        let face = Face::of(list, item, number, &tri, &mut recent);
+        let carried = at_eye(list, item.joint, &tri, &mut recent);
+        let face = Face::of(item, number, carried);
         draw_face(rt, strips, batch, lens, face);
     }
 }
@@ -101,7 +102,7 @@ fn draw_face<R: Threads + Sync>(
 )
     requires sound { AreStrips lens.now strips.old }
     ensures sound { AreStrips lens.now strips.new }
-    ensures glass { Glazes lens.now strips.old batch.old.pieces.items strips.new batch.new.pieces.items
+    ensures glass { Glazes lens.now strips.old batch.old.pieces strips.new batch.new.pieces
         (face_glazed lens.now face) }
 {
     make_room(rt, strips, batch, lens);
@@ -112,8 +113,8 @@ fn draw_face<R: Threads + Sync>(
 fn make_room<R: Threads + Sync>(rt: &R, strips: &mut [Strip], batch: &mut Batch, lens: &Lens)
     requires sound { AreStrips lens.now strips.old }
     ensures sound { AreStrips lens.now strips.new }
-    ensures room { length batch.new.pieces.items < 16384 }
-    ensures glass { Glazes lens.now strips.old batch.old.pieces.items strips.new batch.new.pieces.items
+    ensures room { length batch.new.pieces < 16384 }
+    ensures glass { Glazes lens.now strips.old batch.old.pieces strips.new batch.new.pieces
         (λ behind px py under. under) }
 {
     if batch.is_full() {
@@ -125,14 +126,20 @@ fn make_room<R: Threads + Sync>(rt: &R, strips: &mut [Strip], batch: &mut Batch,
 pub(crate) fn flush<R: Threads + Sync>(rt: &R, strips: &mut [Strip], batch: &mut Batch, lens: &Lens)
     requires sound { AreStrips lens.now strips.old }
     ensures sound { AreStrips lens.now strips.new }
-    ensures empty { batch.new.pieces.items ≡ [] }
-    ensures glass { Glazes lens.now strips.old batch.old.pieces.items strips.new []
+    ensures empty { batch.new.pieces ≡ [] }
+    ensures glass { Glazes lens.now strips.old batch.old.pieces strips.new []
         (λ behind px py under. under) }
 {
     if batch.pieces.len() == 0 {
         return;
     }
     batch.make_ready(rt, lens);
-    glaze_strips(rt, parts_of(rt, &batch.pieces), lens, &batch.pieces, strips);
+    glaze_strips(
+        rt,
+        parts_of(rt, work_of_pieces(batch.pieces.as_slice())),
+        lens,
+        batch.pieces.as_slice(),
+        strips,
+    );
     batch.clear();
 }

@@ -2,6 +2,7 @@
 #![tactic(auto)]
 
 mod across;
+mod bare;
 mod batch;
 mod blocks;
 mod covered;
@@ -16,6 +17,7 @@ mod glazing;
 mod hiding;
 mod last;
 pub mod laws;
+mod leasts;
 mod looks;
 mod marks;
 mod means;
@@ -23,13 +25,13 @@ mod opaque;
 mod owed;
 mod painting;
 mod panes;
+mod piece_buffer;
 mod piece_raster;
 mod pieces;
 mod pixels;
 mod raster;
 mod recent;
 mod runs;
-mod share;
 mod shares;
 mod shown;
 mod slots;

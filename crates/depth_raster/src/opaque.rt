@@ -1,19 +1,21 @@
 //! Opaque items, drawn batch by batch.
-ghost use Rattle.std.specs.Prelude.{◌≡◌, ℕ, ◌<◌, false, [], ◌∷◌, None, length};
+ghost use Rattle.std.specs.Prelude.{◌≡◌, ℕ, ◌+◌, ◌<◌, false, [], ◌∷◌, None, All, length};
 ghost use Rattle.std.specs.Option.{option_to_list};
 ghost use Rattle.std.specs.List.{slice_get};
 ghost use Rattle.draw_list.specs.Items.{instance_of_item};
+ghost use Rattle.draw_list.specs.Joints.{steps_at};
 ghost use Rattle.draw_list.specs.Lists.{instances_in};
-ghost use Rattle.depth_raster.specs.Canvas.{Draws, drawn_with, seen_at, colour_at, face_drawn};
+ghost use Rattle.depth_raster.specs.Canvas.{Draws, Gathers, drawn_with, seen_at, colour_at, face_drawn};
+ghost use Rattle.depth_raster.specs.Pieces.{IsPieceOf, AreGathered};
 ghost use Rattle.depth_raster.specs.Drawing.{instance_over, opaque_over};
 ghost use Rattle.depth_raster.specs.Strips.{AreStrips};
 
 use crate::batch::Batch;
 use crate::faces::Face;
-use crate::recent::Recent;
+use crate::shares::share_out;
 use crate::strip::Strip;
 use crate::strips::draw_strips;
-use crate::work::parts_of;
+use crate::work::{parts_of, work_of_slots};
 use draw_list::{DrawList, Item};
 use fx_math::Lens;
 use std::thread::Threads;
@@ -28,13 +30,17 @@ pub(crate) fn draw_opaque<R: Threads + Sync>(
     list: &DrawList,
 )
     requires sound { AreStrips lens.now strips.old }
+    requires ready { All (IsPieceOf lens.now) batch.old.pieces }
     ensures sound { AreStrips lens.now strips.new }
-    ensures drawn { Draws lens.now batch.old.is_first strips.old batch.old.pieces.items
-        batch.new.is_first strips.new batch.new.pieces.items (opaque_over lens.now (instances_in list.now)) }
+    ensures ready { All (IsPieceOf lens.now) batch.new.pieces }
+    ensures drawn { Draws lens.now batch.old.is_first strips.old batch.old.pieces
+        batch.new.is_first strips.new batch.new.pieces (opaque_over lens.now (instances_in list.now)) }
 {
+    batch.clear_bare();
     for number in 0..list.len() {
         draw_numbered(rt, strips, batch, lens, back, list, number);
     }
+    batch.prepare(rt, list, lens);
 }
 
 /// Draws the item of a number, where it is opaque.
@@ -48,9 +54,11 @@ fn draw_numbered<R: Threads + Sync>(
     number: usize,
 )
     requires sound { AreStrips lens.now strips.old }
+    requires gathered { AreGathered list.now.joints.lists lens.now batch.old.pieces batch.old.bare.items }
     ensures sound { AreStrips lens.now strips.new }
-    ensures drawn { Draws lens.now batch.old.is_first strips.old batch.old.pieces.items
-        batch.new.is_first strips.new batch.new.pieces.items
+    ensures gathered { AreGathered list.now.joints.lists lens.now batch.new.pieces batch.new.bare.items }
+    ensures drawn { Gathers list.now.joints.lists lens.now batch.old.is_first strips.old batch.old.pieces batch.old.bare.items
+        batch.new.is_first strips.new batch.new.pieces batch.new.bare.items
         (opaque_over lens.now (option_to_list (slice_get (instances_in list.now) number))) }
 {
     match list.item(number) {
@@ -70,10 +78,12 @@ fn draw_if_opaque<R: Threads + Sync>(
     item: &Item,
 )
     requires sound { AreStrips lens.now strips.old }
+    requires gathered { AreGathered list.now.joints.lists lens.now batch.old.pieces batch.old.bare.items }
     requires joint { item.now.joint < length list.now.joints.lists }
     ensures sound { AreStrips lens.now strips.new }
-    ensures drawn { Draws lens.now batch.old.is_first strips.old batch.old.pieces.items
-        batch.new.is_first strips.new batch.new.pieces.items
+    ensures gathered { AreGathered list.now.joints.lists lens.now batch.new.pieces batch.new.bare.items }
+    ensures drawn { Gathers list.now.joints.lists lens.now batch.old.is_first strips.old batch.old.pieces batch.old.bare.items
+        batch.new.is_first strips.new batch.new.pieces batch.new.bare.items
         (opaque_over lens.now (instance_of_item list.now.joints.lists list.now.kept.tris item.now ∷ [])) }
 {
     match item.tint {
@@ -93,39 +103,47 @@ fn draw_item<R: Threads + Sync>(
     item: &Item,
 )
     requires sound { AreStrips lens.now strips.old }
+    requires gathered { AreGathered list.now.joints.lists lens.now batch.old.pieces batch.old.bare.items }
     requires joint { item.now.joint < length list.now.joints.lists }
     ensures sound { AreStrips lens.now strips.new }
-    ensures drawn { Draws lens.now batch.old.is_first strips.old batch.old.pieces.items
-        batch.new.is_first strips.new batch.new.pieces.items
+    ensures gathered { AreGathered list.now.joints.lists lens.now batch.new.pieces batch.new.bare.items }
+    ensures drawn { Gathers list.now.joints.lists lens.now batch.old.is_first strips.old batch.old.pieces batch.old.bare.items
+        batch.new.is_first strips.new batch.new.pieces batch.new.bare.items
         (instance_over lens.now (instance_of_item list.now.joints.lists list.now.kept.tris item.now)) }
 {
-    let mut recent = Recent::new();
     for number in 0..item.geom.len {
         let tri = match list.tri(item.geom, number) {
             Some(tri) => tri,
             None => return,
         };
-        let face = Face::of(list, item, number, &tri, &mut recent);
-        draw_face(rt, strips, batch, lens, back, face);
+        let face = Face::of(item, number, tri);
+        draw_face(rt, strips, batch, lens, back, list, face, item.joint);
     }
 }
 
-/// Draws a face: it becomes one of those that are drawn together; where these have no more room, they are drawn before.
+/// Draws a face, whose triangle is in the coordinates of a joint: it becomes one of those that are drawn together; where these
+/// have no more room, they are drawn before.
 fn draw_face<R: Threads + Sync>(
     rt: &R,
     strips: &mut [Strip],
     batch: &mut Batch,
     lens: &Lens,
     back: [u8; 3],
+    list: &DrawList,
     face: Face,
+    joint: u32,
 )
     requires sound { AreStrips lens.now strips.old }
+    requires joint { joint < length list.now.joints.lists }
+    requires gathered { AreGathered list.now.joints.lists lens.now batch.old.pieces batch.old.bare.items }
     ensures sound { AreStrips lens.now strips.new }
-    ensures drawn { Draws lens.now batch.old.is_first strips.old batch.old.pieces.items
-        batch.new.is_first strips.new batch.new.pieces.items (face_drawn lens.now face) }
+    ensures gathered { AreGathered list.now.joints.lists lens.now batch.new.pieces batch.new.bare.items }
+    ensures drawn { Gathers list.now.joints.lists lens.now batch.old.is_first strips.old batch.old.pieces batch.old.bare.items
+        batch.new.is_first strips.new batch.new.pieces batch.new.bare.items
+        (face_drawn (steps_at list.now.joints.lists joint) lens.now face) }
 {
-    make_room(rt, strips, batch, lens, back);
-    batch.push(face);
+    make_room(rt, strips, batch, lens, back, list);
+    batch.gather(face, joint);
 }
 
 /// Draws a full batch.
@@ -135,19 +153,23 @@ fn make_room<R: Threads + Sync>(
     batch: &mut Batch,
     lens: &Lens,
     back: [u8; 3],
+    list: &DrawList,
 )
     requires sound { AreStrips lens.now strips.old }
+    requires gathered { AreGathered list.now.joints.lists lens.now batch.old.pieces batch.old.bare.items }
     ensures sound { AreStrips lens.now strips.new }
-    ensures room { length batch.new.pieces.items < 16384 }
-    ensures drawn { Draws lens.now batch.old.is_first strips.old batch.old.pieces.items
-        batch.new.is_first strips.new batch.new.pieces.items (λ px py drawn. drawn) }
+    ensures gathered { AreGathered list.now.joints.lists lens.now batch.new.pieces batch.new.bare.items }
+    ensures room { length batch.new.pieces + length batch.new.bare.items < 16384 }
+    ensures drawn { Gathers list.now.joints.lists lens.now batch.old.is_first strips.old batch.old.pieces batch.old.bare.items
+        batch.new.is_first strips.new batch.new.pieces batch.new.bare.items (λ px py drawn. drawn) }
 {
     if batch.is_full() {
+        batch.prepare(rt, list, lens);
         flush(rt, strips, batch, lens, back);
     }
 }
 
-/// Draws the pieces of a batch, which has none then; the first of a picture over strips that are cleared.
+/// Draws the pieces of a batch, which are ready; it has none then. The first of a picture are drawn over strips that are cleared.
 pub(crate) fn flush<R: Threads + Sync>(
     rt: &R,
     strips: &mut [Strip],
@@ -156,25 +178,28 @@ pub(crate) fn flush<R: Threads + Sync>(
     back: [u8; 3],
 )
     requires sound { AreStrips lens.now strips.old }
+    requires ready { All (IsPieceOf lens.now) batch.old.pieces }
     ensures sound { AreStrips lens.now strips.new }
     ensures later { batch.new.is_first ≡ false }
-    ensures empty { batch.new.pieces.items ≡ [] }
+    ensures empty { batch.new.pieces ≡ [] }
+    ensures none { batch.new.bare.items ≡ [] }
     ensures drawn { (px py : ℕ) → px < lens.now.w → py < lens.now.h
-        → seen_at strips.new px py ≡ drawn_with lens.now batch.old.is_first strips.old batch.old.pieces.items px py }
+        → seen_at strips.new px py ≡ drawn_with lens.now batch.old.is_first strips.old batch.old.pieces px py }
     ensures blank { (px py : ℕ) → px < lens.now.w → py < lens.now.h
         → seen_at strips.new px py ≡ None → colour_at strips.new px py ≡ back }
 {
-    batch.make_ready(rt, lens);
     let is_first = batch.is_first;
-    batch.order();
+    batch.fill_slots();
+    let parts = parts_of(rt, work_of_slots(&batch.slots));
+    batch.sort_slots(parts);
+    share_out(strips, &batch.slots);
     draw_strips(
         rt,
-        parts_of(rt, &batch.pieces),
+        parts,
         is_first,
         lens,
         back,
-        &batch.pieces,
-        &batch.shares,
+        batch.pieces.as_slice(),
         strips,
     );
     batch.clear();

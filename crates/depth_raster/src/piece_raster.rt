@@ -1,5 +1,5 @@
 //! The renderer of draw lists that come in pieces.
-ghost use Rattle.std.specs.Prelude.{◌≡◌, ℕ, ◌<◌, true, false, List, [], ◌∷◌, ◌++◌, filter, IfOk};
+ghost use Rattle.std.specs.Prelude.{◌≡◌, ℕ, ◌<◌, true, false, List, [], ◌∷◌, ◌++◌, All, filter, IfOk};
 ghost use Rattle.std.specs.List.{list_any, slice_get};
 ghost use Rattle.std.specs.Option.{option_to_list};
 ghost use Rattle.ppm_out.specs.Pixmap.{Shows};
@@ -10,6 +10,7 @@ ghost use Rattle.tri_cover.specs.Sorting.{sorted};
 ghost use Rattle.draw_list.specs.Lists.{instances_in};
 ghost use Rattle.depth_raster.specs.Canvas.{colour_at};
 ghost use Rattle.depth_raster.specs.InPieces.{HasDrawn, held, joined, glass_in_turn, IsGlassInOrder};
+ghost use Rattle.depth_raster.specs.Pieces.{IsPieceOf};
 ghost use Rattle.depth_raster.specs.Strips.{AreStrips};
 
 use crate::batch::Batch;
@@ -50,14 +51,17 @@ impl Drop for PieceRaster {
 }
 
 impl Model for PieceRaster {
+    ghost use Rattle.std.specs.Prelude.{◌≡◌, false, All};
     ghost use Rattle.depth_raster.specs.InPieces.{PieceWork, held};
+    ghost use Rattle.depth_raster.specs.Pieces.{IsPieceOf};
     ghost use Rattle.depth_raster.specs.Strips.{AreStrips};
 
     ghost Value = { PieceWork };
 
-    ghost view = { λ r. held r.lens r.back r.glazing r.batch.is_first r.strips.items r.batch.pieces.items };
+    ghost view = { λ r. held r.lens r.back r.glazing r.batch.is_first r.strips.items r.batch.pieces };
 
-    ghost invariant = { λ r. AreStrips r.lens r.strips.items };
+    ghost invariant = { λ r. AreStrips r.lens r.strips.items
+        × (r.glazing ≡ false → All (IsPieceOf r.lens) r.batch.pieces) };
 }
 
 impl PieceRaster {
@@ -68,7 +72,7 @@ impl PieceRaster {
         ensures drawn { IfOk result (λ raster. HasDrawn raster [] []) }
     {
         let strips = new_strips(alloc, lens)?;
-        let mut batch = Batch::new(alloc, lens)?;
+        let mut batch = Batch::new(alloc)?;
         batch.begin();
         Ok(PieceRaster {
             lens: *lens,
@@ -154,16 +158,18 @@ fn add_piece<R: Threads + Sync>(
     list: &DrawList,
 ) -> bool
     requires sound { AreStrips lens.now strips.old }
+    requires ready { glazing ≡ false → All (IsPieceOf lens.now) batch.old.pieces }
     ensures sound { AreStrips lens.now strips.new }
+    ensures ready { result ≡ false → All (IsPieceOf lens.now) batch.new.pieces }
     ensures drawn { (xs ys : List Instance)
-        → HasDrawn (held lens.now back glazing batch.old.is_first strips.old batch.old.pieces.items) xs ys
+        → HasDrawn (held lens.now back glazing batch.old.is_first strips.old batch.old.pieces) xs ys
         → (glazing ≡ true → filter is_opaque (instances_in list.now) ≡ [])
-        → HasDrawn (held lens.now back result batch.new.is_first strips.new batch.new.pieces.items)
+        → HasDrawn (held lens.now back result batch.new.is_first strips.new batch.new.pieces)
         (xs ++ instances_in list.now) (ys ++ sorted is_drawn_before (filter is_glass (instances_in list.now))) }
     ensures late { (xs ys : List Instance)
-        → HasDrawn (held lens.now back glazing batch.old.is_first strips.old batch.old.pieces.items) xs ys
+        → HasDrawn (held lens.now back glazing batch.old.is_first strips.old batch.old.pieces) xs ys
         → glazing ≡ true
-        → HasDrawn (held lens.now back result batch.new.is_first strips.new batch.new.pieces.items)
+        → HasDrawn (held lens.now back result batch.new.is_first strips.new batch.new.pieces)
         (xs ++ filter is_glass (instances_in list.now))
         (ys ++ sorted is_drawn_before (filter is_glass (instances_in list.now))) }
 {
@@ -185,10 +191,12 @@ fn add_ground<R: Threads + Sync>(
     list: &DrawList,
 ) -> bool
     requires sound { AreStrips lens.now strips.old }
+    requires ready { All (IsPieceOf lens.now) batch.old.pieces }
     ensures sound { AreStrips lens.now strips.new }
+    ensures ready { result ≡ false → All (IsPieceOf lens.now) batch.new.pieces }
     ensures drawn { (xs ys : List Instance)
-        → HasDrawn (held lens.now back false batch.old.is_first strips.old batch.old.pieces.items) xs ys
-        → HasDrawn (held lens.now back result batch.new.is_first strips.new batch.new.pieces.items)
+        → HasDrawn (held lens.now back false batch.old.is_first strips.old batch.old.pieces) xs ys
+        → HasDrawn (held lens.now back result batch.new.is_first strips.new batch.new.pieces)
         (xs ++ instances_in list.now) (ys ++ sorted is_drawn_before (filter is_glass (instances_in list.now))) }
 {
     opaque::draw_opaque(rt, strips, batch, lens, back, list);
@@ -234,20 +242,21 @@ fn end_picture<R: Threads + Sync>(
     image: &mut Image,
 )
     requires sound { AreStrips lens.now strips.old }
+    requires ready { glazing ≡ false → All (IsPieceOf lens.now) batch.old.pieces }
     requires width { image.old.width ≡ lens.now.w }
     requires height { image.old.height ≡ lens.now.h }
     ensures strips { AreStrips lens.now strips.new }
     ensures first { batch.new.is_first ≡ true }
-    ensures empty { batch.new.pieces.items ≡ [] }
+    ensures empty { batch.new.pieces ≡ [] }
     ensures width { image.new.width ≡ image.old.width }
     ensures height { image.new.height ≡ image.old.height }
     ensures pixels { (xs : List Instance)
-        → HasDrawn (held lens.now back glazing batch.old.is_first strips.old batch.old.pieces.items) xs
+        → HasDrawn (held lens.now back glazing batch.old.is_first strips.old batch.old.pieces) xs
         (sorted is_drawn_before (filter is_glass xs))
         → Shows image.new (picture lens.now back xs) }
 {
     draw_rest(rt, glazing, strips, batch, lens, back);
-    show(image, strips, lens);
+    show(rt, image, strips, lens);
     batch.begin();
 }
 
@@ -261,10 +270,11 @@ fn draw_rest<R: Threads + Sync>(
     back: [u8; 3],
 )
     requires sound { AreStrips lens.now strips.old }
+    requires ready { glazing ≡ false → All (IsPieceOf lens.now) batch.old.pieces }
     ensures strips { AreStrips lens.now strips.new }
-    ensures empty { batch.new.pieces.items ≡ [] }
+    ensures empty { batch.new.pieces ≡ [] }
     ensures colours { (xs : List Instance)
-        → HasDrawn (held lens.now back glazing batch.old.is_first strips.old batch.old.pieces.items) xs
+        → HasDrawn (held lens.now back glazing batch.old.is_first strips.old batch.old.pieces) xs
         (sorted is_drawn_before (filter is_glass xs))
         → (px py : ℕ) → px < lens.now.w → py < lens.now.h
         → colour_at strips.new px py ≡ picture lens.now back xs px py }

@@ -1,28 +1,35 @@
 //! Faces made ready to be drawn.
-ghost use Rattle.std.specs.Prelude.{◌≡◌};
+ghost use Rattle.std.specs.Prelude.{◌≡◌, All, length};
+ghost use Rattle.std.specs.Thread.{IsSync};
 ghost use Rattle.tri_cover.specs.Readiness.{IsReady};
 ghost use Rattle.depth_raster.specs.Around.{IsAround, IsBoxOf};
-ghost use Rattle.depth_raster.specs.Pieces.{IsMadeReady, AreMadeReady};
+ghost use Rattle.depth_raster.specs.Pieces.{IsMadeReady, AreMadeReady, HasJoint, IsPrepared, ArePrepared};
+ghost use Rattle.depth_raster.specs.Recent.{AreCarried};
 
+use crate::bare::Bare;
 use crate::extents::Extent;
-use crate::faces::Face;
+use crate::faces::{Face, at_eye};
+use crate::leasts::least_mark;
+use crate::recent::Recent;
 use crate::small::is_small;
 use crate::work::{are_many, processors};
+use draw_list::DrawList;
 use edge_values::about;
 use fx_math::Lens;
 use pf_model::Tri;
-use std::thread::{Threads, for_each_mut};
+use std::thread::{Threads, for_each_mut, join_mut};
 use tri_cover::face_of;
 
-/// A labelled face, and of its triangle what is reckoned once it is made ready: the face by which it is looked at, where it can be
-/// hit at all, whether its edge values are small, a float that is about the dividend of its depths, from which they are guessed,
-/// and the columns and rows in which it can be hit.
+/// A labelled face whose triangle has come to the eye, and of the triangle what is reckoned once it is made ready: the face by which
+/// it is looked at, where it can be hit at all, whether its edge values are small, a float that is about the dividend of its
+/// depths, from which they are guessed, a depth before which no mark of it lies, and the columns and rows in which it can be hit.
 #[derive(Clone, Copy)]
 pub(crate) struct Piece {
     pub(crate) face: Face,
     pub(crate) ready: Option<tri_cover::Face>,
     pub(crate) small: bool,
     pub(crate) about: f64,
+    pub(crate) least: u32,
     pub(crate) extent: Extent,
 }
 
@@ -36,6 +43,7 @@ impl Piece {
             ready: None,
             small: false,
             about: 0.0,
+            least: 0,
             extent: Extent {
                 left: 0,
                 right: 0,
@@ -45,7 +53,19 @@ impl Piece {
         }
     }
 
-    /// Makes the face ready for a lens.
+    /// Becomes the piece of a face: brings its triangle to the eye, and makes it ready for a lens.
+    fn prepare(&mut self, bare: &Bare, list: &DrawList, lens: &Lens, recent: &mut Recent)
+        requires joint { HasJoint list.now.joints.lists bare.now }
+        requires carried { AreCarried list.now.joints.lists recent.old }
+        ensures carried { AreCarried list.now.joints.lists recent.new }
+        ensures prepared { IsPrepared list.now.joints.lists lens.now bare.now self.new }
+    {
+        self.face = bare.face;
+        self.face.tri = at_eye(list, bare.joint, &bare.face.tri, recent);
+        self.make_ready(lens);
+    }
+
+    /// Makes the face, whose triangle has come to the eye, ready for a lens.
     fn make_ready(&mut self, lens: &Lens)
         ensures { IsMadeReady lens.now self.old self.new }
     {
@@ -53,6 +73,7 @@ impl Piece {
         self.extent = extent_of(&self.face.tri, &ready, lens);
         self.small = is_small(&ready);
         self.about = about_dividend(&ready);
+        self.least = least_mark(&self.face);
         self.ready = ready;
     }
 }
@@ -62,6 +83,72 @@ fn about_dividend(ready: &Option<tri_cover::Face>) -> f64 {
     match ready {
         Some(face) => about(face.dividend),
         None => 0.0,
+    }
+}
+
+/// Prepares the pieces of faces in so many parts side by side.
+#[cycle(preparing)]
+pub(crate) fn prepare<R: Threads + Sync>(
+    rt: &R,
+    parts: usize,
+    bare: &[Bare],
+    pieces: &mut [Piece],
+    list: &DrawList,
+    lens: &Lens,
+)
+    requires count { length bare.now ≡ length pieces.old }
+    requires joints { All (HasJoint list.now.joints.lists) bare.now }
+    ensures { ArePrepared list.now.joints.lists lens.now bare.now pieces.new }
+{
+    if parts < 2 {
+        prepare_in_turn(bare, pieces, list, lens);
+        return;
+    }
+    let count = bare.len() / parts;
+    let (first, others) = bare.split_at(count);
+    let (front, rest) = pieces.split_at_mut(count);
+    prepare_parts(rt, parts - 1, first, others, front, rest, list, lens);
+}
+
+/// Prepares the pieces of one part in a thread of its own, and those of so many others.
+#[cycle(preparing)]
+fn prepare_parts<R: Threads + Sync>(
+    rt: &R,
+    more: usize,
+    first: &[Bare],
+    others: &[Bare],
+    front: &mut [Piece],
+    rest: &mut [Piece],
+    list: &DrawList,
+    lens: &Lens,
+)
+    requires front_count { length first.now ≡ length front.old }
+    requires rest_count { length others.now ≡ length rest.old }
+    requires front { All (HasJoint list.now.joints.lists) first.now }
+    requires rest { All (HasJoint list.now.joints.lists) others.now }
+    ensures front { ArePrepared list.now.joints.lists lens.now first.now front.new }
+    ensures rest { ArePrepared list.now.joints.lists lens.now others.now rest.new }
+{
+    let mut one = ||
+        requires { All (HasJoint list.now.joints.lists) first.now × (length first.now ≡ length front.now) }
+        ensures { ArePrepared list.entry.now.joints.lists lens.entry.now first.entry.now front.exit.now }
+    { prepare_in_turn(first, front, list, lens) };
+    let mut all = ||
+        requires { IsSync R.row × All (HasJoint list.now.joints.lists) others.now × (length others.now ≡ length rest.now) }
+        ensures { ArePrepared list.entry.now.joints.lists lens.entry.now others.entry.now rest.exit.now }
+    { prepare(rt, more, others, rest, list, lens) };
+    join_mut(rt, &mut one, &mut all);
+}
+
+/// Prepares the piece of one face after the other.
+fn prepare_in_turn(bare: &[Bare], pieces: &mut [Piece], list: &DrawList, lens: &Lens)
+    requires count { length bare.now ≡ length pieces.old }
+    requires joints { All (HasJoint list.now.joints.lists) bare.now }
+    ensures { ArePrepared list.now.joints.lists lens.now bare.now pieces.new }
+{
+    let mut recent = Recent::new(0);
+    for i in 0..bare.len() {
+        pieces[i].prepare(&bare[i], list, lens, &mut recent);
     }
 }
 

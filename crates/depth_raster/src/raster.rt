@@ -10,6 +10,7 @@ ghost use Rattle.depth_raster.specs.Strips.{band_at, tile_block, AreTilesOf, Are
 use crate::across::COLUMNS;
 use crate::batch::Batch;
 use crate::blocks::Block;
+use crate::piece_buffer::ROOM;
 use crate::shown::show;
 use crate::strip::Strip;
 use crate::strips::ROWS;
@@ -50,7 +51,7 @@ impl Model for Raster {
 
     ghost view = { λ r. r.lens };
 
-    ghost invariant = { λ r. AreStrips r.lens r.strips.items × (r.batch.pieces.items ≡ []) };
+    ghost invariant = { λ r. AreStrips r.lens r.strips.items × (r.batch.pieces ≡ []) };
 }
 
 impl Raster {
@@ -59,7 +60,7 @@ impl Raster {
         ensures { IfOk result (λ raster. raster ≡ lens.now) }
     {
         let strips = new_strips(alloc, lens)?;
-        let batch = Batch::new(alloc, lens)?;
+        let batch = Batch::new(alloc)?;
         Ok(Raster {
             lens: *lens,
             strips,
@@ -107,17 +108,17 @@ fn draw_all<R: Threads + Sync>(
     image: &mut Image,
 )
     requires strips { AreStrips lens.now strips.old }
-    requires empty { batch.old.pieces.items ≡ [] }
+    requires empty { batch.old.pieces ≡ [] }
     requires width { image.old.width ≡ lens.now.w }
     requires height { image.old.height ≡ lens.now.h }
     ensures strips { AreStrips lens.now strips.new }
-    ensures empty { batch.new.pieces.items ≡ [] }
+    ensures empty { batch.new.pieces ≡ [] }
     ensures width { image.new.width ≡ image.old.width }
     ensures height { image.new.height ≡ image.old.height }
     ensures pixels { Shows image.new (picture lens.now back (instances_in list.now)) }
 {
     draw_strips(rt, strips, batch, lens, list, back);
-    show(image, strips, lens);
+    show(rt, image, strips, lens);
 }
 
 /// Draws the picture of a list in strips.
@@ -130,9 +131,9 @@ fn draw_strips<R: Threads + Sync>(
     back: [u8; 3],
 )
     requires strips { AreStrips lens.now strips.old }
-    requires empty { batch.old.pieces.items ≡ [] }
+    requires empty { batch.old.pieces ≡ [] }
     ensures strips { AreStrips lens.now strips.new }
-    ensures empty { batch.new.pieces.items ≡ [] }
+    ensures empty { batch.new.pieces ≡ [] }
     ensures colours { (px py : ℕ) → px < lens.now.w → py < lens.now.h
         → colour_at strips.new px py ≡ picture lens.now back (instances_in list.now) px py }
 {
@@ -173,10 +174,13 @@ fn new_strip(alloc: Global, band: Block) -> Result<Strip, NoMemory>
     ensures { IfOk result (λ s. (s.band ≡ band) × AreTilesOf band s.tiles.items) }
 {
     let tiles = new_tiles(alloc, &band)?;
+    let mut slots = Vec::new(alloc);
+    slots.reserve(ROOM)?;
     let work = u64::from(band.rows) * u64::from(band.width);
     Ok(Strip {
         band,
         tiles,
+        slots,
         opaque_work: work,
         glass_work: work,
     })

@@ -18,6 +18,7 @@ struct Carried {
 /// are found among these.
 #[derive(Drop)]
 pub(crate) struct Recent {
+    joint: u32,
     points: [Option<Carried>; 8],
     oldest: usize,
     ghost within: { oldest < 8 },
@@ -31,23 +32,29 @@ impl Recent {
     ghost use Rattle.draw_list.specs.Joints.{steps_at};
     ghost use Rattle.depth_raster.specs.Recent.{IsCarried, AreCarried};
 
-    /// No points.
-    pub(crate) fn new() -> Recent
-        ensures { (steps : List Matrix) → AreCarried steps result }
+    /// No points, of a joint.
+    pub(crate) fn new(joint: u32) -> Recent
+        ensures carried { (lists : List (List Matrix)) → AreCarried lists result }
+        ensures joint { result.joint ≡ joint }
     {
         Recent {
+            joint,
             points: [None; ROOM],
             oldest: 0,
         }
     }
 
-    /// A point of a joint's coordinates in eye coordinates: carried there, unless it is one of the last ones.
+    /// A point of a joint's coordinates in eye coordinates: carried there, unless it is one of the last ones. Those of another
+    /// joint are forgotten.
     pub(crate) fn eye(&mut self, list: &DrawList, joint: u32, v: Vec3) -> Vec3
         requires joint { joint < length list.now.joints.lists }
-        requires carried { AreCarried (steps_at list.now.joints.lists joint) self.old }
-        ensures carried { AreCarried (steps_at list.now.joints.lists joint) self.new }
+        requires carried { AreCarried list.now.joints.lists self.old }
+        ensures carried { AreCarried list.now.joints.lists self.new }
         ensures eye { point_of result ≡ carry (steps_at list.now.joints.lists joint) (point_of v) }
     {
+        if self.joint != joint {
+            *self = Recent::new(joint);
+        }
         match self.find(v) {
             Some(eye) => eye,
             None => {
@@ -60,8 +67,8 @@ impl Recent {
 
     /// Where a point is in eye coordinates, if it is one of the last ones.
     fn find(&self, v: Vec3) -> Option<Vec3>
-        ensures { (steps : List Matrix) → AreCarried steps self.now
-            → IfSome result (λ eye. point_of eye ≡ carry steps (point_of v)) }
+        ensures { (lists : List (List Matrix)) → AreCarried lists self.now
+            → IfSome result (λ eye. point_of eye ≡ carry (steps_at lists self.now.joint) (point_of v)) }
     {
         for carried in &self.points {
             if let Some(carried) = carried {
@@ -75,7 +82,8 @@ impl Recent {
 
     /// Keeps a point in place of the oldest one.
     fn keep(&mut self, carried: Carried)
-        ensures { (steps : List Matrix) → AreCarried steps self.old → IsCarried steps carried → AreCarried steps self.new }
+        ensures { (lists : List (List Matrix)) → AreCarried lists self.old → IsCarried (steps_at lists self.old.joint) carried
+            → AreCarried lists self.new }
     {
         self.points[self.oldest] = Some(carried);
         self.oldest = (self.oldest + 1) % ROOM;

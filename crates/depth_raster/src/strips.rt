@@ -3,7 +3,7 @@ ghost use Rattle.std.specs.Prelude.{◌≡◌, ◌<◌, All, length};
 ghost use Rattle.std.specs.Thread.{IsSync};
 ghost use Rattle.depth_raster.specs.Blocks.{IsBlockOf};
 ghost use Rattle.depth_raster.specs.Pieces.{IsPieceOf, AreRanked};
-ghost use Rattle.depth_raster.specs.Shares.{AreSlotsFor, AreSharesOf};
+ghost use Rattle.depth_raster.specs.Shares.{AreSlotsFor, HasSlotsFor};
 ghost use Rattle.depth_raster.specs.Strips.{AreTilesOf, TilesRelate, IsStripOf, StripRelates, StripsRelate};
 ghost use Rattle.depth_raster.specs.Tiles.{IsCleared, IsSettled, IsBegun, IsPainted, IsDrawn, IsDrawnFrom};
 
@@ -11,9 +11,7 @@ use crate::across::draw_slots;
 use crate::blocks::Block;
 use crate::painting::{clear, paint, settle_tile};
 use crate::pieces::Piece;
-use crate::share::Share;
-use crate::shares::share_of;
-use crate::slots::Slot;
+use crate::slots::{Slot, sort};
 use crate::strip::Strip;
 use crate::tile::Tile;
 use crate::work::{Layer, end_of_part, work_of_tiles};
@@ -33,23 +31,20 @@ pub(crate) fn draw_strips<R: Threads + Sync>(
     lens: &Lens,
     back: [u8; 3],
     pieces: &[Piece],
-    shares: &[Share],
     strips: &mut [Strip],
 )
     requires strips { All (IsStripOf lens.now) strips.old }
     requires pieces { All (IsPieceOf lens.now) pieces.now }
     requires ranks { AreRanked pieces.now }
-    requires shares { AreSharesOf lens.now pieces.now shares.now }
+    requires slots { All (HasSlotsFor lens.now pieces.now) strips.old }
     ensures { StripsRelate (IsDrawnFrom lens.now back pieces.now is_first) strips.old strips.new }
 {
     if strips.len() < 2 {
-        draw_last(strips, is_first, lens, back, pieces, shares);
+        draw_last(strips, is_first, lens, back, pieces);
         return;
     }
     let (upper, lower) = strips.split_at_mut(end_of_part(strips, parts, Layer::Opaque));
-    draw_parts(
-        rt, parts, is_first, lens, back, pieces, shares, upper, lower,
-    );
+    draw_parts(rt, parts, is_first, lens, back, pieces, upper, lower);
 }
 
 /// Draws opaque pieces in the strips of one part, in a thread of its own where there are several, and in those of the others.
@@ -61,7 +56,6 @@ fn draw_parts<R: Threads + Sync>(
     lens: &Lens,
     back: [u8; 3],
     pieces: &[Piece],
-    shares: &[Share],
     upper: &mut [Strip],
     lower: &mut [Strip],
 )
@@ -71,98 +65,113 @@ fn draw_parts<R: Threads + Sync>(
     requires lower { All (IsStripOf lens.now) lower.old }
     requires pieces { All (IsPieceOf lens.now) pieces.now }
     requires ranks { AreRanked pieces.now }
-    requires shares { AreSharesOf lens.now pieces.now shares.now }
+    requires upper_slots { All (HasSlotsFor lens.now pieces.now) upper.old }
+    requires lower_slots { All (HasSlotsFor lens.now pieces.now) lower.old }
     ensures upper { StripsRelate (IsDrawnFrom lens.now back pieces.now is_first) upper.old upper.new }
     ensures lower { StripsRelate (IsDrawnFrom lens.now back pieces.now is_first) lower.old lower.new }
 {
     if parts < 2 {
-        draw_strips(rt, 1, is_first, lens, back, pieces, shares, upper);
-        draw_strips(rt, 1, is_first, lens, back, pieces, shares, lower);
+        draw_strips(rt, 1, is_first, lens, back, pieces, upper);
+        draw_strips(rt, 1, is_first, lens, back, pieces, lower);
         return;
     }
     let others = parts - 1;
     let mut above = ||
         requires { IsSync R.row × All (IsStripOf lens.now) upper.now × All (IsPieceOf lens.now) pieces.now
-            × AreRanked pieces.now × AreSharesOf lens.now pieces.now shares.now }
+            × AreRanked pieces.now × All (HasSlotsFor lens.now pieces.now) upper.now }
         ensures { StripsRelate (IsDrawnFrom lens.entry.now back pieces.entry.now is_first) upper.entry.now upper.exit.now }
-    { draw_strips(rt, 1, is_first, lens, back, pieces, shares, upper) };
+    { draw_strips(rt, 1, is_first, lens, back, pieces, upper) };
     let mut below = ||
         requires { IsSync R.row × All (IsStripOf lens.now) lower.now × All (IsPieceOf lens.now) pieces.now
-            × AreRanked pieces.now × AreSharesOf lens.now pieces.now shares.now }
+            × AreRanked pieces.now × All (HasSlotsFor lens.now pieces.now) lower.now }
         ensures { StripsRelate (IsDrawnFrom lens.entry.now back pieces.entry.now is_first) lower.entry.now lower.exit.now }
-    { draw_strips(rt, others, is_first, lens, back, pieces, shares, lower) };
+    { draw_strips(rt, others, is_first, lens, back, pieces, lower) };
     join_mut(rt, &mut above, &mut below);
 }
 
 /// Draws opaque pieces in a strip that is not halved any more, or in none.
-fn draw_last(
-    strips: &mut [Strip],
-    is_first: bool,
-    lens: &Lens,
-    back: [u8; 3],
-    pieces: &[Piece],
-    shares: &[Share],
-)
+fn draw_last(strips: &mut [Strip], is_first: bool, lens: &Lens, back: [u8; 3], pieces: &[Piece])
     requires few { length strips.old < 2 }
     requires strips { All (IsStripOf lens.now) strips.old }
     requires pieces { All (IsPieceOf lens.now) pieces.now }
     requires ranks { AreRanked pieces.now }
-    requires shares { AreSharesOf lens.now pieces.now shares.now }
+    requires slots { All (HasSlotsFor lens.now pieces.now) strips.old }
     ensures { StripsRelate (IsDrawnFrom lens.now back pieces.now is_first) strips.old strips.new }
 {
     if strips.is_empty() {
         return;
     }
-    draw_strip(&mut strips[0], is_first, lens, back, pieces, shares);
+    draw_strip(&mut strips[0], is_first, lens, back, pieces);
 }
 
-/// Draws opaque pieces in a strip. Right before the first ones of a picture it is cleared, and before later ones its marks lose
-/// the ranks of those before: the marks are at hand then.
-fn draw_strip(
-    strip: &mut Strip,
-    is_first: bool,
-    lens: &Lens,
-    back: [u8; 3],
-    pieces: &[Piece],
-    shares: &[Share],
-)
+/// Draws opaque pieces in a strip, by the least depths of its slots.
+fn draw_strip(strip: &mut Strip, is_first: bool, lens: &Lens, back: [u8; 3], pieces: &[Piece])
     requires strip { IsStripOf lens.now strip.old }
     requires pieces { All (IsPieceOf lens.now) pieces.now }
     requires ranks { AreRanked pieces.now }
-    requires shares { AreSharesOf lens.now pieces.now shares.now }
+    requires slots { HasSlotsFor lens.now pieces.now strip.old }
     ensures { StripRelates (IsDrawnFrom lens.now back pieces.now is_first) strip.old strip.new }
 {
-    begin_strip(strip, is_first);
+    sort(&mut strip.slots);
     let band = strip.band;
-    let share = &shares[share_of(shares.len(), band.first)];
-    draw_tiles(&mut strip.tiles, &band, lens, back, pieces, &share.slots);
-    strip.opaque_work = work_of_tiles(&strip.tiles, share.slots.len());
+    draw_band(
+        &mut strip.tiles,
+        is_first,
+        &band,
+        lens,
+        back,
+        pieces,
+        &strip.slots,
+    );
+    strip.opaque_work = work_of_tiles(&strip.tiles, strip.slots.len());
 }
 
-/// Clears the marks of a strip before the first drawing, and takes the ranks from them before a later one.
-fn begin_strip(strip: &mut Strip, is_first: bool)
-    ensures { StripRelates (IsBegun is_first) strip.old strip.new }
+/// Draws the pieces of slots in the tiles of a band. Right before the first ones of a picture these are cleared, and before later
+/// ones their marks lose the ranks of those before: the marks are at hand then.
+fn draw_band(
+    tiles: &mut [Tile],
+    is_first: bool,
+    band: &Block,
+    lens: &Lens,
+    back: [u8; 3],
+    pieces: &[Piece],
+    slots: &[Slot],
+)
+    requires tiles { AreTilesOf band.now tiles.old }
+    requires band { IsBlockOf lens.now band.now }
+    requires pieces { All (IsPieceOf lens.now) pieces.now }
+    requires ranks { AreRanked pieces.now }
+    requires slots { AreSlotsFor lens.now pieces.now band.now slots.now }
+    ensures { TilesRelate (IsDrawnFrom lens.now back pieces.now is_first) tiles.old tiles.new }
+{
+    begin_tiles(tiles, is_first);
+    draw_tiles(tiles, band, lens, back, pieces, slots);
+}
+
+/// Clears the marks of tiles before the first drawing, and takes the ranks from them before a later one.
+fn begin_tiles(tiles: &mut [Tile], is_first: bool)
+    ensures { TilesRelate (IsBegun is_first) tiles.old tiles.new }
 {
     if is_first {
-        clear_tiles(strip);
+        clear_tiles(tiles);
     } else {
-        settle_tiles(strip);
+        settle_tiles(tiles);
     }
 }
 
-fn clear_tiles(strip: &mut Strip)
-    ensures { StripRelates IsCleared strip.old strip.new }
+fn clear_tiles(tiles: &mut [Tile])
+    ensures { TilesRelate IsCleared tiles.old tiles.new }
 {
-    for t in 0..strip.tiles.len() {
-        clear(&mut strip.tiles[t]);
+    for t in 0..tiles.len() {
+        clear(&mut tiles[t]);
     }
 }
 
-fn settle_tiles(strip: &mut Strip)
-    ensures { StripRelates IsSettled strip.old strip.new }
+fn settle_tiles(tiles: &mut [Tile])
+    ensures { TilesRelate IsSettled tiles.old tiles.new }
 {
-    for t in 0..strip.tiles.len() {
-        settle_tile(&mut strip.tiles[t]);
+    for t in 0..tiles.len() {
+        settle_tile(&mut tiles[t]);
     }
 }
 

@@ -7,8 +7,10 @@ ghost use Rattle.std.specs.Prelude.{◌<◌, length};
 
 use crate::blocks::Block;
 use crate::pieces::Piece;
+use crate::slots::Slot;
 use crate::strip::Strip;
 use crate::tile::Tile;
+use fx_math::Lens;
 use std::thread::{Threads, available_parallelism};
 
 /// The work, in pixels of boxes, from which on pieces are drawn in parts side by side: about a millisecond.
@@ -24,14 +26,20 @@ const LATE_WORK: u64 = 24_576;
 const PIECE_WORK: u64 = 128;
 
 /// The work of a piece in a tile besides that of its pixels there.
-const TILE_WORK: u64 = 4;
+const TILE_WORK: u64 = 48;
+
+/// The work of a slot in a strip besides that of its piece: it is sorted and looked at.
+const SLOT_WORK: u64 = 12;
 
 /// The work of a strip besides that of its pieces.
 const STRIP_WORK: u64 = 1024;
 
-/// The number of pieces from which on it is worth some threads to make them ready: as many as are drawn together, which
-/// takes more than a millisecond.
-const MANY_PIECES: usize = 16_384;
+/// The number of pieces from which on it is worth some threads to prepare them: about a millisecond.
+const MANY_PIECES: usize = 4096;
+
+/// The pixels of a picture from which on its tiles are put into the image in parts side by side: one thread takes almost half
+/// a millisecond for so many.
+const MANY_PIXELS: u32 = 196_608;
 
 /// What is drawn: opaque pieces, or the glass over them.
 #[derive(Clone, Copy)]
@@ -40,18 +48,58 @@ pub(crate) enum Layer {
     Glass,
 }
 
-/// Whether to make so many pieces ready is worth some threads.
+/// Whether to prepare so many pieces is worth some threads.
 pub(crate) fn are_many(count: usize) -> bool {
     MANY_PIECES <= count
 }
 
+/// In how many parts so many pieces are prepared side by side.
+pub(crate) fn preparing_parts<R: Threads>(rt: &R, count: usize) -> usize {
+    if are_many(count) { processors(rt) } else { 1 }
+}
+
 /// In how many parts pieces are drawn side by side: as many as there are processors, where it is much work, and else one.
-pub(crate) fn parts_of<R: Threads>(rt: &R, pieces: &[Piece]) -> usize {
+pub(crate) fn parts_of<R: Threads>(rt: &R, work: u64) -> usize {
+    if work < MUCH_WORK { 1 } else { processors(rt) }
+}
+
+/// About how much work the pieces of slots are, whatever lies before them.
+pub(crate) fn work_of_slots(slots: &[Slot]) -> u64 {
+    let mut work: u64 = 0;
+    for slot in slots {
+        let columns = slot.right.saturating_sub(slot.left);
+        let rows = slot.bottom.saturating_sub(slot.top);
+        work = work.saturating_add(PIECE_WORK + u64::from(columns) * u64::from(rows));
+    }
+    work
+}
+
+/// About how much work pieces of glass are.
+pub(crate) fn work_of_pieces(pieces: &[Piece]) -> u64 {
     let mut work: u64 = 0;
     for piece in pieces {
         work = work.saturating_add(PIECE_WORK).saturating_add(area(piece));
     }
-    if work < MUCH_WORK { 1 } else { processors(rt) }
+    work
+}
+
+/// In how many parts side by side the tiles of a lens's picture are put into the image: as many as there are processors, where
+/// it is large, and else one.
+pub(crate) fn parts_of_picture<R: Threads>(rt: &R, lens: &Lens) -> usize {
+    if u32::from(lens.w) * u32::from(lens.h) < MANY_PIXELS {
+        1
+    } else {
+        processors(rt)
+    }
+}
+
+/// How many of the strips the first part gets, where each strip is as much work; half of them where there is only one part.
+pub(crate) fn strips_of_part(count: usize, parts: usize) -> usize
+    requires { 1 < count }
+    ensures some { 0 < result }
+    ensures rest { result < count }
+{
+    (count / parts.max(2)).max(1)
 }
 
 /// How many processors a go is divided among, at most `MOST_PARTS`; so many too where it cannot be told how many there are.
@@ -78,14 +126,26 @@ pub(crate) fn work_within(piece: &Piece, block: &Block) -> u64 {
 
 /// About how much work it was to draw opaque pieces in tiles, over which so many slots were looked at.
 pub(crate) fn work_of_tiles(tiles: &[Tile], slots: usize) -> u64 {
-    let mut work = slots as u64;
+    let mut work = SLOT_WORK.saturating_mul(slots as u64);
     for tile in tiles {
-        work = work.saturating_add(tile.work);
-        if !tile.blank {
-            work = work.saturating_add(area_of(&tile.block));
-        }
+        work = work
+            .saturating_add(tile.work)
+            .saturating_add(work_to_paint(tile));
     }
     work
+}
+
+/// About how much work it is to paint a tile: a pixel takes twice as long as one that is looked at for a piece, unless its mark is
+/// owed.
+fn work_to_paint(tile: &Tile) -> u64 {
+    if tile.blank {
+        return 0;
+    }
+    let area = area_of(&tile.block);
+    match tile.owed {
+        Some(_) => area,
+        None => area.saturating_mul(2),
+    }
 }
 
 /// About how much work it is to draw pieces of glass in a band.

@@ -1,3 +1,2 @@
 mod Places
-mod Bands
 pub mod Pictures

@@ -1,5 +1,5 @@
 -- An image as a pixel map: its size, and three bytes a pixel, rows from the top.
-use Rattle.std.specs.Prelude.{◌≡◌, ℕ, ◌+◌, ◌*◌, ◌<◌, ◌≤◌, List, [], ◌∷◌, length, slice_index, slice_index_or}
+use Rattle.std.specs.Prelude.{◌≡◌, ℕ, ◌+◌, ◌*◌, ◌<◌, ◌≤◌, List, [], ◌∷◌, length, slice_index}
 
 pub record Pixmap : Type 0 where
   pub width : ℕ
@@ -16,24 +16,20 @@ pub record IsPixmap (image : Pixmap) : Type 0 where
 abbrev pub place_of : ℕ → ℕ → ℕ → ℕ
 place_of width px py = 3 * (py * width + px)
 
--- the three bytes of a pixel: red, green and blue
+-- the three bytes of a pixel, red, green and blue, among those of rows so wide
+abbrev pub pixel_in : (bytes : List ℕ) → (width px py : ℕ) → List ℕ
+pixel_in bytes width px py =
+    let place = place_of width px py in
+    slice_index bytes place ∷ slice_index bytes (place + 1) ∷ slice_index bytes (place + 2) ∷ []
+
+-- those of a pixel of an image
 abbrev pub pixel : Pixmap → ℕ → ℕ → List ℕ
-pixel image px py =
-    let place = place_of image.width px py in
-    slice_index image.bytes place ∷ slice_index image.bytes (place + 1) ∷ slice_index image.bytes (place + 2) ∷ []
+pixel image px py = pixel_in image.bytes image.width px py
 
 -- each pixel (px, py) has the three bytes `colour px py`
 abbrev pub Shows : Pixmap → (ℕ → ℕ → List ℕ) → Type 0
 Shows image colour =
     (px py : ℕ) → px < image.width → py < image.height → pixel image px py ≡ colour px py
-
--- the pixels of a row from a column on have the colours, and nothing else is changed
-pub record SetsRow (old new : Pixmap) (left row : ℕ) (colours : List (List ℕ)) : Type 0 where
-  pub width : new.width ≡ old.width
-  pub height : new.height ≡ old.height
-  pub coloured : (q : ℕ) → q < length colours → pixel new (left + q) row ≡ slice_index_or colours q []
-  pub others : (px py : ℕ) → px < old.width → py < old.height → (py ≡ row → left ≤ px → px < left + length colours → ⊥)
-      → pixel new px py ≡ pixel old px py
 
 -- one pixel has the colour, and nothing else is changed
 pub record SetsPixel (old new : Pixmap) (px py : ℕ) (colour : List ℕ) : Type 0 where

@@ -1,6 +1,7 @@
 //! An image of three bytes a pixel.
-ghost use Rattle.std.specs.Prelude.{◌≡◌, ◌+◌, ◌*◌, ◌<◌, ◌≤◌, length, replicate, vec_len, IfOk};
-ghost use Rattle.ppm_out.specs.Pixmap.{Pixmap, IsPixmap, SetsPixel, SetsRow, pixel, place_of};
+ghost use Rattle.std.specs.Prelude.{◌≡◌, ◌+◌, ◌*◌, ◌<◌, ◌≤◌, length, replicate, IfOk};
+ghost use Rattle.std.specs.Fn.{FnOnceTakesAtMut, FnOnceReturnsAtMut};
+ghost use Rattle.ppm_out.specs.Pixmap.{Pixmap, IsPixmap, SetsPixel, pixel, place_of};
 ghost use Rattle.ppm_out.specs.Ppm.{pixel_bytes};
 
 use pf_io::NoMemory;
@@ -84,17 +85,16 @@ impl Image {
         self.bytes[start + 2] = blue;
     }
 
-    /// Gives colours to the pixels of the row `py` from the top, from the column `px` from the left on, so that blocks that were
-    /// drawn apart are put together.
-    pub fn set_row(&mut self, px: u16, py: u16, colours: &[[u8; 3]])
-        requires columns { px + length colours.now ≤ self.old.width }
-        requires row { py < self.old.height }
-        ensures row { SetsRow self.old self.new px py colours.now }
+    /// Lends the bytes of all pixels to `write`, which may change them: three a pixel, its red, its green and its blue, the pixels
+    /// of a row from the left and the rows from the top.
+    pub fn edit<F: FnOnce(&mut [u8])>(&mut self, write: F)
+        requires { FnOnceTakesAtMut F.FnOnce write self.old.bytes }
+        ensures width { self.new.width ≡ self.old.width }
+        ensures height { self.new.height ≡ self.old.height }
+        ensures bytes { FnOnceReturnsAtMut F.FnOnce write self.old.bytes tt self.new.bytes }
         ensures whole { IsPixmap self.new }
     {
-        let start = 3 * (py as usize * self.width as usize + px as usize);
-        let bytes = colours.as_flattened();
-        self.bytes[start..start + bytes.len()].copy_from_slice(bytes);
+        write(&mut self.bytes);
     }
 
     /// The bytes of all pixels, rows from the top.

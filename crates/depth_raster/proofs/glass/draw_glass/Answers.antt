@@ -31,7 +31,7 @@ loop-count-preserved g c =
     let xs = instances_in d in
     let last = c.loop-count.last in
     let pane = c.in-Some.pane in
-    let ps = c.loop-count.batch.pieces.items in
+    let ps = c.loop-count.batch.pieces in
     let long : length d.items.items ≡ length xs = sym (length-map d.items.items (instance_of_item d.joints.lists d.kept.tris)) in
     let next = next_left xs last pane (subst (λ (n : ℕ). IsNextBelow xs last n (Some pane)) long c.in-Some.ensures) in
     record {
@@ -59,11 +59,11 @@ returns-in-None-clause-glass g c =
       behind = c.loop-count.invariant.behind;
       colours = λ px py column row.
           let behind = behind_at a.strips.now px py in
-          let now = glazed_with a.lens.now c.loop-count.strips c.loop-count.batch.pieces.items px py in
+          let now = glazed_with a.lens.now c.loop-count.strips c.loop-count.batch.pieces px py in
           sym (glazes_none a.lens.now behind px py now)
           ∙ ap (λ (es : List (ℕ × Instance)). glass_glazes a.lens.now behind (instances_of es) px py now) (sym none)
           ∙ c.loop-count.invariant.drawn px py column row
-          ∙ ap (λ (ys : List Instance). glass_glazes a.lens.now behind ys px py (glazed_with a.lens.now a.strips.now a.batch.now.pieces.items px py)) (left_in_order xs);
+          ∙ ap (λ (ys : List Instance). glass_glazes a.lens.now behind ys px py (glazed_with a.lens.now a.strips.now a.batch.now.pieces px py)) (left_in_order xs);
     }
 
 pub returns-clause-glass : goal.returns-clause-glass
@@ -77,9 +77,9 @@ returns-clause-glass g c =
       behind = c.loop-count.invariant.behind;
       colours = λ px py column row.
           let behind = behind_at a.strips.now px py in
-          let now = glazed_with a.lens.now c.loop-count.strips c.loop-count.batch.pieces.items px py in
+          let now = glazed_with a.lens.now c.loop-count.strips c.loop-count.batch.pieces px py in
           sym (glazes_none a.lens.now behind px py now)
           ∙ ap (λ (es : List (ℕ × Instance)). glass_glazes a.lens.now behind (instances_of es) px py now) (sym none)
           ∙ c.loop-count.invariant.drawn px py column row
-          ∙ ap (λ (ys : List Instance). glass_glazes a.lens.now behind ys px py (glazed_with a.lens.now a.strips.now a.batch.now.pieces.items px py)) (left_in_order xs);
+          ∙ ap (λ (ys : List Instance). glass_glazes a.lens.now behind ys px py (glazed_with a.lens.now a.strips.now a.batch.now.pieces px py)) (left_in_order xs);
     }

@@ -1,5 +1,4 @@
 use Rattle.draw_list.specs.Items.{instance_of_item}
-use Rattle.draw_list.specs.Joints.{steps_at}
 use Rattle.depth_raster.specs.Canvas.{Glazes}
 use Rattle.depth_raster.specs.Recent.{AreCarried}
 use Rattle.depth_raster.specs.Strips.{AreStrips}
@@ -8,8 +7,8 @@ use Rattle.depth_raster.proofs.glass.draw_item.Given as goal
 
 abbrev pub invariant-loop-number : goal.invariant-loop-number
 invariant-loop-number g l = record {
-  carried : AreCarried (steps_at l.list.joints.lists l.item.joint) l.recent;
+  carried : AreCarried l.list.joints.lists l.recent;
   sound : AreStrips l.lens l.strips;
-  glass : Glazes l.lens l.initial.strips l.initial.batch.pieces.items l.strips l.batch.pieces.items
+  glass : Glazes l.lens l.initial.strips l.initial.batch.pieces l.strips l.batch.pieces
       (part_glazed l.lens (instance_of_item l.list.joints.lists l.list.kept.tris l.item) l.number);
 }

@@ -10,14 +10,14 @@ pub returns : goal.returns
 returns g c =
     let a = c.args in
     let lens = a.lens.now in
-    let ps = a.batch.now.pieces.items in
-    let qs = c.make_ready.new.self.pieces.items in
+    let ps = a.batch.now.pieces in
+    let qs = c.make_ready.new.self.pieces in
     let before = a.strips.now in
     let after = c.glaze_strips.new.strips in
-    let each = subst (λ (rs : List Piece). StripsRelate (ColoursFollow (pieces_glazes lens rs)) before after) c.deref-2.ensures.value c.glaze_strips.ensures in
+    let each = subst (λ (rs : List Piece). StripsRelate (ColoursFollow (pieces_glazes lens rs)) before after) c.as_slice-2.ensures c.glaze_strips.ensures in
     let long = c.glaze_strips.auto.strips in
     record {
       sound = flushed_glass_open lens qs before after c.requires.sound long each;
-      empty = c.clear.ensures;
+      empty = c.clear.ensures.pieces;
       glass = glazes_alike lens before after ps qs [] kept c.make_ready.ensures.faces (flushed_glass lens qs before after c.requires.sound long each);
     }

@@ -1,12 +1,14 @@
-use Rattle.std.proofs.Common.{take}
+use Rattle.std.proofs.Common.{[], take}
 use Rattle.draw_list.specs.Lists.{instances_in}
-use Rattle.depth_raster.specs.Canvas.{Draws}
+use Rattle.depth_raster.specs.Canvas.{Gathers}
 use Rattle.depth_raster.specs.Drawing.{opaque_over}
+use Rattle.depth_raster.specs.Pieces.{AreGathered}
 use Rattle.depth_raster.specs.Strips.{AreStrips}
 use Rattle.depth_raster.proofs.opaque.draw_opaque.Given as goal
 
 abbrev pub invariant-loop-number : goal.invariant-loop-number
 invariant-loop-number g l = record {
   sound : AreStrips l.lens l.strips;
-  drawn : Draws l.lens l.initial.batch.is_first l.initial.strips l.initial.batch.pieces.items l.batch.is_first l.strips l.batch.pieces.items (opaque_over l.lens (take l.number (instances_in l.list)));
+  gathered : AreGathered l.list.joints.lists l.lens l.batch.pieces l.batch.bare.items;
+  drawn : Gathers l.list.joints.lists l.lens l.fn.batch.is_first l.initial.strips l.fn.batch.pieces [] l.batch.is_first l.strips l.batch.pieces l.batch.bare.items (opaque_over l.lens (take l.number (instances_in l.list)));
 }

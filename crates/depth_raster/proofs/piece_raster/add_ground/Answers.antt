@@ -1,4 +1,5 @@
 use Rattle.std.proofs.Common.{sym, ◌∙◌}
+use Rattle.std.proofs.lemmas.Bool.{false≢true}
 use Rattle.draw_list.specs.Lists.{instances_in}
 use Rattle.depth_raster.proofs.InPieces.{ground_added, glass_begun}
 use Rattle.depth_raster.proofs.piece_raster.add_ground.Goals as goal
@@ -11,10 +12,11 @@ returns-then-has_glass g c =
     let e = c.draw_glass.new.batch in
     record {
       sound = c.draw_glass.ensures.sound;
+      ready = λ none. absurd (false≢true (sym none));
       drawn = λ xs ys h.
           glass_begun a.lens.now a.back a.batch.now.is_first b.is_first e.is_first
           a.strips.now c.draw_opaque.new.strips c.flush.new.strips c.draw_glass.new.strips
-          a.batch.now.pieces.items b.pieces.items d.pieces.items e.pieces.items
+          a.batch.now.pieces b.pieces d.pieces e.pieces
           xs ys (instances_in a.list.now) (sym c.has_glass.ensures ∙ c.if-has_glass.true) h c.draw_opaque.ensures.drawn
           (record { sound = c.flush.ensures.sound; empty = c.flush.ensures.empty; drawn = c.flush.ensures.drawn; blank = c.flush.ensures.blank })
           c.draw_glass.ensures.glass;
@@ -26,8 +28,9 @@ returns-else-has_glass g c =
     let b = c.draw_opaque.new.batch in
     record {
       sound = c.draw_opaque.ensures.sound;
+      ready = λ none. c.draw_opaque.ensures.ready;
       drawn = λ xs ys h.
           ground_added a.lens.now a.back a.batch.now.is_first b.is_first a.strips.now c.draw_opaque.new.strips
-          a.batch.now.pieces.items b.pieces.items xs ys (instances_in a.list.now)
+          a.batch.now.pieces b.pieces xs ys (instances_in a.list.now)
           (sym c.has_glass.ensures ∙ c.if-has_glass.false) h c.draw_opaque.ensures.drawn;
     }

@@ -12,7 +12,7 @@ pub draw_glass-requires : goal.draw_glass-requires
 draw_glass-requires g c = (c.type_bounds.sync-R, c.requires.sound)
 
 pub add_ground-requires : goal.add_ground-requires
-add_ground-requires g c = (c.type_bounds.sync-R, c.requires.sound)
+add_ground-requires g c = (c.type_bounds.sync-R, (c.requires.sound, c.requires.ready c.if-glazing.false))
 
 pub returns-then-glazing : goal.returns-then-glazing
 returns-then-glazing g c =
@@ -24,13 +24,14 @@ returns-then-glazing g c =
     let strips = c.draw_glass.new.strips in
     record {
       sound = c.draw_glass.ensures.sound;
+      ready = λ none. absurd (false≢true (sym none));
       drawn = λ xs ys h none.
-          glass_added a.lens.now a.back b.is_first d.is_first a.strips.now strips b.pieces.items d.pieces.items xs ys zs gs (none c.if-glazing.true)
-          (subst (λ (t : Bool). HasDrawn (held a.lens.now a.back t b.is_first a.strips.now b.pieces.items) xs ys) c.if-glazing.true h)
+          glass_added a.lens.now a.back b.is_first d.is_first a.strips.now strips b.pieces d.pieces xs ys zs gs (none c.if-glazing.true)
+          (subst (λ (t : Bool). HasDrawn (held a.lens.now a.back t b.is_first a.strips.now b.pieces) xs ys) c.if-glazing.true h)
           c.draw_glass.ensures.glass;
       late = λ xs ys h yes.
-          glass_added a.lens.now a.back b.is_first d.is_first a.strips.now strips b.pieces.items d.pieces.items xs ys (filter is_glass zs) gs (only_glass zs)
-          (subst (λ (t : Bool). HasDrawn (held a.lens.now a.back t b.is_first a.strips.now b.pieces.items) xs ys) yes h)
+          glass_added a.lens.now a.back b.is_first d.is_first a.strips.now strips b.pieces d.pieces xs ys (filter is_glass zs) gs (only_glass zs)
+          (subst (λ (t : Bool). HasDrawn (held a.lens.now a.back t b.is_first a.strips.now b.pieces) xs ys) yes h)
           c.draw_glass.ensures.glass;
     }
 
@@ -40,8 +41,9 @@ returns-else-glazing g c =
     let b = a.batch.now in
     record {
       sound = c.add_ground.ensures.sound;
+      ready = c.add_ground.ensures.ready;
       drawn = λ xs ys h none.
           c.add_ground.ensures.drawn xs ys
-          (subst (λ (t : Bool). HasDrawn (held a.lens.now a.back t b.is_first a.strips.now b.pieces.items) xs ys) c.if-glazing.false h);
+          (subst (λ (t : Bool). HasDrawn (held a.lens.now a.back t b.is_first a.strips.now b.pieces) xs ys) c.if-glazing.false h);
       late = λ xs ys h yes. absurd (false≢true (sym c.if-glazing.false ∙ yes));
     }

@@ -10,7 +10,7 @@ pub flush-requires : goal.flush-requires
 flush-requires g c = (c.type_bounds.sync-R, c.requires.sound)
 
 pub flush-requires-else-glazing : goal.flush-requires-else-glazing
-flush-requires-else-glazing g c = (c.type_bounds.sync-R, c.requires.sound)
+flush-requires-else-glazing g c = (c.type_bounds.sync-R, (c.requires.sound, c.requires.ready c.if-glazing.false))
 
 pub returns-then-glazing : goal.returns-then-glazing
 returns-then-glazing g c =
@@ -20,8 +20,8 @@ returns-then-glazing g c =
       strips = c.flush.ensures.sound;
       empty = c.flush.ensures.empty;
       colours = λ xs h px py column row.
-          glass_pictured a.lens.now a.back b.is_first a.strips.now c.flush.new.strips b.pieces.items xs
-          (subst (λ (t : Bool). HasDrawn (held a.lens.now a.back t b.is_first a.strips.now b.pieces.items) xs (sorted is_drawn_before (filter is_glass xs))) c.if-glazing.true h)
+          glass_pictured a.lens.now a.back b.is_first a.strips.now c.flush.new.strips b.pieces xs
+          (subst (λ (t : Bool). HasDrawn (held a.lens.now a.back t b.is_first a.strips.now b.pieces) xs (sorted is_drawn_before (filter is_glass xs))) c.if-glazing.true h)
           c.flush.ensures.glass px py column row;
     }
 
@@ -33,8 +33,8 @@ returns-else-glazing g c =
       strips = c.flush-else-glazing.ensures.sound;
       empty = c.flush-else-glazing.ensures.empty;
       colours = λ xs h px py column row.
-          ground_pictured a.lens.now a.back b.is_first a.strips.now c.flush-else-glazing.new.strips b.pieces.items c.flush-else-glazing.new.batch.pieces.items xs
-          (subst (λ (t : Bool). HasDrawn (held a.lens.now a.back t b.is_first a.strips.now b.pieces.items) xs (sorted is_drawn_before (filter is_glass xs))) c.if-glazing.false h)
+          ground_pictured a.lens.now a.back b.is_first a.strips.now c.flush-else-glazing.new.strips b.pieces c.flush-else-glazing.new.batch.pieces xs
+          (subst (λ (t : Bool). HasDrawn (held a.lens.now a.back t b.is_first a.strips.now b.pieces) xs (sorted is_drawn_before (filter is_glass xs))) c.if-glazing.false h)
           (record { sound = c.flush-else-glazing.ensures.sound; empty = c.flush-else-glazing.ensures.empty; drawn = c.flush-else-glazing.ensures.drawn; blank = c.flush-else-glazing.ensures.blank })
           px py column row;
     }

@@ -8,6 +8,7 @@ use Rattle.depth_raster.specs.Drawing.{opaque_over, glass_glazes}
 use Rattle.depth_raster.specs.declared.pieces.Piece.{Piece}
 use Rattle.depth_raster.proofs.Flushed.{first_seen}
 use Rattle.depth_raster.proofs.Finals.{seen_parts, picture_at}
+use Rattle.depth_raster.proofs.Prepared.{none_ready}
 use Rattle.depth_raster.proofs.raster.draw_strips.Goals as goal
 
 pub draw_opaque-requires : goal.draw_opaque-requires
@@ -15,7 +16,7 @@ draw_opaque-requires g c =
     let a = c.args in
     let b = c.begin.new.self in (
       c.type_bounds.sync-R,
-      c.requires.strips,
+      (c.requires.strips, none_ready a.lens.now b.pieces (c.begin.ensures.pieces ∙ c.requires.empty)),
     )
 
 pub returns-clause-colours : goal.returns-clause-colours
@@ -28,7 +29,7 @@ returns-clause-colours g c = λ px py column row.
     let m = mark_at ground px py in
     let colour = colour_at ground px py in
     let parts = seen_parts lens ground c.flush.ensures.sound px py column row in
-    let none = first_seen lens b.is_first a.strips.now b.pieces.items px py c.begin.ensures.first (c.begin.ensures.pieces ∙ c.requires.empty) in
+    let none = first_seen lens b.is_first a.strips.now b.pieces px py c.begin.ensures.first (c.begin.ensures.pieces ∙ c.requires.empty) in
     let seen = sym parts ∙ c.flush.ensures.drawn px py column row ∙ c.draw_opaque.ensures.drawn px py column row ∙ ap (opaque_over lens xs px py) none in
     c.flush-2.ensures.glass.colours px py column row
     ∙ c.draw_glass.ensures.glass.colours px py column row

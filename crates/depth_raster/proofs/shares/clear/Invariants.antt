@@ -1,6 +1,7 @@
-use Rattle.std.proofs.Common.{◌≡◌, ℕ, ◌<◌, [], get_or}
-use Rattle.depth_raster.specs.declared.share.Share.{Share}
+use Rattle.std.proofs.Common.{[]}
+use Rattle.depth_raster.specs.Shares.{HasSlots}
+use Rattle.depth_raster.proofs.Tiling.{PartsSoFar}
 use Rattle.depth_raster.proofs.shares.clear.Given as goal
 
 abbrev pub invariant-loop-i : goal.invariant-loop-i
-invariant-loop-i l = (k : ℕ) (d : Share) → k < l.i → (get_or l.shares k d).slots.items ≡ []
+invariant-loop-i l = PartsSoFar (HasSlots []) l.initial.strips l.strips l.i

@@ -3,4 +3,4 @@ use Rattle.depth_raster.specs.Shares.{AreShared}
 use Rattle.depth_raster.proofs.shares.share_out.Given as goal
 
 abbrev pub invariant-loop-slot : goal.invariant-loop-slot
-invariant-loop-slot l = AreShared (take l.slot-index l.slots) l.shares
+invariant-loop-slot l = AreShared (take l.slot-index l.slots) l.fn.strips l.strips

@@ -1,5 +1,8 @@
-use Rattle.depth_raster.proofs.Sorting.{slots_sorted}
+use Rattle.depth_raster.proofs.Sorting.{slots_sorted, all_sorted}
 use Rattle.depth_raster.proofs.slots.sort.Goals as goal
 
-pub returns-clause-slots : goal.returns-clause-slots
-returns-clause-slots c = λ lens. slots_sorted lens c.args.pieces.now c.args.slots.now.items c.sort_unstable_by_key.new.self.items c.sort_unstable_by_key.ensures.permutation (c.requires.slots lens)
+pub returns-clause-same : goal.returns-clause-same
+returns-clause-same c = λ lens ps b are. slots_sorted lens ps b c.args.slots.now.items c.sort_unstable_by_key.new.self.items c.sort_unstable_by_key.ensures.permutation are
+
+pub returns-clause-all : goal.returns-clause-all
+returns-clause-all c = λ lens ps are. all_sorted lens ps c.args.slots.now.items c.sort_unstable_by_key.new.self.items c.sort_unstable_by_key.ensures.permutation are

@@ -1,15 +1,19 @@
--- What a write of pixels of a row leaves.
+-- What a copy of the colours of a row into the bytes of rows leaves.
 use Rattle.std.proofs.Common.{◌≡◌, ℕ, zero, suc, ◌+◌, ◌*◌, ◌-◌, ◌<◌, ◌≤◌, List, [], ◌∷◌, refl, sym, ap, ◌∙◌, arith, rules, length, length-append, take, get_or, ⊎_elim}
 use Rattle.std.specs.List.{flat_map}
+use Rattle.std.proofs.lemmas.Bool.{cases_lt}
 use Rattle.std.proofs.lemmas.List.{places}
 use Rattle.std.proofs.lemmas.List.Concat.{get_or-flat_map}
+use Rattle.std.proofs.lemmas.Nat.{same_from_place}
 use borrow.Rule.Slice.PartMut.{put_mid}
-use Rattle.std.proofs.lemmas.Bool.{cases_lt}
-use Rattle.std.proofs.lemmas.Nat.{same_from_place, mul-le}
-use Rattle.std.proofs.Math.Nat.{add-mul}
-use Rattle.ppm_out.specs.Pixmap.{SetsRow, place_of}
-use Rattle.ppm_out.proofs.Places.{three}
+use Rattle.ppm_out.specs.Pixmap.{place_of, pixel_in}
 use Rattle.ppm_out.proofs.Pictures.{colour_of_three}
+use Rattle.depth_raster.specs.Shown.{SetsRow}
+
+-- lists of three are equal where their elements are
+pub three : (x y z a b c : ℕ) → x ≡ a → y ≡ b → z ≡ c → x ∷ y ∷ z ∷ [] ≡ a ∷ b ∷ c ∷ []
+three x y z a b c first second third =
+    ap (λ h. h ∷ y ∷ z ∷ []) first ∙ ap (λ h. a ∷ h ∷ z ∷ []) second ∙ ap (λ h. a ∷ b ∷ h ∷ []) third
 
 -- the bytes of the first i colours
 length_of_front : (colours : List (List ℕ)) (i : ℕ) → ((j : ℕ) → j < length colours → length (get_or colours j []) ≡ 3)
@@ -32,12 +36,6 @@ byte_of colours i k each below few =
     ap (λ n. get_or (flat_map (λ c. c) colours) (n + k) 0) (sym front)
     ∙ get_or-flat_map (λ c. c) colours i k [] 0 below (omega (arith, long, few))
 
-rows_within : (row width height : ℕ) → row < height → row * width + width ≤ height * width
-rows_within row width height below = omega (arith, mul-le (row + 1) width height width (omega (arith, below)) (omega arith), add-mul row 1 width)
-
-pub row_room : (row left width height long count all : ℕ) → row < height → left + long ≤ width → count ≡ 3 * long → all ≡ 3 * (height * width) → 3 * (row * width + left) + count ≤ all
-row_room row left width height long count all below columns is whole = omega (arith, rows_within row width height below, columns, is, whole)
-
 -- bytes in front of a part that was written, in it, and behind it
 in_front : (a k i : ℕ) (xs ys : List ℕ) → i < a → a ≤ length xs → get_or (put_mid a k xs ys) i 0 ≡ get_or xs i 0
 in_front a k i xs ys before within = search (rules, places)
@@ -50,26 +48,17 @@ behind : (a k i : ℕ) (xs ys : List ℕ) → k ≤ i → a + k ≤ length xs �
     → get_or (put_mid a k xs ys) (a + i) 0 ≡ get_or xs (a + i) 0
 behind a k i xs ys past within long = search (rules, places)
 
-pub size_kept : (a k : ℕ) (xs ys : List ℕ) → a + k ≤ length xs → length ys ≡ k → length (put_mid a k xs ys) ≡ length xs
-size_kept a k xs ys within long = search (rules, places)
-
--- a write of the colours from a pixel of a row on sets them
-pub sets_row : (width height left row : ℕ) (bytes flat : List ℕ) (colours : List (List ℕ)) (k : ℕ)
-    → length bytes ≡ 3 * (height * width) → left + length colours ≤ width → row < height
+-- a copy of the colours from a pixel of a row on gives them to its pixels
+pub row_copied : (width left row : ℕ) (bytes flat : List ℕ) (colours : List (List ℕ)) (k : ℕ)
+    → 3 * (row * width + left) + k ≤ length bytes → left + length colours ≤ width
     → ((j : ℕ) → j < length colours → length (get_or colours j []) ≡ 3)
     → flat ≡ flat_map (λ c. c) colours → length flat ≡ length colours * 3 → k ≡ length flat
-    → SetsRow (record { width = width; height = height; bytes = bytes })
-    (record { width = width; height = height; bytes = put_mid (3 * (row * width + left)) k bytes flat })
-    left row colours
-sets_row width height left row bytes flat colours k whole columns below each is long count =
+    → SetsRow width bytes (put_mid (3 * (row * width + left)) k bytes flat) left row colours
+row_copied width left row bytes flat colours k within columns each is long count =
     let start = row * width + left in
     let a = 3 * start in
     let new = put_mid a k bytes flat in
-    let room : row * width + width ≤ height * width = rows_within row width height below in
-    let within : a + k ≤ length bytes = omega (arith, whole, room, columns, long, count) in
     record {
-      width = refl;
-      height = refl;
       coloured = λ q here.
           let byte : (j n : ℕ) → j ≡ place_of width (left + q) row + n → n < 3
           → get_or new j 0 ≡ get_or (get_or colours q []) n 0 =
@@ -79,9 +68,9 @@ sets_row width height left row bytes flat colours k whole columns below each is 
           three _ _ _ _ _ _
           (byte _ 0 (omega arith) (omega arith)) (byte _ 1 refl (omega arith)) (byte _ 2 refl (omega arith))
           ∙ sym (colour_of_three (get_or colours q []) (each q here));
-      others = λ px py across over apart.
+      others = λ px py across apart.
           let n = py * width + px in
-          let same : ((j : ℕ) → 3 * n ≤ j → j < 3 * n + 3 → get_or new j 0 ≡ get_or bytes j 0) → pixel_of new width px py ≡ pixel_of bytes width px py =
+          let same : ((j : ℕ) → 3 * n ≤ j → j < 3 * n + 3 → get_or new j 0 ≡ get_or bytes j 0) → pixel_in new width px py ≡ pixel_in bytes width px py =
           λ each_byte. three _ _ _ _ _ _ (each_byte _ (omega arith) (omega arith)) (each_byte _ (omega arith) (omega arith)) (each_byte _ (omega arith) (omega arith)) in
           ⊎_elim
           (λ before. same (λ j low high. in_front a k j bytes flat (omega (arith, high, before)) (omega (arith, within))))
@@ -97,6 +86,3 @@ sets_row width height left row bytes flat colours k whole columns below each is 
           (cases_lt n (start + length colours)))
           (cases_lt n start);
     }
-  where
-    pixel_of : List ℕ → (width px py : ℕ) → List ℕ
-    pixel_of bs w px py = get_or bs (place_of w px py) 0 ∷ get_or bs (place_of w px py + 1) 0 ∷ get_or bs (place_of w px py + 2) 0 ∷ []

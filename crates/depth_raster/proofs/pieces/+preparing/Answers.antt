@@ -1,0 +1,21 @@
+use Rattle.std.proofs.Common.{◌≡◌, ◌/◌, List, ◌++◌, length, take, ap, ◌∙◌, subst, arith}
+use Rattle.std.proofs.lemmas.List.{take-append-drop}
+use Rattle.depth_raster.specs.Pieces.{ArePrepared}
+use Rattle.depth_raster.specs.declared.bare.Bare.{Bare}
+use Rattle.depth_raster.proofs.Prepared.{parts_prepared}
+use Rattle.depth_raster.proofs.pieces.+preparing.Goals as goal
+
+pub prepare-returns : goal.prepare-returns
+prepare-returns g t c =
+    let a = c.args in
+    let lists = a.list.now.joints.lists in
+    let lens = a.lens.now in
+    let faces = c.split_at in
+    let parts = c.prepare_parts in
+    let bs = a.bare.now in
+    let n = length bs / a.parts in
+    let whole : faces.result.0.now ++ faces.result.1.now ≡ bs =
+    ap (λ (cs : List Bare). cs ++ faces.result.1.now) faces.ensures.front ∙ ap (λ (cs : List Bare). take n bs ++ cs) faces.ensures.back ∙ take-append-drop n bs in
+    subst (λ (cs : List Bare). ArePrepared lists lens cs (parts.new.front ++ parts.new.rest)) whole
+    (parts_prepared lists lens faces.result.0.now parts.new.front faces.result.1.now parts.new.rest
+    (omega (arith, parts.auto.front, c.split_at_mut-front.ensures.front_len, faces.ensures.front_len)) parts.ensures.front parts.ensures.rest)

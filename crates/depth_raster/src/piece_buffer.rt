@@ -1,0 +1,189 @@
+//! Pieces in memory that is kept.
+ghost use Rattle.std.specs.Prelude.{◌≡◌, ℕ, ◌+◌, ◌≤◌, ◌<◌, [], ◌∷◌, ◌++◌, All, length, take, IfOk};
+ghost use Rattle.std.specs.Vec.{vec_len, vec_capacity};
+ghost use Rattle.depth_raster.specs.Batches.{IsWithFace};
+ghost use Rattle.depth_raster.specs.Pieces.{AreMadeReady, HasJoint, AreAppended};
+
+use crate::bare::Bare;
+use crate::faces::Face;
+use crate::pieces::{Piece, make_ready, prepare};
+use crate::work::preparing_parts;
+use draw_list::DrawList;
+use fx_math::Lens;
+use pf_io::NoMemory;
+use std::alloc::Global;
+use std::marker::Model;
+use std::thread::Threads;
+
+/// The most pieces that are drawn together.
+pub(crate) const ROOM: usize = 16_384;
+
+/// Pieces, as which it is seen, with room for as many as are drawn together. They are written over those of earlier drawings, so
+/// that parts of the memory can be written side by side.
+#[derive(Drop)]
+pub(crate) struct PieceBuffer {
+    written: Vec<Piece>,
+    count: usize,
+}
+
+impl Model for PieceBuffer {
+    ghost use Rattle.std.specs.Prelude.{List, ◌≤◌, length, take};
+    ghost use Rattle.std.specs.Vec.{vec_capacity};
+    ghost use Rattle.depth_raster.specs.declared.pieces.Piece.{Piece};
+
+    ghost Value = { List Piece };
+
+    ghost view = { λ b. take b.count b.written.items };
+
+    ghost invariant = { λ b. (b.count ≤ length b.written.items) × (16384 ≤ vec_capacity b.written) };
+}
+
+impl PieceBuffer {
+    /// No pieces.
+    pub(crate) fn new(alloc: Global) -> Result<PieceBuffer, NoMemory>
+        ensures { IfOk result (λ b. b ≡ []) }
+    {
+        let mut written = Vec::new(alloc);
+        written.reserve(ROOM)?;
+        Ok(PieceBuffer { written, count: 0 })
+    }
+
+    /// The number of pieces.
+    pub(crate) fn len(&self) -> usize
+        ensures { result ≡ length self.now }
+    {
+        self.count
+    }
+
+    /// The pieces.
+    pub(crate) fn as_slice(&self) -> &[Piece]
+        ensures { result.now ≡ self.now }
+    {
+        &self.written[..self.count]
+    }
+
+    /// Leaves no pieces.
+    pub(crate) fn clear(&mut self)
+        ensures { self.new ≡ [] }
+    {
+        self.count = 0;
+    }
+
+    /// Takes a face, whose triangle has come to the eye, as the last piece, which is still to be made ready.
+    pub(crate) fn push(&mut self, face: Face)
+        requires { length self.old < 16384 }
+        ensures { IsWithFace face self.old self.new }
+    {
+        write_at(&mut self.written, self.count, face);
+        self.count += 1;
+    }
+
+    /// Takes the pieces of the faces of a list, prepared for a lens, as the last ones.
+    pub(crate) fn prepare<R: Threads + Sync>(
+        &mut self,
+        rt: &R,
+        bare: &[Bare],
+        list: &DrawList,
+        lens: &Lens,
+    )
+        requires few { length self.old + length bare.now ≤ 16384 }
+        requires joints { All (HasJoint list.now.joints.lists) bare.now }
+        ensures { AreAppended list.now.joints.lists lens.now bare.now self.old self.new }
+    {
+        fill_up(&mut self.written, self.count, bare);
+        prepare_behind(rt, &mut self.written, self.count, bare, list, lens);
+        self.count += bare.len();
+    }
+
+    /// Makes the pieces, whose triangles have come to the eye, ready for a lens.
+    pub(crate) fn make_ready<R: Threads + Sync>(&mut self, rt: &R, lens: &Lens)
+        ensures count { length self.new ≡ length self.old }
+        ensures ready { AreMadeReady lens.now self.old self.new }
+    {
+        make_ready_first(rt, &mut self.written, self.count, lens);
+    }
+}
+
+/// Writes a piece behind the first so many.
+fn write_at(written: &mut Vec<Piece>, count: usize, face: Face)
+    requires count { count ≤ length written.old.items }
+    requires room { count < vec_capacity written.old }
+    ensures count { count < length written.new.items }
+    ensures capacity { vec_capacity written.old ≤ vec_capacity written.new }
+    ensures piece { IsWithFace face (take count written.old.items) (take (count + 1) written.new.items) }
+{
+    if count < written.len() {
+        written[count].face = face;
+        return;
+    }
+    append(written, Piece::bare(face));
+}
+
+/// Sees to it that there are pieces behind the first so many, whatever they are, as many as faces.
+fn fill_up(written: &mut Vec<Piece>, count: usize, bare: &[Bare])
+    requires count { count ≤ length written.old.items }
+    requires few { count + length bare.now ≤ 16384 }
+    requires room { 16384 ≤ vec_capacity written.old }
+    ensures there { count + length bare.now ≤ length written.new.items }
+    ensures room { 16384 ≤ vec_capacity written.new }
+    ensures first { take count written.new.items ≡ take count written.old.items }
+{
+    for i in 0..bare.len() {
+        fill_at(written, count + i, bare[i].face);
+    }
+}
+
+/// Sees to it that there is a piece at a place, whatever it is.
+fn fill_at(written: &mut Vec<Piece>, place: usize, face: Face)
+    requires there { place ≤ length written.old.items }
+    requires few { place < 16384 }
+    requires room { 16384 ≤ vec_capacity written.old }
+    ensures there { place < length written.new.items }
+    ensures room { 16384 ≤ vec_capacity written.new }
+    ensures first { (n : ℕ) → n ≤ length written.old.items → take n written.new.items ≡ take n written.old.items }
+{
+    if place < written.len() {
+        return;
+    }
+    append(written, Piece::bare(face));
+}
+
+/// Prepares the pieces of the faces of a list behind the first so many.
+fn prepare_behind<R: Threads + Sync>(
+    rt: &R,
+    written: &mut [Piece],
+    count: usize,
+    bare: &[Bare],
+    list: &DrawList,
+    lens: &Lens,
+)
+    requires there { count + length bare.now ≤ length written.old }
+    requires joints { All (HasJoint list.now.joints.lists) bare.now }
+    ensures { AreAppended list.now.joints.lists lens.now bare.now (take count written.old)
+        (take (count + length bare.now) written.new) }
+{
+    let (_, behind) = written.split_at_mut(count);
+    let (fresh, _) = behind.split_at_mut(bare.len());
+    prepare(rt, preparing_parts(rt, bare.len()), bare, fresh, list, lens);
+}
+
+/// Makes the first so many pieces ready for a lens.
+fn make_ready_first<R: Threads + Sync>(rt: &R, written: &mut [Piece], count: usize, lens: &Lens)
+    requires { count ≤ length written.old }
+    ensures { AreMadeReady lens.now (take count written.old) (take count written.new) }
+{
+    let (pieces, _) = written.split_at_mut(count);
+    make_ready(rt, pieces, lens);
+}
+
+/// Appends a piece, for which there is room.
+fn append(pieces: &mut Vec<Piece>, piece: Piece)
+    requires { vec_len pieces.old < vec_capacity pieces.old }
+    ensures items { pieces.new.items ≡ pieces.old.items ++ piece ∷ [] }
+    ensures capacity { vec_capacity pieces.old ≤ vec_capacity pieces.new }
+{
+    match pieces.push(piece) {
+        Ok(()) => {}
+        Err(_) => unreachable!(),
+    }
+}
