@@ -40,6 +40,7 @@ strips_within lens strips are i d below =
     record {
       band = subst (λ (b : Block). IsBlockOf lens b) (sym (are.bands i d below)) (band_within lens i starts);
       begins = omega (arith, starts, ap (λ (b : Block). b.first) (are.bands i d below));
+      most = omega (arith, ap (λ (b : Block). b.rows) (are.bands i d below));
       tiles = subst (λ (b : Block). AreTilesOf b (get_or strips i d).tiles.items) (sym (are.bands i d below)) (are.tiles i d below);
     }
 

@@ -1,9 +1,10 @@
 -- Faces that are gathered in the coordinates of joints, and become pieces at the eye: what is seen stays.
-use Rattle.std.proofs.Common.{◌≡◌, ℕ, zero, suc, ◌+◌, ◌-◌, ◌<◌, ◌≤◌, Bool, List, [], ◌∷◌, ◌++◌, length, length-append, take, take_all, set, get_or, get_or-set_same, get_or-set_other, Option, option_map, refl, ap, sym, ◌∙◌, subst, arith, ⊎_elim}
+use Rattle.std.proofs.Common.{◌≡◌, ℕ, zero, suc, ◌+◌, ◌-◌, ◌<◌, ◌≤◌, Bool, List, [], ◌∷◌, ◌++◌, length, length-append, take, set, get_or, get_or-set_same, get_or-set_other, Option, option_map, refl, ap, sym, ◌∙◌, subst, arith, ⊎_elim}
 use Rattle.std.specs.Prelude.{All, fold}
 use Rattle.std.specs.List.{cons_option}
 use Rattle.std.proofs.lemmas.Bool.{cases_eq, cases_lt}
 use Rattle.std.proofs.lemmas.List.{get_or_append_left, get_or-append-add}
+use Rattle.std.proofs.Math.Seq.{take-append_seam, take-append-add}
 use Rattle.std.proofs.lemmas.List.Elements.{All-append, filter_map-append}
 use Rattle.std.proofs.lemmas.List.Sums.{fold-append}
 use Rattle.fx_math.specs.Plain.{Matrix}
@@ -44,9 +45,10 @@ drawn_appended lists lens first strips bs before after px py are =
     ∙ fold-append nearer seen (fragments_by lens px py before) (fragments_by lens px py are.fresh)
     ∙ ap (fold nearer (drawn_with lens first strips before px py)) (prepared_fragments lists lens bs are.fresh px py are.count are.prepared)
 
-some_of : (bs : List Bare) (i : ℕ) → i < length bs → Bare
+-- some element of a list that has some
+pub some_of : {X : Type 0} (xs : List X) (i : ℕ) → i < length xs → X
 some_of [] i l = absurd (omega (arith, l))
-some_of (b ∷ bs) i l = b
+some_of (x ∷ xs) i l = x
 
 pub appended_ready : (lists : List (List Matrix)) (lens : Lens) (bs : List Bare) (before after : List Piece) → AreAppended lists lens bs before after → All (IsPieceOf lens) before → All (IsPieceOf lens) after
 appended_ready lists lens bs before after are ready =
@@ -76,21 +78,14 @@ pub none_ready : (lens : Lens) (ps : List Piece) → ps ≡ [] → All (IsPieceO
 none_ready lens ps empty = subst (λ (qs : List Piece). All (IsPieceOf lens) qs) (sym empty) (λ i d l. absurd (omega (arith, l)))
 
 -- ---- pieces in memory that is kept
-take_before : (n : ℕ) (ps qs : List Piece) → n ≤ length ps → take n (ps ++ qs) ≡ take n ps
-take_before zero ps qs within = refl
-take_before (suc n) [] qs within = absurd (omega (arith, within))
-take_before (suc n) (p ∷ ps) qs within = ap (λ (rs : List Piece). p ∷ rs) (take_before n ps qs (omega (arith, within)))
-
 pub first_part : (n : ℕ) (ps rest : List Piece) → length ps ≡ n → take n (ps ++ rest) ≡ ps
-first_part n ps rest long = ap (λ (m : ℕ). take m (ps ++ rest)) (sym long) ∙ take_before (length ps) ps rest (omega arith) ∙ take_all (length ps) ps (omega arith)
+first_part n ps rest long = ap (λ (m : ℕ). take m (ps ++ rest)) (sym long) ∙ take-append_seam ps rest
 
 pub two_parts : (n : ℕ) (ps qs rest : List Piece) → length ps + length qs ≡ n → take n (ps ++ (qs ++ rest)) ≡ ps ++ qs
-two_parts n [] qs rest long = first_part n qs rest (omega (arith, long))
-two_parts zero (p ∷ ps) qs rest long = absurd (omega (arith, long))
-two_parts (suc n) (p ∷ ps) qs rest long = ap (λ (rs : List Piece). p ∷ rs) (two_parts n ps qs rest (omega (arith, long)))
-
-pub kept_first : (n : ℕ) (ps : List Piece) (p : Piece) → n ≤ length ps → take n (ps ++ p ∷ []) ≡ take n ps
-kept_first n ps p within = take_before n ps (p ∷ []) within
+two_parts n ps qs rest long =
+    ap (λ (m : ℕ). take m (ps ++ (qs ++ rest))) (sym long)
+    ∙ take-append-add ps (qs ++ rest) (length qs)
+    ∙ ap (λ (rs : List Piece). ps ++ rs) (take-append_seam qs rest)
 
 -- ---- pieces of faces, one after the other and in two parts
 pub prepared_more : (lists : List (List Matrix)) (lens : Lens) (bs : List Bare) (ps : List Piece) (n : ℕ) (p : Piece) → n < length ps → ((d : Bare) → IsPrepared lists lens (get_or bs n d) p)

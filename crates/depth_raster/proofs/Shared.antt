@@ -1,19 +1,19 @@
 -- Slots given to the strips whose rows they reach.
-use Rattle.std.proofs.Common.{◌≡◌, ℕ, ◌+◌, ◌*◌, ◌/◌, ◌-◌, ◌<◌, ◌≤◌, Bool, true, false, min, cond, List, [], ◌∷◌, ◌++◌, length, take, drop, set, get_or, get_or-set_same, get_or-set_other, Option, Some, None, refl, ap, sym, ◌∙◌, subst, arith, ⊎_elim, inl, inr, ◌⊎◌}
+use Rattle.std.proofs.Common.{◌≡◌, ℕ, ◌+◌, ◌*◌, ◌/◌, ◌-◌, ◌<◌, ◌≤◌, Bool, true, false, cond, List, [], ◌∷◌, ◌++◌, length, take, drop, set, get_or, get_or-set_same, get_or-set_other, Option, Some, None, refl, ap, sym, ◌∙◌, subst, arith, ⊎_elim, inl, inr, ◌⊎◌}
 use Rattle.std.specs.List.{All, slice_get, filter}
 use Rattle.std.specs.Int.{div_ceil}
 use Rattle.std.proofs.lemmas.Grind.{div_ceil_times}
 use Rattle.std.proofs.lemmas.Bool.{both_ways, cases_eq, cases_lt}
 use Rattle.std.proofs.lemmas.Bool.Decides.{nat_tests}
-use Rattle.std.proofs.lemmas.List.{append-nil, drop_all, take_all, get_or_default, length-take-le}
+use Rattle.std.proofs.lemmas.List.{append-nil, drop_all, take_all, get_or_default, get_or_append_left, get_or-append-add, length-append, length-take-le}
 use Rattle.std.proofs.lemmas.List.Elements.{All-filter, All-head, All-tail, filter_more}
 use Rattle.std.proofs.lemmas.List.Sums.{length-filter, count_by-le-length}
 use Rattle.fx_math.specs.declared.lenses.Lens.{Lens}
 use Rattle.depth_raster.specs.Blocks.{IsBlockOf}
 use Rattle.depth_raster.specs.Pieces.{IsPieceOf, pieces_over}
-use Rattle.depth_raster.specs.Shares.{meets, HasSlots, Gains, EachGains, AreShared, AreSlotsFor, HasSlotsFor}
+use Rattle.depth_raster.specs.Shares.{meets, LieFrom, AreStacked, HasSlots, Gains, EachGains, HasShare, AreShared, AreSlotsFor, HasSlotsFor}
 use Rattle.depth_raster.specs.Slots.{slot_over, slots_over, IsSlotOf, AreSlotsOf}
-use Rattle.depth_raster.specs.Strips.{band_at, tile_block, TilesRelate, StripRelates, StripsRelate, AreStrips}
+use Rattle.depth_raster.specs.Strips.{tile_block, AreTilesOf, TilesRelate, IsStripOf, StripRelates, StripsRelate, AreStrips}
 use Rattle.depth_raster.specs.declared.blocks.Block.{Block}
 use Rattle.depth_raster.specs.declared.marks.Mark.{Mark}
 use Rattle.depth_raster.specs.declared.pieces.Piece.{Piece}
@@ -21,7 +21,6 @@ use Rattle.depth_raster.specs.declared.strip.Strip.{Strip}
 use Rattle.depth_raster.specs.declared.slots.Slot.{Slot}
 use Rattle.depth_raster.specs.declared.tile.Tile.{Tile}
 use Rattle.depth_raster.proofs.Drawn.{AreOver}
-use Rattle.depth_raster.proofs.PixelTiles.{strips_kept}
 use Rattle.depth_raster.proofs.Skipped.{mark_missed}
 use Rattle.depth_raster.proofs.Slotted.{slot_is, slot_none, ready_piece}
 
@@ -45,43 +44,43 @@ slots_then xs ys a b c h k = record {
 
 -- the strips before n have the slot besides, the others are as they were
 pub record GainsSoFar (s : Slot) (before after : List Strip) (n : ℕ) : Type 0 where
-  pub done : (i : ℕ) (d : Strip) → i < n → i < length before → Gains s i (get_or before i d) (get_or after i d)
+  pub done : (i : ℕ) (d : Strip) → i < n → i < length before → Gains s (get_or before i d) (get_or after i d)
   pub ahead : (i : ℕ) (d : Strip) → n ≤ i → get_or after i d ≡ get_or before i d
 
-pub gains_more : (s : Slot) (before now : List Strip) (n : ℕ) (old new : Strip) → GainsSoFar s before now n → length now ≡ length before → n < length now → old ≡ get_or now n old → Gains s n old new → GainsSoFar s before (set now n new) (n + 1)
+pub gains_more : (s : Slot) (before now : List Strip) (n : ℕ) (old new : Strip) → GainsSoFar s before now n → length now ≡ length before → n < length now → old ≡ get_or now n old → Gains s old new → GainsSoFar s before (set now n new) (n + 1)
 gains_more s before now n old new so_far long below is gained = record {
   done = λ i d l in_list. ⊎_elim
       (λ same.
       let was : get_or before n d ≡ old = get_or_default before n d old (omega (arith, long)) ∙ sym (so_far.ahead n old (omega arith)) ∙ sym is in
       let here : get_or (set now n new) n d ≡ new = get_or-set_same now n new d below in
-      subst (λ (k : ℕ). Gains s k (get_or before k d) (get_or (set now n new) k d)) (sym same)
-      (subst (λ (t : Strip). Gains s n t (get_or (set now n new) n d)) (sym was) (subst (λ (t : Strip). Gains s n old t) (sym here) gained)))
-      (λ apart. subst (λ (t : Strip). Gains s i (get_or before i d) t) (sym (get_or-set_other now n i new d apart)) (so_far.done i d (omega (arith, apart, l)) in_list))
+      subst (λ (k : ℕ). Gains s (get_or before k d) (get_or (set now n new) k d)) (sym same)
+      (subst (λ (t : Strip). Gains s t (get_or (set now n new) n d)) (sym was) (subst (λ (t : Strip). Gains s old t) (sym here) gained)))
+      (λ apart. subst (λ (t : Strip). Gains s (get_or before i d) t) (sym (get_or-set_other now n i new d apart)) (so_far.done i d (omega (arith, apart, l)) in_list))
       (cases_eq i n);
   ahead = λ i d l. get_or-set_other now n i new d (λ same. omega (arith, l, same)) ∙ so_far.ahead i d (omega (arith, l));
 }
 
 -- ---- which strips a slot reaches
-reached : (i : ℕ) (s : Slot) → s.top / 16 ≤ i → 16 * i < s.bottom → meets i s ≡ true
-reached i s from below = grind (arith, nat_tests)
+reached : (b : Block) (s : Slot) → s.top < b.first + 16 → b.first < s.bottom → meets b s ≡ true
+reached b s above below = grind (arith, nat_tests)
 
-outside : (i : ℕ) (s : Slot) → meets i s ≡ false → (s.bottom ≤ 16 * i) ⊎ (i < s.top / 16)
-outside i s h = ⊎_elim
+outside : (b : Block) (s : Slot) → meets b s ≡ false → (s.bottom ≤ b.first) ⊎ (b.first + 16 ≤ s.top)
+outside b s h = ⊎_elim
     (λ below. ⊎_elim
-    (λ above. inr above)
-    (λ from. absurd (both_ways (meets i s) h (reached i s from below)))
-    (cases_lt i (s.top / 16)))
+    (λ above. absurd (both_ways (meets b s) h (reached b s above below)))
+    (λ beyond. inr beyond)
+    (cases_lt s.top (b.first + 16)))
     (λ beyond. inl beyond)
-    (cases_lt (16 * i) s.bottom)
+    (cases_lt b.first s.bottom)
 
-not_reached_above : (i : ℕ) (s : Slot) → i < s.top / 16 → meets i s ≡ false
-not_reached_above i s above = grind (arith, nat_tests)
+not_reached_above : (b : Block) (s : Slot) → b.first + 16 ≤ s.top → meets b s ≡ false
+not_reached_above b s above = grind (arith, nat_tests)
 
-not_reached_below : (i : ℕ) (s : Slot) → s.bottom ≤ 16 * i → meets i s ≡ false
-not_reached_below i s below = grind (arith, nat_tests)
+not_reached_below : (b : Block) (s : Slot) → s.bottom ≤ b.first → meets b s ≡ false
+not_reached_below b s below = grind (arith, nat_tests)
 
-gained_not : (s : Slot) (i : ℕ) (t : Strip) → meets i s ≡ false → Gains s i t t
-gained_not s i t misses = record {
+gained_not : (s : Slot) (t : Strip) → meets t.band s ≡ false → Gains s t t
+gained_not s t misses = record {
   band = refl;
   tiles = refl;
   opaque_work = refl;
@@ -90,104 +89,119 @@ gained_not s i t misses = record {
 }
 
 -- the rows of strips against the end of a slot's
-pub strip_begins : (bottom n i : ℕ) → n ≡ div_ceil bottom 16 → i < n → 16 * i < bottom
+strip_begins : (bottom n i : ℕ) → n ≡ div_ceil bottom 16 → i < n → 16 * i < bottom
 strip_begins bottom n i count below = let bound : (bottom ≤ div_ceil bottom 16 * 16) × (div_ceil bottom 16 * 16 < bottom + 16) = div_ceil_times bottom 16 (omega arith) in omega (arith, bound.1, count)
 
-pub strip_passed : (bottom i : ℕ) → div_ceil bottom 16 ≤ i → bottom ≤ 16 * i
+strip_passed : (bottom i : ℕ) → div_ceil bottom 16 ≤ i → bottom ≤ 16 * i
 strip_passed bottom i l = let bound : (bottom ≤ div_ceil bottom 16 * 16) × (div_ceil bottom 16 * 16 < bottom + 16) = div_ceil_times bottom 16 (omega arith) in omega (arith, bound.0, l)
 
-pub gained : (s : Slot) (i : ℕ) (before after : Strip) → s.top / 16 ≤ i → 16 * i < s.bottom → HasSlots (before.slots.items ++ s ∷ []) before after → Gains s i before after
-gained s i before after from to has = subst (λ (b : Bool). HasSlots (before.slots.items ++ cond b (s ∷ []) []) before after) (sym (reached i s from to)) has
+pub gained : (s : Slot) (first i n : ℕ) (before after : Strip) → before.band.first ≡ first + 16 * i → (s.top - first) / 16 ≤ i → n ≡ div_ceil (s.bottom - first) 16 → i < n → HasSlots (before.slots.items ++ s ∷ []) before after → Gains s before after
+gained s first i n before after at from count below has =
+    subst (λ (b : Bool). HasSlots (before.slots.items ++ cond b (s ∷ []) []) before after)
+    (sym (reached before.band s (omega (arith, at, from)) (omega (arith, at, strip_begins (s.bottom - first) n i count below)))) has
 
-pub gains_none : (s : Slot) (before : List Strip) (n : ℕ) → n ≡ s.top / 16 → GainsSoFar s before before n
-gains_none s before n is = record {
-  done = λ i d l in_list. gained_not s i (get_or before i d) (not_reached_above i s (omega (arith, l, is)));
+pub gains_none : (s : Slot) (first : ℕ) (before : List Strip) (n : ℕ) → LieFrom first before → n ≡ (s.top - first) / 16 → GainsSoFar s before before n
+gains_none s first before n lie is = record {
+  done = λ i d l in_list. gained_not s (get_or before i d) (not_reached_above (get_or before i d).band s (omega (arith, l, is, lie i d in_list)));
   ahead = λ i d l. refl;
 }
 
-pub gains_all : (s : Slot) (before after : List Strip) (n : ℕ) → GainsSoFar s before after n → ((i : ℕ) → n ≤ i → i < length before → s.bottom ≤ 16 * i) → EachGains s before after
-gains_all s before after n so_far rest i d in_list = ⊎_elim
+pub gains_all : (s : Slot) (first : ℕ) (before after : List Strip) (n : ℕ) → LieFrom first before → GainsSoFar s before after n → ((i : ℕ) → n ≤ i → i < length before → div_ceil (s.bottom - first) 16 ≤ i) → EachGains s before after
+gains_all s first before after n lie so_far rest i d in_list = ⊎_elim
     (λ below. so_far.done i d below in_list)
-    (λ beyond. subst (λ (t : Strip). Gains s i (get_or before i d) t) (sym (so_far.ahead i d beyond)) (gained_not s i (get_or before i d) (not_reached_below i s (rest i beyond in_list))))
+    (λ beyond.
+    let passed = strip_passed (s.bottom - first) i (rest i beyond in_list) in
+    subst (λ (t : Strip). Gains s (get_or before i d) t) (sym (so_far.ahead i d beyond))
+    (gained_not s (get_or before i d) (not_reached_below (get_or before i d).band s (omega (arith, passed, lie i d in_list)))))
     (cases_lt i n)
 
 -- ---- slot after slot
+pub shared_lie : (first : ℕ) (ss : List Slot) (before after : List Strip) → length after ≡ length before → AreShared ss before after → LieFrom first before → LieFrom first after
+shared_lie first ss before after long shared lie i d below =
+    let in_list : i < length before = omega (arith, below, long) in ap (λ (b : Block). b.first) (shared i d in_list).band ∙ lie i d in_list
+
 pub shared_more : (ss : List Slot) (n : ℕ) (e : Slot) (first before after : List Strip) → n < length ss → length before ≡ length first → AreShared (take n ss) first before → EachGains (get_or ss n e) before after → AreShared (take (n + 1) ss) first after
 shared_more ss n e first before after below long so_far gains i d in_list =
     let s = get_or ss n e in
+    let b = (get_or first i d).band in
     let had = so_far i d in_list in
-    let has = gains i d (omega (arith, in_list, long)) in
-    let more = ap (λ (xs : List Slot). xs ++ cond (meets i s) (s ∷ []) []) had.slots ∙ sym (filter_more (meets i) ss n e below) in
+    let has = subst (λ (c : Block). HasSlots ((get_or before i d).slots.items ++ cond (meets c s) (s ∷ []) []) (get_or before i d) (get_or after i d)) had.band (gains i d (omega (arith, in_list, long))) in
+    let more = ap (λ (xs : List Slot). xs ++ cond (meets b s) (s ∷ []) []) had.slots ∙ sym (filter_more (meets b) ss n e below) in
     subst (λ (xs : List Slot). HasSlots xs (get_or first i d) (get_or after i d)) more
-    (slots_then (filter (meets i) (take n ss)) ((get_or before i d).slots.items ++ cond (meets i s) (s ∷ []) []) (get_or first i d) (get_or before i d) (get_or after i d) had has)
+    (slots_then (filter (meets b) (take n ss)) ((get_or before i d).slots.items ++ cond (meets b s) (s ∷ []) []) (get_or first i d) (get_or before i d) (get_or after i d) had has)
 
-pub slots_few : (i n : ℕ) (ss xs : List Slot) → n < length ss → length ss ≤ 16384 → xs ≡ filter (meets i) (take n ss) → length xs < 16384
-slots_few i n ss xs below few is =
-    omega (arith, ap length is, length-filter (meets i) (take n ss), count_by-le-length (meets i) (take n ss), length-take-le n ss (omega arith))
+pub slots_few : (b : Block) (n : ℕ) (ss xs : List Slot) → n < length ss → length ss ≤ 16384 → xs ≡ filter (meets b) (take n ss) → length xs < 16384
+slots_few b n ss xs below few is =
+    omega (arith, ap length is, length-filter (meets b) (take n ss), count_by-le-length (meets b) (take n ss), length-take-le n ss (omega arith))
 
 -- ---- what the slots of a strip make of marks
-slot_unmet : (lens : Lens) (ps : List Piece) (s : Slot) (i px py : ℕ) (m : Mark) → All (IsPieceOf lens) ps → IsSlotOf ps s → px < lens.w → py < lens.h → py / 16 ≡ i → meets i s ≡ false → slot_over lens ps s px py m ≡ m
-slot_unmet lens ps s i px py m ready is column row at misses = by (slice_get ps s.index) refl (outside i s misses)
+-- the row of the picture is one of the sixteen from the first of a block on
+record IsRowOf (b : Block) (py : ℕ) : Type 0 where
+  from : b.first ≤ py
+  to : py < b.first + 16
+
+slot_unmet : (lens : Lens) (ps : List Piece) (s : Slot) (b : Block) (px py : ℕ) (m : Mark) → All (IsPieceOf lens) ps → IsSlotOf ps s → px < lens.w → py < lens.h → IsRowOf b py → meets b s ≡ false → slot_over lens ps s px py m ≡ m
+slot_unmet lens ps s b px py m ready is column row at misses = by (slice_get ps s.index) refl (outside b s misses)
   where
-    by : (o : Option Piece) → slice_get ps s.index ≡ o → (s.bottom ≤ 16 * i) ⊎ (i < s.top / 16) → slot_over lens ps s px py m ≡ m
+    by : (o : Option Piece) → slice_get ps s.index ≡ o → (s.bottom ≤ b.first) ⊎ (b.first + 16 ≤ s.top) → slot_over lens ps s px py m ≡ m
     by None e out = sym (slot_none lens ps s e px py m)
     by (Some p) e (inl h) =
-        let unhit = (ready_piece lens ps s ready p e).extent.below px py column row (omega (arith, (is p e).bottom, h, at)) in
+        let unhit = (ready_piece lens ps s ready p e).extent.below px py column row (omega (arith, (is p e).bottom, h, at.from)) in
         sym (slot_is lens ps s p e px py m) ∙ mark_missed lens px py p.face m unhit
     by (Some p) e (inr h) =
-        let unhit = (ready_piece lens ps s ready p e).extent.above px py column row (omega (arith, (is p e).top, h, at)) in
+        let unhit = (ready_piece lens ps s ready p e).extent.above px py column row (omega (arith, (is p e).top, h, at.to)) in
         sym (slot_is lens ps s p e px py m) ∙ mark_missed lens px py p.face m unhit
 
-share_step : (lens : Lens) (ps : List Piece) (i px py : ℕ) (s : Slot) (ss : List Slot) (m : Mark) → ((n : Mark) → slots_over lens ps (filter (meets i) ss) px py n ≡ slots_over lens ps ss px py n) → (meets i s ≡ false → slot_over lens ps s px py m ≡ m)
-    → slots_over lens ps (filter (meets i) (s ∷ ss)) px py m ≡ slots_over lens ps (s ∷ ss) px py m
-share_step lens ps i px py s ss m rest unmet = by (meets i s) refl
+share_step : (lens : Lens) (ps : List Piece) (b : Block) (px py : ℕ) (s : Slot) (ss : List Slot) (m : Mark) → ((n : Mark) → slots_over lens ps (filter (meets b) ss) px py n ≡ slots_over lens ps ss px py n) → (meets b s ≡ false → slot_over lens ps s px py m ≡ m)
+    → slots_over lens ps (filter (meets b) (s ∷ ss)) px py m ≡ slots_over lens ps (s ∷ ss) px py m
+share_step lens ps b px py s ss m rest unmet = by (meets b s) refl
   where
     here : Bool → Mark
-    here b = slots_over lens ps (cond b (s ∷ filter (meets i) ss) (filter (meets i) ss)) px py m
+    here c = slots_over lens ps (cond c (s ∷ filter (meets b) ss) (filter (meets b) ss)) px py m
 
-    by : (b : Bool) → meets i s ≡ b → here (meets i s) ≡ slots_over lens ps ss px py (slot_over lens ps s px py m)
+    by : (c : Bool) → meets b s ≡ c → here (meets b s) ≡ slots_over lens ps ss px py (slot_over lens ps s px py m)
     by true e = ap here e ∙ rest (slot_over lens ps s px py m)
     by false e = ap here e ∙ rest m ∙ ap (λ (n : Mark). slots_over lens ps ss px py n) (sym (unmet e))
 
-share_over : (lens : Lens) (ps : List Piece) (i px py : ℕ) → All (IsPieceOf lens) ps → px < lens.w → py < lens.h → py / 16 ≡ i → (ss : List Slot) → All (IsSlotOf ps) ss → (m : Mark) → slots_over lens ps (filter (meets i) ss) px py m ≡ slots_over lens ps ss px py m
-share_over lens ps i px py ready column row at [] all m = refl
-share_over lens ps i px py ready column row at (s ∷ ss) all m =
-    share_step lens ps i px py s ss m
-    (λ n. share_over lens ps i px py ready column row at ss (All-tail (IsSlotOf ps) s ss all) n)
-    (λ misses. slot_unmet lens ps s i px py m ready (All-head (IsSlotOf ps) s ss all) column row at misses)
+share_over : (lens : Lens) (ps : List Piece) (b : Block) (px py : ℕ) → All (IsPieceOf lens) ps → px < lens.w → py < lens.h → IsRowOf b py → (ss : List Slot) → All (IsSlotOf ps) ss → (m : Mark) → slots_over lens ps (filter (meets b) ss) px py m ≡ slots_over lens ps ss px py m
+share_over lens ps b px py ready column row at [] all m = refl
+share_over lens ps b px py ready column row at (s ∷ ss) all m =
+    share_step lens ps b px py s ss m
+    (λ n. share_over lens ps b px py ready column row at ss (All-tail (IsSlotOf ps) s ss all) n)
+    (λ misses. slot_unmet lens ps s b px py m ready (All-head (IsSlotOf ps) s ss all) column row at misses)
 
-share_for : (lens : Lens) (ps : List Piece) (ss : List Slot) (i : ℕ) (before after : Strip) → All (IsPieceOf lens) ps → AreSlotsOf lens ps ss → before.band ≡ band_at lens i → HasSlots (filter (meets i) ss) before after → HasSlotsFor lens ps after
-share_for lens ps ss i before after ready are is has = record {
-  rows = subst (λ (ts : List Slot). All (IsSlotOf ps) ts) (sym has.slots) (All-filter (meets i) (IsSlotOf ps) ss are.rows);
+share_for : (lens : Lens) (ps : List Piece) (ss : List Slot) (before after : Strip) → All (IsPieceOf lens) ps → AreSlotsOf lens ps ss → IsStripOf lens before → HasShare ss before after → HasSlotsFor lens ps after
+share_for lens ps ss before after ready are strip has = record {
+  rows = subst (λ (ts : List Slot). All (IsSlotOf ps) ts) (sym has.slots) (All-filter (meets before.band) (IsSlotOf ps) ss are.rows);
   over = λ px r m column row.
+      let b = before.band in
       let py = after.band.first + r in
-      let first : after.band.first ≡ 16 * i = ap (λ (b : Block). b.first) (has.band ∙ is) in
-      let rows : after.band.rows ≡ min 16 (lens.h - 16 * i) = ap (λ (b : Block). b.rows) (has.band ∙ is) in
+      let first : after.band.first ≡ b.first = ap (λ (c : Block). c.first) has.band in
+      let rows : after.band.rows ≡ b.rows = ap (λ (c : Block). c.rows) has.band in
+      let at : IsRowOf b py = record { from = omega (arith, first); to = omega (arith, first, rows, row, strip.most) } in
       ap (λ (ts : List Slot). slots_over lens ps ts px py m) has.slots
-      ∙ share_over lens ps i px py ready column (omega (arith, first, rows, row)) (omega (arith, first, rows, row)) ss are.rows m
+      ∙ share_over lens ps b px py ready column (omega (arith, first, rows, row, strip.band.rows)) at ss are.rows m
       ∙ are.over px py m;
 }
 
--- ---- strips with their slots are the same strips
-pub shared_slots : (lens : Lens) (ps : List Piece) (ss : List Slot) (before after : List Strip) → All (IsPieceOf lens) ps → AreSlotsOf lens ps ss → AreStrips lens before → length after ≡ length before → AreShared ss before after → (i : ℕ) (d : Strip) → i < length after → HasSlotsFor lens ps (get_or after i d)
+pub shared_slots : (lens : Lens) (ps : List Piece) (ss : List Slot) (before after : List Strip) → All (IsPieceOf lens) ps → AreSlotsOf lens ps ss → All (IsStripOf lens) before → length after ≡ length before → AreShared ss before after → All (HasSlotsFor lens ps) after
 shared_slots lens ps ss before after ready are strips long shared i d below =
-    let below' : i < length before = omega (arith, below, long) in
-    share_for lens ps ss i (get_or before i d) (get_or after i d) ready are (strips.bands i d below') (shared i d below')
+    let in_list : i < length before = omega (arith, below, long) in
+    share_for lens ps ss (get_or before i d) (get_or after i d) ready are (strips i d in_list) (shared i d in_list)
 
-same_tiles : (xs ys : List Tile) → ys ≡ xs → TilesRelate (λ s t. t ≡ s) xs ys
-same_tiles xs ys same j d below = ap (λ (ts : List Tile). get_or ts j d) same
-
-slots_relate : (ss : List Slot) (before after : Strip) → HasSlots ss before after → StripRelates (λ s t. t ≡ s) before after
-slots_relate ss before after has = record {
-  band = has.band;
-  count = ap (λ (ts : List Tile). length ts) has.tiles;
-  tiles = same_tiles before.tiles.items after.tiles.items has.tiles;
+-- ---- strips with their slots are the same strips
+shared_strip : (lens : Lens) (ss : List Slot) (before after : Strip) → IsStripOf lens before → HasShare ss before after → IsStripOf lens after
+shared_strip lens ss before after strip has = record {
+  band = subst (λ (b : Block). IsBlockOf lens b) (sym has.band) strip.band;
+  begins = omega (arith, strip.begins, ap (λ (b : Block). b.first) has.band);
+  most = omega (arith, strip.most, ap (λ (b : Block). b.rows) has.band);
+  tiles = subst (λ (b : Block). AreTilesOf b after.tiles.items) (sym has.band) (subst (λ (ts : List Tile). AreTilesOf before.band ts) (sym has.tiles) strip.tiles);
 }
 
-pub shared_strips : (lens : Lens) (ss : List Slot) (before after : List Strip) → AreStrips lens before → length after ≡ length before → AreShared ss before after → AreStrips lens after
-shared_strips lens ss before after are long shared =
-    strips_kept (λ s t. t ≡ s) lens before after (λ s t same. ap (λ (u : Tile). u.block) same) are long
-    (λ i d below. slots_relate (filter (meets i) ss) (get_or before i d) (get_or after i d) (shared i d below))
+pub shared_strips : (lens : Lens) (ss : List Slot) (before after : List Strip) → All (IsStripOf lens) before → length after ≡ length before → AreShared ss before after → All (IsStripOf lens) after
+shared_strips lens ss before after strips long shared i d below =
+    let in_list : i < length before = omega (arith, below, long) in
+    shared_strip lens ss (get_or before i d) (get_or after i d) (strips i d in_list) (shared i d in_list)
 
 -- what holds of the tiles from there on holds of them from before
 shared_before : (P : Tile → Tile → Type 0) (ss : List Slot) (a b c : Strip) → HasSlots ss a b → StripRelates P b c → StripRelates P a c
@@ -199,7 +213,28 @@ shared_before P ss a b c has h = record {
 
 pub shared_relate : (P : Tile → Tile → Type 0) (ss : List Slot) (before shared after : List Strip) → length shared ≡ length before → AreShared ss before shared → StripsRelate P shared after → StripsRelate P before after
 shared_relate P ss before shared after long are each i d below =
-    shared_before P (filter (meets i) ss) (get_or before i d) (get_or shared i d) (get_or after i d) (are i d below) (each i d (omega (arith, below, long)))
+    shared_before P (filter (meets (get_or before i d).band) ss) (get_or before i d) (get_or shared i d) (get_or after i d) (are i d below) (each i d (omega (arith, below, long)))
+
+-- ---- strips one below the other
+pub picture_lies : (lens : Lens) (strips : List Strip) → AreStrips lens strips → AreStacked strips
+picture_lies lens strips are d i e below =
+    ap (λ (b : Block). b.first) (are.bands i e below) ∙ omega (arith, ap (λ (b : Block). b.first) (are.bands 0 d (omega (arith, below))))
+
+lie_cut : (first : ℕ) (xs ys : List Strip) → LieFrom first (xs ++ ys) → LieFrom first xs × LieFrom (first + 16 * length xs) ys
+lie_cut first xs ys lie = (
+  λ i d below. ap (λ (s : Strip). s.band.first) (sym (get_or_append_left xs ys d i below)) ∙ lie i d (omega (arith, below, length-append xs ys)),
+  λ i d below. ap (λ (s : Strip). s.band.first) (sym (get_or-append-add xs ys i d)) ∙ lie (length xs + i) d (omega (arith, below, length-append xs ys)) ∙ omega arith)
+
+-- they are stacked, wherever they begin
+lie_stacked : (first : ℕ) (strips : List Strip) → LieFrom first strips → AreStacked strips
+lie_stacked first strips lie d i e below = lie i e below ∙ omega (arith, lie 0 d (omega (arith, below)))
+
+pub stacked_front : (xs ys : List Strip) → AreStacked (xs ++ ys) → AreStacked xs
+stacked_front xs ys stacked d = let first = (get_or (xs ++ ys) 0 d).band.first in lie_stacked first xs (lie_cut first xs ys (stacked d)).0 d
+
+pub stacked_rear : (xs ys : List Strip) → AreStacked (xs ++ ys) → AreStacked ys
+stacked_rear xs ys stacked d =
+    let first = (get_or (xs ++ ys) 0 d).band.first in lie_stacked (first + 16 * length xs) ys (lie_cut first xs ys (stacked d)).1 d
 
 -- the tiles of a band
 pub tile_over : (lens : Lens) (ps : List Piece) (b : Block) (ss : List Slot) (j : ℕ) (t : Tile) → AreSlotsFor lens ps b ss → t.block ≡ tile_block b j → IsBlockOf lens t.block → AreOver lens ps ss t

@@ -10,9 +10,17 @@ use Rattle.depth_raster.specs.declared.pieces.Piece.{Piece}
 use Rattle.depth_raster.specs.declared.slots.Slot.{Slot}
 use Rattle.depth_raster.specs.declared.strip.Strip.{Strip}
 
--- the slot reaches rows of the strip of a number
-abbrev pub meets : (i : ℕ) → Slot → Bool
-meets i s = nat_le (s.top / 16) i && nat_lt (16 * i) s.bottom
+-- the slot reaches rows of the band of a strip
+abbrev pub meets : Block → Slot → Bool
+meets b s = nat_lt s.top (b.first + 16) && nat_lt b.first s.bottom
+
+-- the strips lie one below the other, from this row on
+abbrev pub LieFrom : (first : ℕ) → List Strip → Type 0
+LieFrom first strips = (i : ℕ) (d : Strip) → i < length strips → (slice_index_or strips i d).band.first ≡ first + 16 * i
+
+-- they do, wherever they begin
+abbrev pub AreStacked : List Strip → Type 0
+AreStacked strips = (d : Strip) → LieFrom (slice_index_or strips 0 d).band.first strips
 
 -- the strip has these slots now; all else stays
 pub record HasSlots (ss : List Slot) (before after : Strip) : Type 0 where
@@ -22,18 +30,21 @@ pub record HasSlots (ss : List Slot) (before after : Strip) : Type 0 where
   pub glass_work : after.glass_work ≡ before.glass_work
   pub slots : after.slots.items ≡ ss
 
--- the strip of a number has the slot besides, where the slot reaches its rows
-abbrev pub Gains : Slot → (i : ℕ) → (before after : Strip) → Type 0
-Gains s i before after = HasSlots (before.slots.items ++ (if meets i s then s ∷ [] else [])) before after
+-- the strip has the slot besides, where the slot reaches its rows
+abbrev pub Gains : Slot → (before after : Strip) → Type 0
+Gains s before after = HasSlots (before.slots.items ++ (if meets before.band s then s ∷ [] else [])) before after
 
 -- so do all strips
 abbrev pub EachGains : Slot → (before after : List Strip) → Type 0
-EachGains s before after = (i : ℕ) (d : Strip) → i < length before → Gains s i (slice_index_or before i d) (slice_index_or after i d)
+EachGains s before after = (i : ℕ) (d : Strip) → i < length before → Gains s (slice_index_or before i d) (slice_index_or after i d)
 
--- each strip has those of the slots that reach its rows
+-- the strip has those of the slots that reach its rows
+abbrev pub HasShare : List Slot → (before after : Strip) → Type 0
+HasShare ss before after = HasSlots (filter (meets before.band) ss) before after
+
+-- so does each strip
 abbrev pub AreShared : List Slot → (before after : List Strip) → Type 0
-AreShared ss before after =
-    (i : ℕ) (d : Strip) → i < length before → HasSlots (filter (meets i) ss) (slice_index_or before i d) (slice_index_or after i d)
+AreShared ss before after = (i : ℕ) (d : Strip) → i < length before → HasShare ss (slice_index_or before i d) (slice_index_or after i d)
 
 -- in the rows of a block the slots make the same of marks as the pieces
 pub record AreSlotsFor (lens : Lens) (ps : List Piece) (b : Block) (ss : List Slot) : Type 0 where

@@ -11,12 +11,15 @@ use Rattle.depth_raster.specs.declared.tile.Tile.{Tile}
 -- the pixels of a row from a column on get the colours, and nothing else is changed
 pub record SetsRow (width : ℕ) (old new : List ℕ) (left row : ℕ) (colours : List (List ℕ)) : Type 0 where
   pub coloured : (q : ℕ) → q < length colours → pixel_in new width (left + q) row ≡ slice_index_or colours q []
-  pub others : (px r : ℕ) → px < width → (r ≡ row → left ≤ px → px < left + length colours → ⊥) → pixel_in new width px r ≡ pixel_in old width px r
+  pub others : (px r : ℕ) → px < width → (r ≡ row → left ≤ px → px < left + length colours → ⊥)
+      → pixel_in new width px r ≡ pixel_in old width px r
 
 -- so many rows of a tile, from the first one on, get its colours, and nothing else is changed
 pub record SetsTile (width : ℕ) (old new : List ℕ) (t : Tile) (rows : ℕ) : Type 0 where
-  pub coloured : (q r : ℕ) → q < t.block.width → r < rows → pixel_in new width (t.block.left + q) r ≡ colour_in t.block t.colours.items q r
-  pub others : (px r : ℕ) → px < width → (t.block.left ≤ px → px < t.block.left + t.block.width → r < rows → ⊥) → pixel_in new width px r ≡ pixel_in old width px r
+  pub coloured : (q r : ℕ) → q < t.block.width → r < rows
+      → pixel_in new width (t.block.left + q) r ≡ colour_in t.block t.colours.items q r
+  pub others : (px r : ℕ) → px < width → (t.block.left ≤ px → px < t.block.left + t.block.width → r < rows → ⊥)
+      → pixel_in new width px r ≡ pixel_in old width px r
 
 -- the colour of the tiles of a band in a column and a row of it
 abbrev pub tile_colour : List Tile → (px r : ℕ) → List ℕ

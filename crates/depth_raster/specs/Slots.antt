@@ -1,5 +1,5 @@
 -- The order in which pieces are drawn, and what they make of a pixel.
-use Rattle.std.specs.Prelude.{◌≡◌, ℕ, List, fold, Option, Some, option_and_then, slice_get}
+use Rattle.std.specs.Prelude.{◌≡◌, ℕ, ◌<◌, ◌≤◌, List, length, fold, Option, Some, option_and_then, slice_get, slice_index_or}
 use Rattle.std.specs.List.{All}
 use Rattle.fx_math.specs.declared.lenses.Lens.{Lens}
 use Rattle.depth_raster.specs.Marks.{mark_by, mark_with}
@@ -27,6 +27,26 @@ pub record IsSlotFor (p : Piece) (s : Slot) : Type 0 where
   pub right : s.right ≡ p.extent.right
   pub top : s.top ≡ p.extent.top
   pub bottom : s.bottom ≡ p.extent.bottom
+
+-- the slot has become that of the piece, and keeps its place
+pub record IsTaken (p : Piece) (before after : Slot) : Type 0 where
+  pub index : after.index ≡ before.index
+  pub slot : IsSlotFor p after
+
+-- each slot has become that of its piece
+abbrev pub AreTaken : List Piece → (before after : List Slot) → Type 0
+AreTaken ps before after =
+    (k : ℕ) (d : Piece) (e : Slot) → k < length ps → IsTaken (slice_index_or ps k d) (slice_index_or before k e) (slice_index_or after k e)
+
+-- the slots have their places as indices
+abbrev pub AreNumbered : List Slot → Type 0
+AreNumbered ss = (k : ℕ) (e : Slot) → k < length ss → (slice_index_or ss k e).index ≡ k
+
+-- the slots are those of the first pieces, in their order
+pub record AreSlotted (ps : List Piece) (ss : List Slot) : Type 0 where
+  pub few : length ss ≤ length ps
+  pub numbered : AreNumbered ss
+  pub slots : (k : ℕ) (d : Piece) (e : Slot) → k < length ss → IsSlotFor (slice_index_or ps k d) (slice_index_or ss k e)
 
 -- so it has those of its piece
 abbrev pub IsSlotOf : List Piece → Slot → Type 0

@@ -32,6 +32,7 @@ TilesRelate P before after = (j : ℕ) (d : Tile) → j < length before → P (s
 pub record IsStripOf (lens : Lens) (s : Strip) : Type 0 where
   pub band : IsBlockOf lens s.band
   pub begins : s.band.first < lens.h
+  pub most : s.band.rows ≤ 16
   pub tiles : AreTilesOf s.band s.tiles.items
 
 -- P holds of each tile of a strip before and after

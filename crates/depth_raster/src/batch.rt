@@ -1,12 +1,13 @@
 //! Pieces that are drawn together.
-ghost use Rattle.std.specs.Prelude.{◌≡◌, ℕ, List, ◌+◌, ◌≤◌, ◌<◌, true, [], ◌∷◌, ◌++◌, All, length, nat_le, IfOk};
-ghost use Rattle.std.specs.Vec.{vec_len, vec_capacity};
+ghost use Rattle.std.specs.Prelude.{◌≡◌, List, ◌+◌, ◌≤◌, ◌<◌, true, [], ◌∷◌, ◌++◌, All, length, nat_le, take, IfOk};
+ghost use Rattle.std.specs.Vec.{vec_capacity};
 ghost use Rattle.depth_raster.specs.Pieces.{AreRanked};
+ghost use Rattle.depth_raster.specs.Slots.{AreSlotted};
 
 use crate::bare::Bare;
 use crate::faces::Face;
 use crate::piece_buffer::{PieceBuffer, ROOM};
-use crate::slots::{Slot, fill, sort};
+use crate::slots::{Slot, complete, sort};
 use draw_list::DrawList;
 use fx_math::Lens;
 use pf_io::NoMemory;
@@ -14,18 +15,20 @@ use std::alloc::Global;
 use std::thread::Threads;
 
 /// Pieces and their slots, and faces that are still to become pieces, with room for as many as are drawn together. The first ones
-/// of a picture are drawn over nothing.
+/// of a picture are drawn over nothing. So many of the slots are those of the first pieces, in their order.
 #[derive(Drop)]
 pub(crate) struct Batch {
     pub(crate) is_first: bool,
     pub(crate) pieces: PieceBuffer,
     pub(crate) bare: Vec<Bare>,
     pub(crate) slots: Vec<Slot>,
+    slotted: usize,
     ghost few: { length pieces ≤ 16384 },
     ghost few_bare: { length bare.items ≤ 16384 },
     ghost ranked: { AreRanked pieces },
     ghost bare_room: { 16384 ≤ vec_capacity bare },
     ghost slots_room: { 16384 ≤ vec_capacity slots },
+    ghost slotted_first: { AreSlotted pieces (take slotted slots.items) },
 }
 
 impl Batch {
@@ -49,6 +52,7 @@ impl Batch {
             pieces,
             bare,
             slots,
+            slotted: 0,
         })
     }
 
@@ -74,6 +78,7 @@ impl Batch {
     {
         self.pieces.clear();
         self.bare.clear();
+        self.slotted = 0;
     }
 
     /// Leaves no faces.
@@ -90,7 +95,6 @@ impl Batch {
         requires { length self.old.pieces < 16384 }
         ensures first { self.new.is_first ≡ self.old.is_first }
         ensures pieces { IsWithFace (record face { rank = length self.old.pieces + 1 }) self.old.pieces self.new.pieces }
-        ensures bare { self.new.bare.items ≡ self.old.bare.items }
     {
         let rank = self.pieces.len() as u32 + 1;
         self.pieces.push(Face { rank, ..face });
@@ -108,18 +112,21 @@ impl Batch {
     {
         let rank = (self.pieces.len() + self.bare.len()) as u32 + 1;
         let face = Face { rank, ..face };
-        append(&mut self.bare, Bare { face, joint });
+        self.bare.push_reserved(Bare { face, joint });
     }
 
-    /// Prepares the faces of a list, which become the last pieces: their triangles come to the eye, and they are ready to be drawn
-    /// for a lens.
+    /// Prepares the faces of a list, which become the last pieces: their triangles come to the eye, they are ready to be drawn for
+    /// a lens, and they have their slots.
     pub(crate) fn prepare<R: Threads + Sync>(&mut self, rt: &R, list: &DrawList, lens: &Lens)
         requires { AreGathered list.now.joints.lists lens.now self.old.pieces self.old.bare.items }
         ensures first { self.new.is_first ≡ self.old.is_first }
         ensures none { self.new.bare.items ≡ [] }
         ensures pieces { AreAppended list.now.joints.lists lens.now self.old.bare.items self.old.pieces self.new.pieces }
     {
-        self.pieces.prepare(rt, &self.bare, list, lens);
+        self.complete_slots();
+        self.pieces
+            .prepare(rt, &self.bare, &mut self.slots, list, lens);
+        self.slotted = self.slots.len();
         self.bare.clear();
     }
 
@@ -129,17 +136,22 @@ impl Batch {
         ensures faces { faces_of self.new.pieces ≡ faces_of self.old.pieces }
         ensures ready { All (IsPieceOf lens.now) self.new.pieces }
     {
+        self.slotted = 0;
         self.pieces.make_ready(rt, lens);
     }
 
-    /// Makes the slots of the pieces, as the pieces stand.
-    pub(crate) fn fill_slots(&mut self)
+    /// Sees to it that all pieces have slots.
+    pub(crate) fn complete_slots(&mut self)
         requires { All (λ p. IsLeast p.face p.least) self.old.pieces }
+        ensures first { self.new.is_first ≡ self.old.is_first }
         ensures pieces { self.new.pieces ≡ self.old.pieces }
-        ensures few { length self.new.slots.items ≤ 16384 }
-        ensures slots { (lens : Lens) → AreSlotsOf lens self.new.pieces self.new.slots.items }
+        ensures bare { self.new.bare.items ≡ self.old.bare.items }
+        ensures count { length self.new.slots.items ≡ length self.new.pieces }
+        ensures slotted { AreSlotted self.new.pieces self.new.slots.items }
     {
-        fill(&mut self.slots, self.pieces.as_slice());
+        self.slots.truncate(self.slotted);
+        complete(&mut self.slots, self.pieces.as_slice());
+        self.slotted = self.slots.len();
     }
 
     /// Sorts the slots by the least depths of their pieces, where the strips are drawn in one part. Where there are several, each
@@ -151,19 +163,8 @@ impl Batch {
             → AreSlotsOf lens ps self.new.slots.items }
     {
         if parts < 2 {
+            self.slotted = 0;
             sort(&mut self.slots);
         }
-    }
-}
-
-/// Appends a face, for which there is room.
-fn append(bare: &mut Vec<Bare>, face: Bare)
-    requires { vec_len bare.old < vec_capacity bare.old }
-    ensures items { bare.new.items ≡ bare.old.items ++ face ∷ [] }
-    ensures capacity { vec_capacity bare.old ≤ vec_capacity bare.new }
-{
-    match bare.push(face) {
-        Ok(()) => {}
-        Err(_) => unreachable!(),
     }
 }

@@ -12,7 +12,6 @@ ghost use Rattle.depth_raster.specs.Strips.{AreStrips};
 
 use crate::batch::Batch;
 use crate::faces::Face;
-use crate::shares::share_out;
 use crate::strip::Strip;
 use crate::strips::draw_strips;
 use crate::work::{parts_of, work_of_slots};
@@ -189,10 +188,9 @@ pub(crate) fn flush<R: Threads + Sync>(
         → seen_at strips.new px py ≡ None → colour_at strips.new px py ≡ back }
 {
     let is_first = batch.is_first;
-    batch.fill_slots();
+    batch.complete_slots();
     let parts = parts_of(rt, work_of_slots(&batch.slots));
     batch.sort_slots(parts);
-    share_out(strips, &batch.slots);
     draw_strips(
         rt,
         parts,
@@ -200,6 +198,7 @@ pub(crate) fn flush<R: Threads + Sync>(
         lens,
         back,
         batch.pieces.as_slice(),
+        &batch.slots,
         strips,
     );
     batch.clear();

@@ -1,12 +1,14 @@
 //! Pieces in memory that is kept.
-ghost use Rattle.std.specs.Prelude.{◌≡◌, ℕ, ◌+◌, ◌≤◌, ◌<◌, [], ◌∷◌, ◌++◌, All, length, take, IfOk};
-ghost use Rattle.std.specs.Vec.{vec_len, vec_capacity};
+ghost use Rattle.std.specs.Prelude.{◌≡◌, ℕ, ◌+◌, ◌≤◌, ◌<◌, [], All, length, take, IfOk};
+ghost use Rattle.std.specs.Vec.{vec_capacity};
 ghost use Rattle.depth_raster.specs.Batches.{IsWithFace};
 ghost use Rattle.depth_raster.specs.Pieces.{AreMadeReady, HasJoint, AreAppended};
+ghost use Rattle.depth_raster.specs.Slots.{AreNumbered, AreSlotted};
 
 use crate::bare::Bare;
 use crate::faces::Face;
 use crate::pieces::{Piece, make_ready, prepare};
+use crate::slots::{Slot, wait};
 use crate::work::preparing_parts;
 use draw_list::DrawList;
 use fx_math::Lens;
@@ -78,20 +80,27 @@ impl PieceBuffer {
         self.count += 1;
     }
 
-    /// Takes the pieces of the faces of a list, prepared for a lens, as the last ones.
+    /// Takes the pieces of the faces of a list, prepared for a lens, as the last ones, and appends their slots.
     pub(crate) fn prepare<R: Threads + Sync>(
         &mut self,
         rt: &R,
         bare: &[Bare],
+        slots: &mut Vec<Slot>,
         list: &DrawList,
         lens: &Lens,
     )
         requires few { length self.old + length bare.now ≤ 16384 }
         requires joints { All (HasJoint list.now.joints.lists) bare.now }
-        ensures { AreAppended list.now.joints.lists lens.now bare.now self.old self.new }
+        requires room { 16384 ≤ vec_capacity slots.old }
+        requires count { length slots.old.items ≡ length self.old }
+        requires slotted { AreSlotted self.old slots.old.items }
+        ensures pieces { AreAppended list.now.joints.lists lens.now bare.now self.old self.new }
+        ensures room { 16384 ≤ vec_capacity slots.new }
+        ensures slotted { AreSlotted self.new slots.new.items }
     {
         fill_up(&mut self.written, self.count, bare);
-        prepare_behind(rt, &mut self.written, self.count, bare, list, lens);
+        wait(slots, bare.len());
+        prepare_behind(rt, &mut self.written, slots, self.count, bare, list, lens);
         self.count += bare.len();
     }
 
@@ -116,7 +125,7 @@ fn write_at(written: &mut Vec<Piece>, count: usize, face: Face)
         written[count].face = face;
         return;
     }
-    append(written, Piece::bare(face));
+    written.push_reserved(Piece::bare(face));
 }
 
 /// Sees to it that there are pieces behind the first so many, whatever they are, as many as faces.
@@ -145,26 +154,40 @@ fn fill_at(written: &mut Vec<Piece>, place: usize, face: Face)
     if place < written.len() {
         return;
     }
-    append(written, Piece::bare(face));
+    written.push_reserved(Piece::bare(face));
 }
 
-/// Prepares the pieces of the faces of a list behind the first so many.
+/// Prepares the pieces of the faces of a list behind the first so many, and their slots.
 fn prepare_behind<R: Threads + Sync>(
     rt: &R,
     written: &mut [Piece],
+    slots: &mut [Slot],
     count: usize,
     bare: &[Bare],
     list: &DrawList,
     lens: &Lens,
 )
     requires there { count + length bare.now ≤ length written.old }
+    requires slots { length slots.old ≡ count + length bare.now }
     requires joints { All (HasJoint list.now.joints.lists) bare.now }
-    ensures { AreAppended list.now.joints.lists lens.now bare.now (take count written.old)
+    requires numbered { AreNumbered slots.old }
+    requires slotted { AreSlotted (take count written.old) (take count slots.old) }
+    ensures pieces { AreAppended list.now.joints.lists lens.now bare.now (take count written.old)
         (take (count + length bare.now) written.new) }
+    ensures slotted { AreSlotted (take (count + length bare.now) written.new) slots.new }
 {
     let (_, behind) = written.split_at_mut(count);
     let (fresh, _) = behind.split_at_mut(bare.len());
-    prepare(rt, preparing_parts(rt, bare.len()), bare, fresh, list, lens);
+    let (_, waiting) = slots.split_at_mut(count);
+    prepare(
+        rt,
+        preparing_parts(rt, bare.len()),
+        bare,
+        fresh,
+        waiting,
+        list,
+        lens,
+    );
 }
 
 /// Makes the first so many pieces ready for a lens.
@@ -174,16 +197,4 @@ fn make_ready_first<R: Threads + Sync>(rt: &R, written: &mut [Piece], count: usi
 {
     let (pieces, _) = written.split_at_mut(count);
     make_ready(rt, pieces, lens);
-}
-
-/// Appends a piece, for which there is room.
-fn append(pieces: &mut Vec<Piece>, piece: Piece)
-    requires { vec_len pieces.old < vec_capacity pieces.old }
-    ensures items { pieces.new.items ≡ pieces.old.items ++ piece ∷ [] }
-    ensures capacity { vec_capacity pieces.old ≤ vec_capacity pieces.new }
-{
-    match pieces.push(piece) {
-        Ok(()) => {}
-        Err(_) => unreachable!(),
-    }
 }

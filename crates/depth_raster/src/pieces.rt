@@ -4,6 +4,7 @@ ghost use Rattle.std.specs.Thread.{IsSync};
 ghost use Rattle.tri_cover.specs.Readiness.{IsReady};
 ghost use Rattle.depth_raster.specs.Around.{IsAround, IsBoxOf};
 ghost use Rattle.depth_raster.specs.Pieces.{IsMadeReady, AreMadeReady, HasJoint, IsPrepared, ArePrepared};
+ghost use Rattle.depth_raster.specs.Slots.{AreTaken};
 ghost use Rattle.depth_raster.specs.Recent.{AreCarried};
 
 use crate::bare::Bare;
@@ -11,6 +12,7 @@ use crate::extents::Extent;
 use crate::faces::{Face, at_eye};
 use crate::leasts::least_mark;
 use crate::recent::Recent;
+use crate::slots::Slot;
 use crate::small::is_small;
 use crate::work::{are_many, processors};
 use draw_list::DrawList;
@@ -86,31 +88,46 @@ fn about_dividend(ready: &Option<tri_cover::Face>) -> f64 {
     }
 }
 
-/// Prepares the pieces of faces in so many parts side by side.
+/// Prepares the pieces of faces, and their slots, in so many parts side by side.
 #[cycle(preparing)]
 pub(crate) fn prepare<R: Threads + Sync>(
     rt: &R,
     parts: usize,
     bare: &[Bare],
     pieces: &mut [Piece],
+    slots: &mut [Slot],
     list: &DrawList,
     lens: &Lens,
 )
     requires count { length bare.now ≡ length pieces.old }
+    requires slots { length bare.now ≡ length slots.old }
     requires joints { All (HasJoint list.now.joints.lists) bare.now }
-    ensures { ArePrepared list.now.joints.lists lens.now bare.now pieces.new }
+    ensures pieces { ArePrepared list.now.joints.lists lens.now bare.now pieces.new }
+    ensures slots { AreTaken pieces.new slots.old slots.new }
 {
     if parts < 2 {
-        prepare_in_turn(bare, pieces, list, lens);
+        prepare_in_turn(bare, pieces, slots, list, lens);
         return;
     }
     let count = bare.len() / parts;
     let (first, others) = bare.split_at(count);
     let (front, rest) = pieces.split_at_mut(count);
-    prepare_parts(rt, parts - 1, first, others, front, rest, list, lens);
+    let (front_slots, rest_slots) = slots.split_at_mut(count);
+    prepare_parts(
+        rt,
+        parts - 1,
+        first,
+        others,
+        front,
+        rest,
+        front_slots,
+        rest_slots,
+        list,
+        lens,
+    );
 }
 
-/// Prepares the pieces of one part in a thread of its own, and those of so many others.
+/// Prepares the pieces of one part and their slots, in a thread of its own, and those of so many others.
 #[cycle(preparing)]
 fn prepare_parts<R: Threads + Sync>(
     rt: &R,
@@ -119,36 +136,56 @@ fn prepare_parts<R: Threads + Sync>(
     others: &[Bare],
     front: &mut [Piece],
     rest: &mut [Piece],
+    front_slots: &mut [Slot],
+    rest_slots: &mut [Slot],
     list: &DrawList,
     lens: &Lens,
 )
     requires front_count { length first.now ≡ length front.old }
     requires rest_count { length others.now ≡ length rest.old }
+    requires front_slots { length first.now ≡ length front_slots.old }
+    requires rest_slots { length others.now ≡ length rest_slots.old }
     requires front { All (HasJoint list.now.joints.lists) first.now }
     requires rest { All (HasJoint list.now.joints.lists) others.now }
     ensures front { ArePrepared list.now.joints.lists lens.now first.now front.new }
     ensures rest { ArePrepared list.now.joints.lists lens.now others.now rest.new }
+    ensures front_slots { AreTaken front.new front_slots.old front_slots.new }
+    ensures rest_slots { AreTaken rest.new rest_slots.old rest_slots.new }
 {
     let mut one = ||
-        requires { All (HasJoint list.now.joints.lists) first.now × (length first.now ≡ length front.now) }
-        ensures { ArePrepared list.entry.now.joints.lists lens.entry.now first.entry.now front.exit.now }
-    { prepare_in_turn(first, front, list, lens) };
+        requires { All (HasJoint list.now.joints.lists) first.now × (length first.now ≡ length front.now)
+            × (length first.now ≡ length front_slots.now) }
+        ensures { ArePrepared list.entry.now.joints.lists lens.entry.now first.entry.now front.exit.now
+            × AreTaken front.exit.now front_slots.entry.now front_slots.exit.now }
+    { prepare_in_turn(first, front, front_slots, list, lens) };
     let mut all = ||
-        requires { IsSync R.row × All (HasJoint list.now.joints.lists) others.now × (length others.now ≡ length rest.now) }
-        ensures { ArePrepared list.entry.now.joints.lists lens.entry.now others.entry.now rest.exit.now }
-    { prepare(rt, more, others, rest, list, lens) };
+        requires { IsSync R.row × All (HasJoint list.now.joints.lists) others.now × (length others.now ≡ length rest.now)
+            × (length others.now ≡ length rest_slots.now) }
+        ensures { ArePrepared list.entry.now.joints.lists lens.entry.now others.entry.now rest.exit.now
+            × AreTaken rest.exit.now rest_slots.entry.now rest_slots.exit.now }
+    { prepare(rt, more, others, rest, rest_slots, list, lens) };
     join_mut(rt, &mut one, &mut all);
 }
 
-/// Prepares the piece of one face after the other.
-fn prepare_in_turn(bare: &[Bare], pieces: &mut [Piece], list: &DrawList, lens: &Lens)
+/// Prepares the piece of one face after the other, and its slot.
+fn prepare_in_turn(
+    bare: &[Bare],
+    pieces: &mut [Piece],
+    slots: &mut [Slot],
+    list: &DrawList,
+    lens: &Lens,
+)
     requires count { length bare.now ≡ length pieces.old }
+    requires slots { length bare.now ≡ length slots.old }
     requires joints { All (HasJoint list.now.joints.lists) bare.now }
-    ensures { ArePrepared list.now.joints.lists lens.now bare.now pieces.new }
+    ensures pieces { ArePrepared list.now.joints.lists lens.now bare.now pieces.new }
+    ensures slots { AreTaken pieces.new slots.old slots.new }
 {
     let mut recent = Recent::new(0);
     for i in 0..bare.len() {
-        pieces[i].prepare(&bare[i], list, lens, &mut recent);
+        let piece = &mut pieces[i];
+        piece.prepare(&bare[i], list, lens, &mut recent);
+        slots[i].take(piece);
     }
 }
 

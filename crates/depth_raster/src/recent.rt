@@ -1,4 +1,4 @@
-//! The last points of an item that were carried to the eye.
+//! The last points of a joint's coordinates that were carried to the eye.
 ghost use Rattle.std.specs.Prelude.{◌<◌};
 
 use draw_list::DrawList;

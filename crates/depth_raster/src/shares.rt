@@ -1,21 +1,27 @@
 //! The slots of pieces, shared out to the strips whose rows they reach.
 ghost use Rattle.std.specs.Prelude.{◌≡◌, ℕ, ◌/◌, ◌<◌, ◌≤◌, [], ◌∷◌, ◌++◌, length, slice_index_or};
 ghost use Rattle.std.specs.Int.{div_ceil};
-ghost use Rattle.depth_raster.specs.Shares.{HasSlots, EachGains, AreShared};
+ghost use Rattle.depth_raster.specs.Shares.{HasSlots, EachGains, AreShared, LieFrom, AreStacked};
 ghost use Rattle.depth_raster.specs.declared.strip.Strip.{Strip};
 
-use crate::slots::{Slot, append};
+use crate::slots::Slot;
 use crate::strip::Strip;
 use crate::strips::ROWS;
 
-/// Gives each strip of a picture those slots that reach its rows, in their order, in place of those that it has.
+/// Gives each of some strips, which lie one below the other, those slots that reach its rows, in their order, in place of those
+/// that it has.
 pub(crate) fn share_out(strips: &mut [Strip], slots: &[Slot])
-    requires { length slots.now ≤ 16384 }
+    requires few { length slots.now ≤ 16384 }
+    requires stacked { AreStacked strips.old }
     ensures { AreShared slots.now strips.old strips.new }
 {
+    if strips.is_empty() {
+        return;
+    }
+    let first = strips[0].band.first;
     clear(strips);
     for slot in slots {
-        give(strips, *slot);
+        give(strips, first, *slot);
     }
 }
 
@@ -34,26 +40,27 @@ fn empty(strip: &mut Strip)
     strip.slots.clear();
 }
 
-/// Gives a slot to each strip whose rows it reaches.
-fn give(strips: &mut [Strip], slot: Slot)
-    requires { (i : ℕ) (d : Strip) → i < length strips.old → length (slice_index_or strips.old i d).slots.items < 16384 }
+/// Gives a slot to each strip whose rows it reaches; the first of the strips begins at this row.
+fn give(strips: &mut [Strip], first: u16, slot: Slot)
+    requires rows { LieFrom first strips.old }
+    requires room { (i : ℕ) (d : Strip) → i < length strips.old → length (slice_index_or strips.old i d).slots.items < 16384 }
     ensures { EachGains slot strips.old strips.new }
 {
-    let start = strip_of(slot.top);
-    let end = strips.len().min(strips_before(slot.bottom));
+    let start = strip_of(slot.top.saturating_sub(first));
+    let end = strips.len().min(strips_before(slot.bottom.saturating_sub(first)));
     for i in start..end {
         take(&mut strips[i], slot);
     }
 }
 
-/// The strip of a picture in which a row lies.
+/// The number of the strip in which a row lies.
 fn strip_of(row: u16) -> usize
     ensures { result ≡ row / 16 }
 {
     (row / ROWS) as usize
 }
 
-/// How many strips of a picture have rows before this one.
+/// How many strips have rows before this one.
 fn strips_before(row: u16) -> usize
     ensures { result ≡ div_ceil row 16 }
 {
@@ -65,5 +72,5 @@ fn take(strip: &mut Strip, slot: Slot)
     requires { length strip.old.slots.items < 16384 }
     ensures { HasSlots (strip.old.slots.items ++ slot ∷ []) strip.old strip.new }
 {
-    append(&mut strip.slots, slot);
+    strip.slots.push_reserved(slot);
 }

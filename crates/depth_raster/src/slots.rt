@@ -1,10 +1,10 @@
 //! The order in which pieces are drawn.
-ghost use Rattle.std.specs.Prelude.{◌≡◌, ◌≤◌, ◌<◌, List, [], ◌∷◌, ◌++◌, All, length};
-ghost use Rattle.std.specs.Vec.{vec_len, vec_capacity};
+ghost use Rattle.std.specs.Prelude.{◌≡◌, ◌+◌, ◌≤◌, List, All, length, take};
+ghost use Rattle.std.specs.Vec.{vec_capacity};
 ghost use Rattle.fx_math.specs.declared.lenses.Lens.{Lens};
 ghost use Rattle.depth_raster.specs.Pieces.{IsLeast};
 ghost use Rattle.depth_raster.specs.Shares.{AreSlotsFor};
-ghost use Rattle.depth_raster.specs.Slots.{IsSlotFor, AreSlotsOf};
+ghost use Rattle.depth_raster.specs.Slots.{AreNumbered, AreSlotsOf, AreSlotted};
 ghost use Rattle.depth_raster.specs.declared.blocks.Block.{Block};
 ghost use Rattle.depth_raster.specs.declared.pieces.Piece.{Piece};
 
@@ -22,47 +22,67 @@ pub(crate) struct Slot {
     pub(crate) index: u32,
 }
 
-/// Makes the slots of pieces, as the pieces stand.
-pub(crate) fn fill(slots: &mut Vec<Slot>, pieces: &[Piece])
-    requires room { length pieces.now ≤ vec_capacity slots.old }
+impl Slot {
+    ghost use Rattle.depth_raster.specs.Slots.{IsTaken};
+
+    /// The slot of a place, which has still to take its piece.
+    fn waiting(index: u32) -> Slot
+        ensures { result.index ≡ index }
+    {
+        Slot {
+            least: 0,
+            left: 0,
+            right: 0,
+            top: 0,
+            bottom: 0,
+            index,
+        }
+    }
+
+    /// Takes the piece of its place.
+    pub(crate) fn take(&mut self, piece: &Piece)
+        requires { IsLeast piece.now.face piece.now.least }
+        ensures { IsTaken piece.now self.old self.new }
+    {
+        let extent = piece.extent;
+        self.least = piece.least;
+        self.left = extent.left;
+        self.right = extent.right;
+        self.top = extent.top;
+        self.bottom = extent.bottom;
+    }
+}
+
+/// Appends slots for so many more pieces, which they have still to take.
+pub(crate) fn wait(slots: &mut Vec<Slot>, more: usize)
+    requires few { length slots.old.items + more ≤ 16384 }
+    requires room { 16384 ≤ vec_capacity slots.old }
+    requires numbered { AreNumbered slots.old.items }
+    ensures room { 16384 ≤ vec_capacity slots.new }
+    ensures count { length slots.new.items ≡ length slots.old.items + more }
+    ensures numbered { AreNumbered slots.new.items }
+    ensures first { take (length slots.old.items) slots.new.items ≡ slots.old.items }
+{
+    for i in 0..more {
+        let slot = Slot::waiting(slots.len() as u32);
+        slots.push_reserved(slot);
+    }
+}
+
+/// Gives slots to those of the pieces that have none.
+pub(crate) fn complete(slots: &mut Vec<Slot>, pieces: &[Piece])
     requires few { length pieces.now ≤ 16384 }
+    requires room { 16384 ≤ vec_capacity slots.old }
     requires least { All (λ p. IsLeast p.face p.least) pieces.now }
-    ensures capacity { vec_capacity slots.old ≤ vec_capacity slots.new }
+    requires slotted { AreSlotted pieces.now slots.old.items }
+    ensures room { 16384 ≤ vec_capacity slots.new }
     ensures count { length slots.new.items ≡ length pieces.now }
-    ensures slots { (lens : Lens) → AreSlotsOf lens pieces.now slots.new.items }
+    ensures slotted { AreSlotted pieces.now slots.new.items }
 {
-    slots.clear();
-    for index in 0..pieces.len() {
-        append(slots, slot_of(index as u32, &pieces[index]));
-    }
-}
-
-/// Appends a slot, for which there is room.
-pub(crate) fn append(slots: &mut Vec<Slot>, slot: Slot)
-    requires { vec_len slots.old < vec_capacity slots.old }
-    ensures items { slots.new.items ≡ slots.old.items ++ slot ∷ [] }
-    ensures capacity { vec_capacity slots.old ≤ vec_capacity slots.new }
-{
-    match slots.push(slot) {
-        Ok(()) => {}
-        Err(_) => unreachable!(),
-    }
-}
-
-/// The slot of a piece at a place.
-fn slot_of(index: u32, piece: &Piece) -> Slot
-    requires { IsLeast piece.now.face piece.now.least }
-    ensures index { result.index ≡ index }
-    ensures slot { IsSlotFor piece.now result }
-{
-    let extent = piece.extent;
-    Slot {
-        least: piece.least,
-        left: extent.left,
-        right: extent.right,
-        top: extent.top,
-        bottom: extent.bottom,
-        index,
+    for index in slots.len()..pieces.len() {
+        let mut slot = Slot::waiting(index as u32);
+        slot.take(&pieces[index]);
+        slots.push_reserved(slot);
     }
 }
 

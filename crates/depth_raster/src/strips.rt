@@ -1,9 +1,10 @@
 //! The strips of a picture, drawn.
-ghost use Rattle.std.specs.Prelude.{◌≡◌, ◌<◌, All, length};
+ghost use Rattle.std.specs.Prelude.{◌≤◌, All, length};
 ghost use Rattle.std.specs.Thread.{IsSync};
 ghost use Rattle.depth_raster.specs.Blocks.{IsBlockOf};
 ghost use Rattle.depth_raster.specs.Pieces.{IsPieceOf, AreRanked};
-ghost use Rattle.depth_raster.specs.Shares.{AreSlotsFor, HasSlotsFor};
+ghost use Rattle.depth_raster.specs.Shares.{AreStacked, AreSlotsFor, HasSlotsFor};
+ghost use Rattle.depth_raster.specs.Slots.{AreSlotsOf};
 ghost use Rattle.depth_raster.specs.Strips.{AreTilesOf, TilesRelate, IsStripOf, StripRelates, StripsRelate};
 ghost use Rattle.depth_raster.specs.Tiles.{IsCleared, IsSettled, IsBegun, IsPainted, IsDrawn, IsDrawnFrom};
 
@@ -11,6 +12,7 @@ use crate::across::draw_slots;
 use crate::blocks::Block;
 use crate::painting::{clear, paint, settle_tile};
 use crate::pieces::Piece;
+use crate::shares::share_out;
 use crate::slots::{Slot, sort};
 use crate::strip::Strip;
 use crate::tile::Tile;
@@ -21,8 +23,8 @@ use std::thread::{Threads, join_mut};
 /// The rows of a strip; the last one of a picture may have fewer.
 pub(crate) const ROWS: u16 = 16;
 
-/// Draws opaque pieces in strips, in so many parts side by side, which are about as much work each; the strips of a part are
-/// drawn one after the other. The first drawing of a picture is over strips that are cleared.
+/// Draws opaque pieces in strips, in so many parts side by side, which are about as much work each. The first drawing of a
+/// picture is over strips that are cleared.
 #[cycle(parts)]
 pub(crate) fn draw_strips<R: Threads + Sync>(
     rt: &R,
@@ -31,77 +33,94 @@ pub(crate) fn draw_strips<R: Threads + Sync>(
     lens: &Lens,
     back: [u8; 3],
     pieces: &[Piece],
+    slots: &[Slot],
     strips: &mut [Strip],
 )
     requires strips { All (IsStripOf lens.now) strips.old }
+    requires stacked { AreStacked strips.old }
     requires pieces { All (IsPieceOf lens.now) pieces.now }
     requires ranks { AreRanked pieces.now }
-    requires slots { All (HasSlotsFor lens.now pieces.now) strips.old }
+    requires few { length slots.now ≤ 16384 }
+    requires slots { AreSlotsOf lens.now pieces.now slots.now }
     ensures { StripsRelate (IsDrawnFrom lens.now back pieces.now is_first) strips.old strips.new }
 {
-    if strips.len() < 2 {
-        draw_last(strips, is_first, lens, back, pieces);
+    if parts < 2 || strips.len() < 2 {
+        draw_part(is_first, lens, back, pieces, slots, strips);
         return;
     }
     let (upper, lower) = strips.split_at_mut(end_of_part(strips, parts, Layer::Opaque));
-    draw_parts(rt, parts, is_first, lens, back, pieces, upper, lower);
+    draw_parts(rt, parts - 1, is_first, lens, back, pieces, slots, upper, lower);
 }
 
-/// Draws opaque pieces in the strips of one part, in a thread of its own where there are several, and in those of the others.
+/// Draws opaque pieces in the strips of one part, in a thread of its own, and in those of so many others.
 #[cycle(parts)]
 fn draw_parts<R: Threads + Sync>(
     rt: &R,
-    parts: usize,
+    more: usize,
     is_first: bool,
     lens: &Lens,
     back: [u8; 3],
     pieces: &[Piece],
+    slots: &[Slot],
     upper: &mut [Strip],
     lower: &mut [Strip],
 )
-    requires some_upper { 0 < length upper.old }
-    requires some_lower { 0 < length lower.old }
     requires upper { All (IsStripOf lens.now) upper.old }
     requires lower { All (IsStripOf lens.now) lower.old }
+    requires upper_stacked { AreStacked upper.old }
+    requires lower_stacked { AreStacked lower.old }
     requires pieces { All (IsPieceOf lens.now) pieces.now }
     requires ranks { AreRanked pieces.now }
-    requires upper_slots { All (HasSlotsFor lens.now pieces.now) upper.old }
-    requires lower_slots { All (HasSlotsFor lens.now pieces.now) lower.old }
+    requires few { length slots.now ≤ 16384 }
+    requires slots { AreSlotsOf lens.now pieces.now slots.now }
     ensures upper { StripsRelate (IsDrawnFrom lens.now back pieces.now is_first) upper.old upper.new }
     ensures lower { StripsRelate (IsDrawnFrom lens.now back pieces.now is_first) lower.old lower.new }
 {
-    if parts < 2 {
-        draw_strips(rt, 1, is_first, lens, back, pieces, upper);
-        draw_strips(rt, 1, is_first, lens, back, pieces, lower);
-        return;
-    }
-    let others = parts - 1;
     let mut above = ||
-        requires { IsSync R.row × All (IsStripOf lens.now) upper.now × All (IsPieceOf lens.now) pieces.now
-            × AreRanked pieces.now × All (HasSlotsFor lens.now pieces.now) upper.now }
+        requires { All (IsStripOf lens.now) upper.now × AreStacked upper.now × All (IsPieceOf lens.now) pieces.now
+            × AreRanked pieces.now × (length slots.now ≤ 16384) × AreSlotsOf lens.now pieces.now slots.now }
         ensures { StripsRelate (IsDrawnFrom lens.entry.now back pieces.entry.now is_first) upper.entry.now upper.exit.now }
-    { draw_strips(rt, 1, is_first, lens, back, pieces, upper) };
+    { draw_part(is_first, lens, back, pieces, slots, upper) };
     let mut below = ||
-        requires { IsSync R.row × All (IsStripOf lens.now) lower.now × All (IsPieceOf lens.now) pieces.now
-            × AreRanked pieces.now × All (HasSlotsFor lens.now pieces.now) lower.now }
+        requires { IsSync R.row × All (IsStripOf lens.now) lower.now × AreStacked lower.now × All (IsPieceOf lens.now) pieces.now
+            × AreRanked pieces.now × (length slots.now ≤ 16384) × AreSlotsOf lens.now pieces.now slots.now }
         ensures { StripsRelate (IsDrawnFrom lens.entry.now back pieces.entry.now is_first) lower.entry.now lower.exit.now }
-    { draw_strips(rt, others, is_first, lens, back, pieces, lower) };
+    { draw_strips(rt, more, is_first, lens, back, pieces, slots, lower) };
     join_mut(rt, &mut above, &mut below);
 }
 
-/// Draws opaque pieces in a strip that is not halved any more, or in none.
-fn draw_last(strips: &mut [Strip], is_first: bool, lens: &Lens, back: [u8; 3], pieces: &[Piece])
-    requires few { length strips.old < 2 }
+/// Draws opaque pieces in the strips of a part, one after the other. They get their slots first.
+fn draw_part(
+    is_first: bool,
+    lens: &Lens,
+    back: [u8; 3],
+    pieces: &[Piece],
+    slots: &[Slot],
+    strips: &mut [Strip],
+)
+    requires strips { All (IsStripOf lens.now) strips.old }
+    requires stacked { AreStacked strips.old }
+    requires pieces { All (IsPieceOf lens.now) pieces.now }
+    requires ranks { AreRanked pieces.now }
+    requires few { length slots.now ≤ 16384 }
+    requires slots { AreSlotsOf lens.now pieces.now slots.now }
+    ensures { StripsRelate (IsDrawnFrom lens.now back pieces.now is_first) strips.old strips.new }
+{
+    share_out(strips, slots);
+    draw_in_turn(strips, is_first, lens, back, pieces);
+}
+
+/// Draws opaque pieces in strips, by the slots that each has.
+fn draw_in_turn(strips: &mut [Strip], is_first: bool, lens: &Lens, back: [u8; 3], pieces: &[Piece])
     requires strips { All (IsStripOf lens.now) strips.old }
     requires pieces { All (IsPieceOf lens.now) pieces.now }
     requires ranks { AreRanked pieces.now }
     requires slots { All (HasSlotsFor lens.now pieces.now) strips.old }
     ensures { StripsRelate (IsDrawnFrom lens.now back pieces.now is_first) strips.old strips.new }
 {
-    if strips.is_empty() {
-        return;
+    for i in 0..strips.len() {
+        draw_strip(&mut strips[i], is_first, lens, back, pieces);
     }
-    draw_strip(&mut strips[0], is_first, lens, back, pieces);
 }
 
 /// Draws opaque pieces in a strip, by the least depths of its slots.

@@ -22,7 +22,7 @@ returns-clause-piece c =
     record {
       piece = p;
       pieces =
-          ap (take (n + 1)) c.append.ensures.items
+          ap (take (n + 1)) c.push_reserved.ensures.items
           ∙ take_all (n + 1) (ps ++ p ∷ []) (omega (arith, more))
           ∙ ap (λ (qs : List Piece). qs ++ p ∷ []) (sym (take_all n ps (omega (arith, long))));
       face = c.bare.ensures;

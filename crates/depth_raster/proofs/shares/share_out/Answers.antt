@@ -1,8 +1,8 @@
-use Rattle.std.proofs.Common.{List, get_or, ◌∙◌, subst, arith}
+use Rattle.std.proofs.Common.{◌<◌, List, length, take, get_or, ◌∙◌, subst, arith}
 use Rattle.std.proofs.lemmas.List.{take_all}
 use Rattle.depth_raster.specs.Shares.{AreShared}
 use Rattle.depth_raster.specs.declared.slots.Slot.{Slot}
-use Rattle.depth_raster.proofs.Shared.{shared_more, slots_few}
+use Rattle.depth_raster.proofs.Shared.{shared_lie, shared_more, slots_few}
 use Rattle.depth_raster.proofs.Slotted.{no_slot}
 use Rattle.depth_raster.proofs.shares.share_out.Goals as goal
 
@@ -13,9 +13,15 @@ pub loop-slot-preserved : goal.loop-slot-preserved
 loop-slot-preserved c =
     shared_more c.args.slots.now c.loop-slot.slot-index no_slot c.args.strips.now c.loop-slot.strips c.give.new.strips (omega arith) (c.loop-slot.auto.strips ∙ c.clear.auto.strips) c.loop-slot.invariant c.give.ensures
 
-pub give-requires : goal.give-requires
-give-requires c = λ i d below.
-    slots_few i c.loop-slot.slot-index c.args.slots.now (get_or c.loop-slot.strips i d).slots.items (omega arith) c.requires (c.loop-slot.invariant i d (omega (arith, below, c.loop-slot.auto.strips, c.clear.auto.strips))).slots
+pub give-requires-clause-rows : goal.give-requires-clause-rows
+give-requires-clause-rows c =
+    shared_lie (get_or c.args.strips.now 0 c.index-strips-0.result).band.first (take c.loop-slot.slot-index c.args.slots.now) c.args.strips.now c.loop-slot.strips
+    (c.loop-slot.auto.strips ∙ c.clear.auto.strips) c.loop-slot.invariant (c.requires.stacked c.index-strips-0.result)
+
+pub give-requires-clause-room : goal.give-requires-clause-room
+give-requires-clause-room c = λ i d below.
+    let in_list : i < length c.args.strips.now = omega (arith, below, c.loop-slot.auto.strips, c.clear.auto.strips) in
+    slots_few (get_or c.args.strips.now i d).band c.loop-slot.slot-index c.args.slots.now (get_or c.loop-slot.strips i d).slots.items (omega arith) c.requires.few (c.loop-slot.invariant i d in_list).slots
 
 pub returns : goal.returns
 returns c = subst (λ (ss : List Slot). AreShared ss c.args.strips.now c.loop-slot.strips) (take_all c.loop-slot.slot-index c.args.slots.now (omega arith)) c.loop-slot.invariant
