@@ -223,7 +223,8 @@ picture_lies lens strips are d i e below =
 lie_cut : (first : ℕ) (xs ys : List Strip) → LieFrom first (xs ++ ys) → LieFrom first xs × LieFrom (first + 16 * length xs) ys
 lie_cut first xs ys lie = (
   λ i d below. ap (λ (s : Strip). s.band.first) (sym (get_or_append_left xs ys d i below)) ∙ lie i d (omega (arith, below, length-append xs ys)),
-  λ i d below. ap (λ (s : Strip). s.band.first) (sym (get_or-append-add xs ys i d)) ∙ lie (length xs + i) d (omega (arith, below, length-append xs ys)) ∙ omega arith)
+  λ i d below. ap (λ (s : Strip). s.band.first) (sym (get_or-append-add xs ys i d)) ∙ lie (length xs + i) d (omega (arith, below, length-append xs ys)) ∙ omega arith,
+)
 
 -- they are stacked, wherever they begin
 lie_stacked : (first : ℕ) (strips : List Strip) → LieFrom first strips → AreStacked strips

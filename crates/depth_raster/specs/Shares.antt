@@ -1,5 +1,5 @@
 -- The slots of pieces by the strips of the picture whose rows they reach.
-use Rattle.std.specs.Prelude.{◌≡◌, ℕ, ◌+◌, ◌*◌, ◌/◌, ◌<◌, Bool, nat_lt, nat_le, ◌&&◌, List, [], ◌∷◌, ◌++◌, length, filter, slice_index_or, if◌then◌else◌}
+use Rattle.std.specs.Prelude.{◌≡◌, ℕ, ◌+◌, ◌*◌, ◌<◌, Bool, nat_lt, ◌&&◌, List, [], ◌∷◌, ◌++◌, length, filter, slice_index_or, if◌then◌else◌}
 use Rattle.std.specs.List.{All}
 use Rattle.fx_math.specs.declared.lenses.Lens.{Lens}
 use Rattle.depth_raster.specs.Pieces.{pieces_over}

@@ -47,7 +47,9 @@ fn give(strips: &mut [Strip], first: u16, slot: Slot)
     ensures { EachGains slot strips.old strips.new }
 {
     let start = strip_of(slot.top.saturating_sub(first));
-    let end = strips.len().min(strips_before(slot.bottom.saturating_sub(first)));
+    let end = strips
+        .len()
+        .min(strips_before(slot.bottom.saturating_sub(first)));
     for i in start..end {
         take(&mut strips[i], slot);
     }

@@ -49,7 +49,17 @@ pub(crate) fn draw_strips<R: Threads + Sync>(
         return;
     }
     let (upper, lower) = strips.split_at_mut(end_of_part(strips, parts, Layer::Opaque));
-    draw_parts(rt, parts - 1, is_first, lens, back, pieces, slots, upper, lower);
+    draw_parts(
+        rt,
+        parts - 1,
+        is_first,
+        lens,
+        back,
+        pieces,
+        slots,
+        upper,
+        lower,
+    );
 }
 
 /// Draws opaque pieces in the strips of one part, in a thread of its own, and in those of so many others.

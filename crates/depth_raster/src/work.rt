@@ -67,9 +67,7 @@ pub(crate) fn parts_of<R: Threads>(rt: &R, work: u64) -> usize {
 pub(crate) fn work_of_slots(slots: &[Slot]) -> u64 {
     let mut work: u64 = 0;
     for slot in slots {
-        let columns = slot.right.saturating_sub(slot.left);
-        let rows = slot.bottom.saturating_sub(slot.top);
-        work = work.saturating_add(PIECE_WORK + u64::from(columns) * u64::from(rows));
+        work = work.saturating_add(work_of_box(slot.left, slot.right, slot.top, slot.bottom));
     }
     work
 }
@@ -78,9 +76,22 @@ pub(crate) fn work_of_slots(slots: &[Slot]) -> u64 {
 pub(crate) fn work_of_pieces(pieces: &[Piece]) -> u64 {
     let mut work: u64 = 0;
     for piece in pieces {
-        work = work.saturating_add(PIECE_WORK).saturating_add(area(piece));
+        let extent = piece.extent;
+        work = work.saturating_add(work_of_box(
+            extent.left,
+            extent.right,
+            extent.top,
+            extent.bottom,
+        ));
     }
     work
+}
+
+/// About how much work a piece with this box is: its first column and the one past its last, and so its rows.
+fn work_of_box(left: u16, right: u16, top: u16, bottom: u16) -> u64 {
+    let columns = right.saturating_sub(left);
+    let rows = bottom.saturating_sub(top);
+    PIECE_WORK + u64::from(columns) * u64::from(rows)
 }
 
 /// In how many parts side by side the tiles of a lens's picture are put into the image: as many as there are processors, where
@@ -199,11 +210,4 @@ fn work_of_strip(strip: &Strip, layer: Layer) -> u64 {
         Layer::Glass => strip.glass_work,
     };
     work.saturating_add(STRIP_WORK)
-}
-
-/// The number of pixels in the box of a piece.
-fn area(piece: &Piece) -> u64 {
-    let extent = piece.extent;
-    u64::from(extent.right.saturating_sub(extent.left))
-        * u64::from(extent.bottom.saturating_sub(extent.top))
 }

@@ -1,6 +1,4 @@
-use Rattle.std.proofs.Common.{List, refl, sym, ◌∙◌, subst, arith}
-use Rattle.std.specs.List.{All}
-use Rattle.depth_raster.specs.Pieces.{IsPieceOf}
+use Rattle.std.proofs.Common.{List, refl, sym, ◌∙◌, subst}
 use Rattle.depth_raster.specs.Slots.{AreSlotsOf}
 use Rattle.depth_raster.specs.Strips.{StripsRelate}
 use Rattle.depth_raster.specs.Tiles.{IsDrawnFrom}

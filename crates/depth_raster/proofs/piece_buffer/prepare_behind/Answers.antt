@@ -18,8 +18,8 @@ returns g c =
     let before = take count c.args.written.now in
     let long : length fresh ≡ n = omega (arith, c.prepare.auto.pieces, cut.ensures.front_len) in
     let pieces : take (count + n) (front.result.0.now ++ (fresh ++ cut.result.1.now)) ≡ before ++ fresh =
-        two_parts (count + n) front.result.0.now fresh cut.result.1.now (omega (arith, long, front.ensures.front_len))
-        ∙ ap (λ (ps : List Piece). ps ++ fresh) front.ensures.front in
+    two_parts (count + n) front.result.0.now fresh cut.result.1.now (omega (arith, long, front.ensures.front_len))
+    ∙ ap (λ (ps : List Piece). ps ++ fresh) front.ensures.front in
     record {
       pieces = record { fresh = fresh; pieces = pieces; count = long; prepared = c.prepare.ensures.pieces };
       slotted = subst (λ (ps : List Piece). AreSlotted ps (waiting.result.0.now ++ taken)) (sym pieces)

@@ -1,10 +1,10 @@
-use Rattle.std.proofs.Common.{◌≡◌, ◌<◌, get_or, length, subst, arith, ◌∙◌}
+use Rattle.std.proofs.Common.{◌<◌, get_or, length, subst, arith, ◌∙◌}
 use Rattle.std.proofs.lemmas.List.{get_or_default}
 use Rattle.depth_raster.specs.Pieces.{IsPrepared}
 use Rattle.depth_raster.specs.declared.bare.Bare.{Bare}
 use Rattle.depth_raster.proofs.Prepared.{prepared_more}
 use Rattle.depth_raster.proofs.Slotted.{no_slot}
-use Rattle.depth_raster.proofs.Sorting.{taken_none, taken_more}
+use Rattle.depth_raster.proofs.Sorting.{taken_more}
 use Rattle.depth_raster.proofs.pieces.prepare_in_turn.Goals as goal
 
 pub loop-i-preserved : goal.loop-i-preserved

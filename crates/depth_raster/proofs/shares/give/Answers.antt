@@ -1,6 +1,5 @@
 use Rattle.std.proofs.Common.{◌<◌, get_or, ap, length, sym, ◌∙◌, subst, arith}
 use Rattle.depth_raster.specs.Shares.{Gains}
-use Rattle.depth_raster.specs.declared.blocks.Block.{Block}
 use Rattle.depth_raster.specs.declared.strip.Strip.{Strip}
 use Rattle.depth_raster.proofs.Shared.{gains_none, gains_more, gains_all, gained}
 use Rattle.depth_raster.proofs.shares.give.Goals as goal

@@ -1,4 +1,4 @@
-use Rattle.std.proofs.Common.{ℕ, ◌+◌, List, [], ◌∷◌, ◌++◌, sym, subst}
+use Rattle.std.proofs.Common.{ℕ, ◌+◌, subst}
 use Rattle.depth_raster.specs.Batches.{IsWithFace}
 use Rattle.depth_raster.proofs.batch.Batch.push.Goals as goal
 
