@@ -5,24 +5,21 @@ use Rattle.std.specs.Option.{option_map_or}
 use Rattle.std.specs.List.{cons_option}
 use Rattle.std.proofs.lemmas.List.Elements.{filter_map-append}
 use Rattle.std.proofs.lemmas.List.Sums.{fold-append}
-use Rattle.fx_math.specs.Plain.{Matrix}
-use Rattle.draw_list.specs.Joints.{steps_at}
+use Rattle.draw_list.specs.Lists.{Drawables}
 use Rattle.fx_math.specs.declared.lenses.Lens.{Lens}
 use Rattle.tri_cover.specs.Picture.{Fragment, nearer}
 use Rattle.depth_raster.specs.Blocks.{colour_in}
-use Rattle.depth_raster.specs.Canvas.{tile_at, seen_at, seen_from, mark_at, colour_at, drawn_with, drawn_after, Gathers, face_drawn}
-use Rattle.depth_raster.specs.Faces.{fragment_after, over}
+use Rattle.depth_raster.specs.Canvas.{tile_at, seen_at, seen_from, mark_at, colour_at, drawn_with, drawn_after, Gathers, waiting_over}
 use Rattle.depth_raster.specs.Marks.{nothing, no_mark, seen_as}
-use Rattle.depth_raster.specs.Pieces.{fragments_by, fragments_after, settled}
+use Rattle.depth_raster.specs.Pieces.{fragments_by, fragment_waiting, fragments_waiting, settled}
 use Rattle.depth_raster.specs.Strips.{StripsRelate, AreStrips}
 use Rattle.depth_raster.specs.Tiles.{marks_of, mark_in, seen_in, IsAt, IsCleared, IsBegun, IsDrawn, IsDrawnFrom}
-use Rattle.depth_raster.specs.declared.bare.Bare.{Bare}
 use Rattle.depth_raster.specs.declared.blocks.Block.{Block}
-use Rattle.depth_raster.specs.declared.faces.Face.{Face}
 use Rattle.depth_raster.specs.declared.marks.Mark.{Mark}
 use Rattle.depth_raster.specs.declared.pieces.Piece.{Piece}
 use Rattle.depth_raster.specs.declared.strip.Strip.{Strip}
 use Rattle.depth_raster.specs.declared.tile.Tile.{Tile}
+use Rattle.depth_raster.specs.declared.waiting.Waiting.{Waiting}
 use Rattle.depth_raster.proofs.Drawn.{drawn_block}
 use Rattle.depth_raster.proofs.PixelTiles.{IsTileAt, tiles_at, strips_kept}
 
@@ -136,21 +133,19 @@ pub later_seen : (lens : Lens) (first : Bool) (strips : List Strip) (ps : List P
 later_seen lens first strips ps px py is empty =
     ap (λ (b : Bool). drawn_with lens b strips ps px py) is ∙ ap (λ (qs : List Piece). drawn_with lens false strips qs px py) empty
 
-pub later_drawn : (lists : List (List Matrix)) (lens : Lens) (first : Bool) (strips : List Strip) (ps : List Piece) (bs : List Bare) (px py : ℕ) → first ≡ false → ps ≡ [] → bs ≡ [] → drawn_after lists lens first strips ps bs px py ≡ seen_at strips px py
-later_drawn lists lens first strips ps bs px py is empty none =
-    ap (λ (cs : List Bare). drawn_after lists lens first strips ps cs px py) none ∙ later_seen lens first strips ps px py is empty
+pub later_drawn : (d : Drawables) (lens : Lens) (first : Bool) (strips : List Strip) (ps : List Piece) (ws : List Waiting) (px py : ℕ) → first ≡ false → ps ≡ [] → ws ≡ [] → drawn_after d lens first strips ps ws px py ≡ seen_at strips px py
+later_drawn d lens first strips ps ws px py is empty none =
+    ap (λ (vs : List Waiting). drawn_after d lens first strips ps vs px py) none ∙ later_seen lens first strips ps px py is empty
 
--- ---- a face more
+-- ---- a triangle more
 over_last : (drawn : Option Fragment) (o : Option Fragment) → fold nearer drawn (cons_option o []) ≡ option_map_or (nearer drawn) o drawn
 over_last drawn None = refl
 over_last drawn (Some f) = refl
 
-pub face_more : (lists : List (List Matrix)) (lens : Lens) (first : Bool) (strips : List Strip) (ps : List Piece) (bs : List Bare) (f : Face) (rank joint : ℕ) →
-    Gathers lists lens first strips ps bs first strips ps (bs ++ record { face = record f { rank = rank }; joint = joint } ∷ []) (face_drawn (steps_at lists joint) lens f)
-unfolding over fragment_after
-face_more lists lens first strips ps bs f rank joint px py column row =
+pub waiting_more : (d : Drawables) (lens : Lens) (first : Bool) (strips : List Strip) (ps : List Piece) (ws : List Waiting) (w : Waiting) →
+    Gathers d lens first strips ps ws first strips ps (ws ++ w ∷ []) (waiting_over d lens w.item w.number)
+waiting_more d lens first strips ps ws w px py column row =
     let seen : Option Fragment = drawn_with lens first strips ps px py in
-    let b : Bare = record { face = record f { rank = rank }; joint = joint } in
-    ap (fold nearer seen) (filter_map-append (λ (c : Bare). fragment_after (steps_at lists c.joint) lens px py c.face) bs (b ∷ []))
-    ∙ fold-append nearer seen (fragments_after lists lens px py bs) (fragments_after lists lens px py (b ∷ []))
-    ∙ over_last (drawn_after lists lens first strips ps bs px py) (fragment_after (steps_at lists joint) lens px py b.face)
+    ap (fold nearer seen) (filter_map-append (λ (v : Waiting). fragment_waiting d lens v.item v.number px py) ws (w ∷ []))
+    ∙ fold-append nearer seen (fragments_waiting d lens px py ws) (fragments_waiting d lens px py (w ∷ []))
+    ∙ over_last (drawn_after d lens first strips ps ws px py) (fragment_waiting d lens w.item w.number px py)

@@ -1,6 +1,6 @@
 -- Items drawn triangle by triangle, and lists item by item.
 use Rattle.std.proofs.Common.{◌≡◌, ℕ, zero, suc, ◌+◌, ◌≤◌, Bool, true, false, cond, List, [], ◌∷◌, ◌++◌, length, take, Option, Some, None, option_map, refl, ap, sym, ◌∙◌, subst, add-one}
-use Rattle.std.specs.Prelude.{fold, filter, filter_map, flat_map, is_none}
+use Rattle.std.specs.Prelude.{fold, filter, filter_map, flat_map, is_none, option_and_then}
 use Rattle.std.specs.List.{enumerate_from, slice_get}
 use Rattle.std.specs.Option.{option_map_or, option_to_list}
 use Rattle.std.proofs.lemmas.Option.{get_or_from_slice_get, slice_get_within}
@@ -8,8 +8,9 @@ use Rattle.std.proofs.lemmas.List.{append-nil}
 use Rattle.std.proofs.lemmas.List.Sums.{fold-append}
 use Rattle.std.proofs.lemmas.List.Concat.{flat_map-append}
 use Rattle.fx_math.specs.Plain.{Matrix}
-use Rattle.draw_list.specs.Items.{instance_of_item}
+use Rattle.draw_list.specs.Items.{instance_of_item, tris_at}
 use Rattle.draw_list.specs.Joints.{steps_at}
+use Rattle.draw_list.specs.Lists.{Drawables}
 use Rattle.draw_list.specs.declared.items.Item.{Item}
 use Rattle.fx_math.specs.declared.lenses.Lens.{Lens}
 use Rattle.pf_model.specs.declared.geometry.Tri.{Tri}
@@ -19,7 +20,9 @@ use Rattle.tri_cover.specs.Hits.{hit, HitsAs}
 use Rattle.tri_cover.specs.Glass.{is_opaque, alpha_of}
 use Rattle.tri_cover.specs.Picture.{Fragment, fragment_of, fragment_at, fragments, nearer, glazed, glazed_by, opaque_fragments}
 use Rattle.depth_raster.specs.declared.faces.Face.{Face}
-use Rattle.depth_raster.specs.Faces.{fragment_in, fragment_by, fragment_after, face_of_item, over, glazed_by_face, IsFaceOf}
+use Rattle.depth_raster.specs.Canvas.{waiting_over}
+use Rattle.depth_raster.specs.Faces.{fragment_in, fragment_by, fragment_after, face_of_item, glazed_by_face, IsFaceOf}
+use Rattle.depth_raster.specs.Pieces.{fragment_waiting}
 use Rattle.depth_raster.specs.Drawing.{instance_over, opaque_over, instance_glazes}
 use Rattle.depth_raster.proofs.Folding.{fold_numbered_more, fold_numbered_all}
 
@@ -50,15 +53,21 @@ face_stands lists tris item n t carried f hits is =
 abbrev pub part_over : Lens → Instance → ℕ → (px py : ℕ) → Option Fragment → Option Fragment
 part_over lens x n px py drawn = fold nearer drawn (filter_map (fragment_at lens px py x) (take n (enumerate_from 0 x.tris)))
 
-pub part_more : (lists : List (List Matrix)) (tris : List Tri) (lens : Lens) (item : Item) (n : ℕ) (t : Tri) (f : Face) (px py : ℕ) (drawn : Option Fragment) → slice_get (instance_of_item lists tris item).tris n ≡ Some t → f ≡ face_of_item item n t →
-    over (steps_at lists item.joint) lens px py f (part_over lens (instance_of_item lists tris item) n px py drawn) ≡ part_over lens (instance_of_item lists tris item) (n + 1) px py drawn
-unfolding over
-part_more lists tris lens item n t f px py drawn at is =
-    let x = instance_of_item lists tris item in
+-- the triangle of a number in the item of a number, where both are there
+pub waiting_is : (d : Drawables) (lens : Lens) (place number : ℕ) (i : Item) (t : Tri) (px py : ℕ) → slice_get d.items.items place ≡ Some i → slice_get (tris_at d.kept.tris i.geom) number ≡ Some t →
+    fragment_waiting d lens place number px py ≡ fragment_after (steps_at d.joints.lists i.joint) lens px py (face_of_item i number t)
+unfolding fragment_waiting
+waiting_is d lens place number i t px py item_is tri_is =
+    ap (λ (o : Option Item). option_and_then (λ i. option_and_then (λ t. fragment_after (steps_at d.joints.lists i.joint) lens px py (face_of_item i number t)) (slice_get (tris_at d.kept.tris i.geom) number)) o) item_is
+    ∙ ap (λ (o : Option Tri). option_and_then (λ t. fragment_after (steps_at d.joints.lists i.joint) lens px py (face_of_item i number t)) o) tri_is
+
+pub part_more : (d : Drawables) (lens : Lens) (place : ℕ) (item : Item) (n : ℕ) (t : Tri) (px py : ℕ) (drawn : Option Fragment) → slice_get d.items.items place ≡ Some item → slice_get (tris_at d.kept.tris item.geom) n ≡ Some t →
+    waiting_over d lens place n px py (part_over lens (instance_of_item d.joints.lists d.kept.tris item) n px py drawn) ≡ part_over lens (instance_of_item d.joints.lists d.kept.tris item) (n + 1) px py drawn
+part_more d lens place item n t px py drawn item_is tri_is =
+    let x = instance_of_item d.joints.lists d.kept.tris item in
     let m : Option Fragment = part_over lens x n px py drawn in
-    ap (λ (g : Face). over (steps_at lists item.joint) lens px py g m) is
-    ∙ ap (λ (o : Option Fragment). option_map_or (nearer m) o m) (face_shows_after lists tris item n t lens px py)
-    ∙ sym (fold_numbered_more nearer (fragment_at lens px py x) drawn x.tris n t (slice_get_within x.tris n t at) (sym (get_or_from_slice_get x.tris n t t at)))
+    ap (λ (o : Option Fragment). option_map_or (nearer m) o m) (waiting_is d lens place n item t px py item_is tri_is ∙ face_shows_after d.joints.lists d.kept.tris item n t lens px py)
+    ∙ sym (fold_numbered_more nearer (fragment_at lens px py x) drawn x.tris n t (slice_get_within x.tris n t tri_is) (sym (get_or_from_slice_get x.tris n t t tri_is)))
 
 pub part_all : (lens : Lens) (x : Instance) (n : ℕ) (px py : ℕ) (drawn : Option Fragment) → length x.tris ≤ n → part_over lens x n px py drawn ≡ instance_over lens x px py drawn
 unfolding instance_over

@@ -2,22 +2,22 @@
 use Rattle.std.specs.Prelude.{◌≡◌, ℕ, ◌/◌, ◌%◌, ◌<◌, Bool, if◌then◌else◌, List, [], fold, Option, None, option_and_then, slice_get}
 use Rattle.std.specs.Option.{option_map_or}
 use Rattle.fx_math.specs.declared.lenses.Lens.{Lens}
-use Rattle.fx_math.specs.Plain.{Matrix}
 use Rattle.tri_cover.specs.Picture.{Fragment, nearer}
 use Rattle.depth_raster.specs.Blocks.{colour_in}
+use Rattle.draw_list.specs.Lists.{Drawables}
 use Rattle.pf_model.specs.Walks.{Instance}
 use Rattle.depth_raster.specs.Drawing.{instance_glazes, glass_glazes}
-use Rattle.depth_raster.specs.Faces.{over, glazed_by_face}
+use Rattle.depth_raster.specs.Faces.{glazed_by_face}
 use Rattle.depth_raster.specs.Following.{Follows}
 use Rattle.depth_raster.specs.Marks.{no_mark, behind_as}
-use Rattle.depth_raster.specs.Pieces.{fragments_by, fragments_after, pieces_glaze}
+use Rattle.depth_raster.specs.Pieces.{fragments_by, fragment_waiting, fragments_waiting, pieces_glaze}
 use Rattle.depth_raster.specs.Tiles.{marks_of, mark_in, seen_in}
-use Rattle.depth_raster.specs.declared.bare.Bare.{Bare}
 use Rattle.depth_raster.specs.declared.faces.Face.{Face}
 use Rattle.depth_raster.specs.declared.marks.Mark.{Mark}
 use Rattle.depth_raster.specs.declared.pieces.Piece.{Piece}
 use Rattle.depth_raster.specs.declared.strip.Strip.{Strip}
 use Rattle.depth_raster.specs.declared.tile.Tile.{Tile}
+use Rattle.depth_raster.specs.declared.waiting.Waiting.{Waiting}
 
 -- the tile of a pixel of the picture
 abbrev pub tile_at : List Strip → (px py : ℕ) → Option Tile
@@ -47,9 +47,9 @@ behind_at strips px py = behind_as (mark_at strips px py)
 abbrev pub drawn_with : Lens → (first : Bool) → List Strip → List Piece → (px py : ℕ) → Option Fragment
 drawn_with lens first strips ps px py = fold nearer (seen_from first strips px py) (fragments_by lens px py ps)
 
--- the same, and then the faces that are still to come to the eye
-abbrev pub drawn_after : List (List Matrix) → Lens → (first : Bool) → List Strip → List Piece → List Bare → (px py : ℕ) → Option Fragment
-drawn_after lists lens first strips ps bs px py = fold nearer (drawn_with lens first strips ps px py) (fragments_after lists lens px py bs)
+-- the same, and then the triangles that wait
+abbrev pub drawn_after : Drawables → Lens → (first : Bool) → List Strip → List Piece → List Waiting → (px py : ℕ) → Option Fragment
+drawn_after d lens first strips ps ws px py = fold nearer (drawn_with lens first strips ps px py) (fragments_waiting d lens px py ws)
 
 -- the colour at a pixel once pieces of glass are drawn
 abbrev pub glazed_with : Lens → List Strip → List Piece → (px py : ℕ) → List ℕ
@@ -61,12 +61,12 @@ abbrev pub Draws : Lens → (first : Bool) → (strips : List Strip) → (ps : L
 Draws lens first strips ps first' strips' ps' f =
     Follows lens.w lens.h (drawn_with lens first strips ps) (drawn_with lens first' strips' ps') f
 
--- the same, with faces that are still to come to the eye
-abbrev pub Gathers : List (List Matrix) → Lens → (first : Bool) → (strips : List Strip) → (ps : List Piece) → (bs : List Bare)
-    → (first' : Bool) → (strips' : List Strip) → (ps' : List Piece) → (bs' : List Bare)
+-- the same, with triangles that wait
+abbrev pub Gathers : Drawables → Lens → (first : Bool) → (strips : List Strip) → (ps : List Piece) → (ws : List Waiting)
+    → (first' : Bool) → (strips' : List Strip) → (ps' : List Piece) → (ws' : List Waiting)
     → (f : ℕ → ℕ → Option Fragment → Option Fragment) → Type 0
-Gathers lists lens first strips ps bs first' strips' ps' bs' f =
-    Follows lens.w lens.h (drawn_after lists lens first strips ps bs) (drawn_after lists lens first' strips' ps' bs') f
+Gathers d lens first strips ps ws first' strips' ps' ws' f =
+    Follows lens.w lens.h (drawn_after d lens first strips ps ws) (drawn_after d lens first' strips' ps' ws') f
 
 -- at each pixel f is made of the colour once the pieces are drawn, and what glass has behind it stays
 pub record Glazes (lens : Lens) (strips : List Strip) (ps : List Piece) (strips' : List Strip) (ps' : List Piece)
@@ -75,9 +75,9 @@ pub record Glazes (lens : Lens) (strips : List Strip) (ps : List Piece) (strips'
   pub colours : (px py : ℕ) → px < lens.w → py < lens.h
       → glazed_with lens strips' ps' px py ≡ f (behind_at strips px py) px py (glazed_with lens strips ps px py)
 
--- what a face makes of what is seen, where its triangle has these steps left
-abbrev pub face_drawn : List Matrix → Lens → Face → (px py : ℕ) → Option Fragment → Option Fragment
-face_drawn steps lens f px py drawn = over steps lens px py f drawn
+-- what the triangle of a number in the item of a number makes of what is seen
+abbrev pub waiting_over : Drawables → Lens → (item number : ℕ) → (px py : ℕ) → Option Fragment → Option Fragment
+waiting_over d lens item number px py drawn = option_map_or (nearer drawn) (fragment_waiting d lens item number px py) drawn
 
 -- what a face of glass makes of a colour
 abbrev pub face_glazed : Lens → Face → (behind : Option Fragment) → (px py : ℕ) → List ℕ → List ℕ

@@ -10,7 +10,7 @@ use Rattle.draw_list.specs.Items.{instance_of_item}
 use Rattle.tri_cover.specs.declared.hit.Hit.{Hit}
 use Rattle.tri_cover.specs.Glass.{alpha_of}
 use Rattle.tri_cover.specs.Hits.{hit, HitsAs}
-use Rattle.tri_cover.specs.Picture.{Fragment, nearer, glazed}
+use Rattle.tri_cover.specs.Picture.{Fragment, glazed}
 use Rattle.depth_raster.specs.declared.faces.Face.{Face}
 
 -- what a hit of the face gives
@@ -25,10 +25,6 @@ fragment_by lens px py f = option_map (fragment_in f) (hit lens px py [] f.tri)
 -- the same, where its triangle has still to take steps to the eye
 unfoldable pub fragment_after : List Matrix → Lens → (px py : ℕ) → Face → Option Fragment
 fragment_after steps lens px py f = option_map (fragment_in f) (hit lens px py steps f.tri)
-
--- the nearer of what is drawn at a pixel and the face, where its triangle has still to take steps
-unfoldable pub over : List Matrix → Lens → (px py : ℕ) → Face → Option Fragment → Option Fragment
-over steps lens px py f drawn = option_map_or (nearer drawn) (fragment_after steps lens px py f) drawn
 
 -- what a hit of the face, of glass, leaves of the colour under it
 abbrev pub glazed_by_hit : Face → (behind : Option Fragment) → Option Hit → List ℕ → List ℕ

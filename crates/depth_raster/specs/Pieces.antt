@@ -1,23 +1,26 @@
 -- What pieces that are drawn together make of a pixel.
-use Rattle.std.specs.Prelude.{◌≡◌, ℕ, ◌+◌, ◌-◌, ◌<◌, ◌≤◌, true, List, [], fold, filter_map, length, if◌then◌else◌, nat_lt, Option, Some, slice_get, slice_index_or, ◌++◌}
+use Rattle.std.specs.Prelude.{◌≡◌, ℕ, ◌+◌, ◌-◌, ◌<◌, ◌≤◌, true, List, [], fold, filter_map, length, if◌then◌else◌, nat_lt, Option, Some, option_and_then, slice_get, slice_index_or, ◌++◌}
 use Rattle.std.specs.List.{All}
 use Rattle.std.specs.Option.{ForSome}
 use Rattle.fx_math.specs.declared.lenses.Lens.{Lens}
-use Rattle.fx_math.specs.Plain.{Matrix}
+use Rattle.pf_model.specs.declared.geometry.Tri.{Tri}
+use Rattle.draw_list.specs.Items.{tris_at}
 use Rattle.draw_list.specs.Joints.{steps_at}
+use Rattle.draw_list.specs.Lists.{Drawables}
+use Rattle.draw_list.specs.declared.items.Item.{Item}
 use Rattle.tri_cover.specs.declared.face.Face as faces
 use Rattle.depth_raster.specs.declared.faces.Face as labels
 use Rattle.tri_cover.specs.declared.hit.Hit.{Hit}
 use Rattle.tri_cover.specs.Hits.{hit, HitsAs}
 use Rattle.tri_cover.specs.Picture.{Fragment}
-use Rattle.depth_raster.specs.Faces.{fragment_by, fragment_after, glazed_by_face}
+use Rattle.depth_raster.specs.Faces.{fragment_by, fragment_after, face_of_item, glazed_by_face}
 use Rattle.depth_raster.specs.Marks.{mark_over}
 use Rattle.depth_raster.specs.Small.{IsSmallFace}
 use Rattle.tri_cover.specs.Readiness.{IsReady}
 use Rattle.depth_raster.specs.Around.{IsAround, IsBoxOf}
-use Rattle.depth_raster.specs.declared.bare.Bare.{Bare}
 use Rattle.depth_raster.specs.declared.marks.Mark.{Mark}
 use Rattle.depth_raster.specs.declared.pieces.Piece.{Piece}
+use Rattle.depth_raster.specs.declared.waiting.Waiting.{Waiting}
 
 -- no mark of a hit of the face has a depth below this one
 abbrev pub IsLeast : labels.Face → (least : ℕ) → Type 0
@@ -42,34 +45,42 @@ abbrev pub AreMadeReady : Lens → (before after : List Piece) → Type 0
 AreMadeReady lens before after =
     (i : ℕ) (d : Piece) → i < length before → IsMadeReady lens (slice_index_or before i d) (slice_index_or after i d)
 
--- the joint of the face is there
-abbrev pub HasJoint : List (List Matrix) → Bare → Type 0
-HasJoint lists b = b.joint < length lists
+-- the triangle of a number in the item of a number is in the list
+pub record IsThere (d : Drawables) (item number : ℕ) : Type 0 where
+  pub its_item : Item
+  pub its_tri : Tri
+  pub item_is : slice_get d.items.items item ≡ Some its_item
+  pub tri_is : slice_get (tris_at d.kept.tris its_item.geom) number ≡ Some its_tri
 
--- the piece is that of the face, with its triangle at the eye, and is ready for the lens
-pub record IsPrepared (lists : List (List Matrix)) (lens : Lens) (b : Bare) (p : Piece) : Type 0 where
-  pub tri : HitsAs b.face.tri (steps_at lists b.joint) p.face.tri
-  pub face : p.face ≡ record b.face { tri = p.face.tri }
+-- so are those that wait
+abbrev pub AreThere : Drawables → List Waiting → Type 0
+AreThere d ws = All (λ w. IsThere d w.item w.number) ws
+
+-- the piece is that of the triangle which waits: it is at the eye, and is ready for the lens
+pub record IsPrepared (d : Drawables) (lens : Lens) (w : Waiting) (p : Piece) : Type 0 where
+  pub there : IsThere d w.item w.number
+  pub hits : HitsAs there.its_tri (steps_at d.joints.lists there.its_item.joint) p.face.tri
+  pub face : p.face ≡ record (face_of_item there.its_item w.number p.face.tri) { rank = w.rank }
   pub ready : IsPieceOf lens p
 
--- each of the pieces is that of its face
-abbrev pub ArePrepared : List (List Matrix) → Lens → List Bare → List Piece → Type 0
-ArePrepared lists lens bs ps =
-    (i : ℕ) (d : Bare) (e : Piece) → i < length bs → IsPrepared lists lens (slice_index_or bs i d) (slice_index_or ps i e)
+-- each of the pieces is that of its triangle
+unfoldable pub ArePrepared : Drawables → Lens → List Waiting → List Piece → Type 0
+ArePrepared d lens ws ps =
+    (i : ℕ) (v : Waiting) (e : Piece) → i < length ws → IsPrepared d lens (slice_index_or ws i v) (slice_index_or ps i e)
 
--- the pieces of the faces have become the last ones
-pub record AreAppended (lists : List (List Matrix)) (lens : Lens) (bs : List Bare) (before after : List Piece) : Type 0 where
+-- the pieces of the triangles that waited have become the last ones
+pub record AreAppended (d : Drawables) (lens : Lens) (ws : List Waiting) (before after : List Piece) : Type 0 where
   pub fresh : List Piece
   pub pieces : after ≡ before ++ fresh
-  pub count : length fresh ≡ length bs
-  pub prepared : ArePrepared lists lens bs fresh
+  pub count : length fresh ≡ length ws
+  pub prepared : ArePrepared d lens ws fresh
 
--- the pieces are ready, and the faces, which come after them, have their joints; they are not too many
-pub record AreGathered (lists : List (List Matrix)) (lens : Lens) (ps : List Piece) (bs : List Bare) : Type 0 where
-  pub few : length ps + length bs ≤ 16384
+-- the pieces are ready, and the triangles that wait, which come after them, are there; they are not too many
+pub record AreGathered (d : Drawables) (lens : Lens) (ps : List Piece) (ws : List Waiting) : Type 0 where
+  pub few : length ps + length ws ≤ 16384
   pub ready : All (IsPieceOf lens) ps
-  pub joints : All (HasJoint lists) bs
-  pub ranks : (k : ℕ) (d : Bare) → k < length bs → (slice_index_or bs k d).face.rank ≡ length ps + k + 1
+  pub there : AreThere d ws
+  pub ranks : (k : ℕ) (v : Waiting) → k < length ws → (slice_index_or ws k v).rank ≡ length ps + k + 1
 
 -- the piece has this face
 abbrev pub HasFace : Piece → faces.Face → Type 0
@@ -88,9 +99,15 @@ pub record IsRanked (ps : List Piece) (p : Piece) (rank : ℕ) : Type 0 where
 abbrev pub fragments_by : Lens → (px py : ℕ) → List Piece → List Fragment
 fragments_by lens px py ps = filter_map (λ p. fragment_by lens px py p.face) ps
 
--- those of faces, once their triangles have taken the steps of their joints
-abbrev pub fragments_after : List (List Matrix) → Lens → (px py : ℕ) → List Bare → List Fragment
-fragments_after lists lens px py bs = filter_map (λ b. fragment_after (steps_at lists b.joint) lens px py b.face) bs
+-- the fragment of the triangle of a number in the item of a number, once it has come to the eye
+unfoldable pub fragment_waiting : Drawables → Lens → (item number : ℕ) → (px py : ℕ) → Option Fragment
+fragment_waiting d lens item number px py = option_and_then
+    (λ i. option_and_then (λ t. fragment_after (steps_at d.joints.lists i.joint) lens px py (face_of_item i number t)) (slice_get (tris_at d.kept.tris i.geom) number))
+    (slice_get d.items.items item)
+
+-- the fragments of triangles that wait
+abbrev pub fragments_waiting : Drawables → Lens → (px py : ℕ) → List Waiting → List Fragment
+fragments_waiting d lens px py ws = filter_map (λ w. fragment_waiting d lens w.item w.number px py) ws
 
 -- what pieces make of a mark
 abbrev pub pieces_over : Lens → List Piece → (px py : ℕ) → Mark → Mark

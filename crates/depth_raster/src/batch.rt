@@ -4,29 +4,29 @@ ghost use Rattle.std.specs.Vec.{vec_capacity};
 ghost use Rattle.depth_raster.specs.Pieces.{AreRanked};
 ghost use Rattle.depth_raster.specs.Slots.{AreSlotted};
 
-use crate::bare::Bare;
 use crate::faces::Face;
 use crate::piece_buffer::{PieceBuffer, ROOM};
 use crate::slots::{Slot, complete, sort};
+use crate::waiting::Waiting;
 use draw_list::DrawList;
 use fx_math::Lens;
 use pf_io::NoMemory;
 use std::alloc::Global;
 use std::thread::Threads;
 
-/// Pieces and their slots, and faces that are still to become pieces, with room for as many as are drawn together. The first ones
+/// Pieces and their slots, and triangles that wait to become pieces, with room for as many as are drawn together. The first ones
 /// of a picture are drawn over nothing. So many of the slots are those of the first pieces, in their order.
 #[derive(Drop)]
 pub(crate) struct Batch {
     pub(crate) is_first: bool,
     pub(crate) pieces: PieceBuffer,
-    pub(crate) bare: Vec<Bare>,
+    pub(crate) waiting: Vec<Waiting>,
     pub(crate) slots: Vec<Slot>,
     slotted: usize,
     ghost few: { length pieces ≤ 16384 },
-    ghost few_bare: { length bare.items ≤ 16384 },
+    ghost few_waiting: { length waiting.items ≤ 16384 },
     ghost ranked: { AreRanked pieces },
-    ghost bare_room: { 16384 ≤ vec_capacity bare },
+    ghost waiting_room: { 16384 ≤ vec_capacity waiting },
     ghost slots_room: { 16384 ≤ vec_capacity slots },
     ghost slotted_first: { AreSlotted pieces (take slotted slots.items) },
 }
@@ -43,24 +43,24 @@ impl Batch {
         ensures { IfOk result (λ b. b.pieces ≡ []) }
     {
         let pieces = PieceBuffer::new(alloc)?;
-        let mut bare = Vec::new(alloc);
-        bare.reserve(ROOM)?;
+        let mut waiting = Vec::new(alloc);
+        waiting.reserve(ROOM)?;
         let mut slots = Vec::new(alloc);
         slots.reserve(ROOM)?;
         Ok(Batch {
             is_first: true,
             pieces,
-            bare,
+            waiting,
             slots,
             slotted: 0,
         })
     }
 
-    /// Whether no face has room.
+    /// Whether no triangle has room.
     pub(crate) fn is_full(&self) -> bool
-        ensures { result ≡ nat_le 16384 (length self.now.pieces + length self.now.bare.items) }
+        ensures { result ≡ nat_le 16384 (length self.now.pieces + length self.now.waiting.items) }
     {
-        ROOM <= self.pieces.len() + self.bare.len()
+        ROOM <= self.pieces.len() + self.waiting.len()
     }
 
     /// Begins a picture: its first pieces are still to be drawn.
@@ -71,23 +71,23 @@ impl Batch {
         self.is_first = true;
     }
 
-    /// Leaves no pieces and no faces.
+    /// Leaves no pieces, and no triangles that wait.
     pub(crate) fn clear(&mut self)
         ensures pieces { self.new.pieces ≡ [] }
-        ensures bare { self.new.bare.items ≡ [] }
+        ensures waiting { self.new.waiting.items ≡ [] }
     {
         self.pieces.clear();
-        self.bare.clear();
+        self.waiting.clear();
         self.slotted = 0;
     }
 
-    /// Leaves no faces.
-    pub(crate) fn clear_bare(&mut self)
+    /// Leaves no triangles that wait.
+    pub(crate) fn clear_waiting(&mut self)
         ensures first { self.new.is_first ≡ self.old.is_first }
         ensures pieces { self.new.pieces ≡ self.old.pieces }
-        ensures bare { self.new.bare.items ≡ [] }
+        ensures waiting { self.new.waiting.items ≡ [] }
     {
-        self.bare.clear();
+        self.waiting.clear();
     }
 
     /// Takes a face, whose triangle has come to the eye, as the last piece, which is still to be made ready.
@@ -100,34 +100,34 @@ impl Batch {
         self.pieces.push(Face { rank, ..face });
     }
 
-    /// Takes a face whose triangle is in the coordinates of a joint, as the last one.
-    pub(crate) fn gather(&mut self, face: Face, joint: u32)
-        requires { length self.old.pieces + length self.old.bare.items < 16384 }
+    /// Takes the triangle of a number in an item of a number, as the last one that waits.
+    pub(crate) fn gather(&mut self, item: usize, number: u32)
+        requires { length self.old.pieces + length self.old.waiting.items < 16384 }
         ensures first { self.new.is_first ≡ self.old.is_first }
         ensures pieces { self.new.pieces ≡ self.old.pieces }
-        ensures bare { self.new.bare.items ≡ self.old.bare.items ++ record {
-          face = record face { rank = length self.old.pieces + length self.old.bare.items + 1 };
-          joint = joint;
+        ensures waiting { self.new.waiting.items ≡ self.old.waiting.items ++ record {
+          item = item;
+          number = number;
+          rank = length self.old.pieces + length self.old.waiting.items + 1;
         } ∷ [] }
     {
-        let rank = (self.pieces.len() + self.bare.len()) as u32 + 1;
-        let face = Face { rank, ..face };
-        self.bare.push_reserved(Bare { face, joint });
+        let rank = (self.pieces.len() + self.waiting.len()) as u32 + 1;
+        self.waiting.push_reserved(Waiting { item, number, rank });
     }
 
-    /// Prepares the faces of a list, which become the last pieces: their triangles come to the eye, they are ready to be drawn for
-    /// a lens, and they have their slots.
+    /// Prepares the triangles of a list that wait, which become the last pieces: they come to the eye, are ready to be drawn for a
+    /// lens, and have their slots.
     pub(crate) fn prepare<R: Threads + Sync>(&mut self, rt: &R, list: &DrawList, lens: &Lens)
-        requires { AreGathered list.now.joints.lists lens.now self.old.pieces self.old.bare.items }
+        requires { AreGathered list.now lens.now self.old.pieces self.old.waiting.items }
         ensures first { self.new.is_first ≡ self.old.is_first }
-        ensures none { self.new.bare.items ≡ [] }
-        ensures pieces { AreAppended list.now.joints.lists lens.now self.old.bare.items self.old.pieces self.new.pieces }
+        ensures none { self.new.waiting.items ≡ [] }
+        ensures pieces { AreAppended list.now lens.now self.old.waiting.items self.old.pieces self.new.pieces }
     {
         self.complete_slots();
         self.pieces
-            .prepare(rt, &self.bare, &mut self.slots, list, lens);
+            .prepare(rt, &self.waiting, &mut self.slots, list, lens);
         self.slotted = self.slots.len();
-        self.bare.clear();
+        self.waiting.clear();
     }
 
     /// Makes the pieces ready to be drawn for a lens.
@@ -145,7 +145,7 @@ impl Batch {
         requires { All (λ p. IsLeast p.face p.least) self.old.pieces }
         ensures first { self.new.is_first ≡ self.old.is_first }
         ensures pieces { self.new.pieces ≡ self.old.pieces }
-        ensures bare { self.new.bare.items ≡ self.old.bare.items }
+        ensures waiting { self.new.waiting.items ≡ self.old.waiting.items }
         ensures count { length self.new.slots.items ≡ length self.new.pieces }
         ensures slotted { AreSlotted self.new.pieces self.new.slots.items }
     {

@@ -2,7 +2,6 @@
 #![tactic(auto)]
 
 mod across;
-mod bare;
 mod batch;
 mod blocks;
 mod covered;
@@ -43,6 +42,7 @@ mod strips;
 mod sums;
 mod tile;
 mod tiles;
+mod waiting;
 mod work;
 
 pub use piece_raster::PieceRaster;

@@ -1,17 +1,14 @@
 //! Opaque items, drawn batch by batch.
-ghost use Rattle.std.specs.Prelude.{◌≡◌, ℕ, ◌+◌, ◌<◌, false, [], ◌∷◌, None, All, length};
+ghost use Rattle.std.specs.Prelude.{◌≡◌, ℕ, ◌+◌, ◌<◌, false, [], ◌∷◌, None, Some, All, length, slice_get};
 ghost use Rattle.std.specs.Option.{option_to_list};
-ghost use Rattle.std.specs.List.{slice_get};
 ghost use Rattle.draw_list.specs.Items.{instance_of_item};
-ghost use Rattle.draw_list.specs.Joints.{steps_at};
 ghost use Rattle.draw_list.specs.Lists.{instances_in};
-ghost use Rattle.depth_raster.specs.Canvas.{Draws, Gathers, drawn_with, seen_at, colour_at, face_drawn};
-ghost use Rattle.depth_raster.specs.Pieces.{IsPieceOf, AreGathered};
+ghost use Rattle.depth_raster.specs.Canvas.{Draws, Gathers, drawn_with, seen_at, colour_at, waiting_over};
+ghost use Rattle.depth_raster.specs.Pieces.{IsPieceOf, IsThere, AreGathered};
 ghost use Rattle.depth_raster.specs.Drawing.{instance_over, opaque_over};
 ghost use Rattle.depth_raster.specs.Strips.{AreStrips};
 
 use crate::batch::Batch;
-use crate::faces::Face;
 use crate::strip::Strip;
 use crate::strips::draw_strips;
 use crate::work::{parts_of, work_of_slots};
@@ -35,7 +32,7 @@ pub(crate) fn draw_opaque<R: Threads + Sync>(
     ensures drawn { Draws lens.now batch.old.is_first strips.old batch.old.pieces
         batch.new.is_first strips.new batch.new.pieces (opaque_over lens.now (instances_in list.now)) }
 {
-    batch.clear_bare();
+    batch.clear_waiting();
     for number in 0..list.len() {
         draw_numbered(rt, strips, batch, lens, back, list, number);
     }
@@ -53,20 +50,20 @@ fn draw_numbered<R: Threads + Sync>(
     number: usize,
 )
     requires sound { AreStrips lens.now strips.old }
-    requires gathered { AreGathered list.now.joints.lists lens.now batch.old.pieces batch.old.bare.items }
+    requires gathered { AreGathered list.now lens.now batch.old.pieces batch.old.waiting.items }
     ensures sound { AreStrips lens.now strips.new }
-    ensures gathered { AreGathered list.now.joints.lists lens.now batch.new.pieces batch.new.bare.items }
-    ensures drawn { Gathers list.now.joints.lists lens.now batch.old.is_first strips.old batch.old.pieces batch.old.bare.items
-        batch.new.is_first strips.new batch.new.pieces batch.new.bare.items
+    ensures gathered { AreGathered list.now lens.now batch.new.pieces batch.new.waiting.items }
+    ensures drawn { Gathers list.now lens.now batch.old.is_first strips.old batch.old.pieces batch.old.waiting.items
+        batch.new.is_first strips.new batch.new.pieces batch.new.waiting.items
         (opaque_over lens.now (option_to_list (slice_get (instances_in list.now) number))) }
 {
     match list.item(number) {
-        Some(item) => draw_if_opaque(rt, strips, batch, lens, back, list, item),
+        Some(item) => draw_if_opaque(rt, strips, batch, lens, back, list, number, item),
         None => {}
     }
 }
 
-/// Draws an item, where it is opaque.
+/// Draws the item of a number, where it is opaque.
 fn draw_if_opaque<R: Threads + Sync>(
     rt: &R,
     strips: &mut [Strip],
@@ -74,24 +71,25 @@ fn draw_if_opaque<R: Threads + Sync>(
     lens: &Lens,
     back: [u8; 3],
     list: &DrawList,
+    number: usize,
     item: &Item,
 )
     requires sound { AreStrips lens.now strips.old }
-    requires gathered { AreGathered list.now.joints.lists lens.now batch.old.pieces batch.old.bare.items }
-    requires joint { item.now.joint < length list.now.joints.lists }
+    requires gathered { AreGathered list.now lens.now batch.old.pieces batch.old.waiting.items }
+    requires item { slice_get list.now.items.items number ≡ Some item.now }
     ensures sound { AreStrips lens.now strips.new }
-    ensures gathered { AreGathered list.now.joints.lists lens.now batch.new.pieces batch.new.bare.items }
-    ensures drawn { Gathers list.now.joints.lists lens.now batch.old.is_first strips.old batch.old.pieces batch.old.bare.items
-        batch.new.is_first strips.new batch.new.pieces batch.new.bare.items
+    ensures gathered { AreGathered list.now lens.now batch.new.pieces batch.new.waiting.items }
+    ensures drawn { Gathers list.now lens.now batch.old.is_first strips.old batch.old.pieces batch.old.waiting.items
+        batch.new.is_first strips.new batch.new.pieces batch.new.waiting.items
         (opaque_over lens.now (instance_of_item list.now.joints.lists list.now.kept.tris item.now ∷ [])) }
 {
     match item.tint {
-        None => draw_item(rt, strips, batch, lens, back, list, item),
+        None => draw_item(rt, strips, batch, lens, back, list, number, item),
         Some(_tint) => {}
     }
 }
 
-/// Draws the triangles of an item.
+/// Draws the triangles of the item of a number.
 fn draw_item<R: Threads + Sync>(
     rt: &R,
     strips: &mut [Strip],
@@ -99,50 +97,48 @@ fn draw_item<R: Threads + Sync>(
     lens: &Lens,
     back: [u8; 3],
     list: &DrawList,
+    number: usize,
     item: &Item,
 )
     requires sound { AreStrips lens.now strips.old }
-    requires gathered { AreGathered list.now.joints.lists lens.now batch.old.pieces batch.old.bare.items }
-    requires joint { item.now.joint < length list.now.joints.lists }
+    requires gathered { AreGathered list.now lens.now batch.old.pieces batch.old.waiting.items }
+    requires item { slice_get list.now.items.items number ≡ Some item.now }
     ensures sound { AreStrips lens.now strips.new }
-    ensures gathered { AreGathered list.now.joints.lists lens.now batch.new.pieces batch.new.bare.items }
-    ensures drawn { Gathers list.now.joints.lists lens.now batch.old.is_first strips.old batch.old.pieces batch.old.bare.items
-        batch.new.is_first strips.new batch.new.pieces batch.new.bare.items
+    ensures gathered { AreGathered list.now lens.now batch.new.pieces batch.new.waiting.items }
+    ensures drawn { Gathers list.now lens.now batch.old.is_first strips.old batch.old.pieces batch.old.waiting.items
+        batch.new.is_first strips.new batch.new.pieces batch.new.waiting.items
         (instance_over lens.now (instance_of_item list.now.joints.lists list.now.kept.tris item.now)) }
 {
-    for number in 0..item.geom.len {
-        let tri = match list.tri(item.geom, number) {
-            Some(tri) => tri,
+    for n in 0..item.geom.len {
+        match list.tri(item.geom, n) {
+            Some(_tri) => draw_tri(rt, strips, batch, lens, back, list, number, n),
             None => return,
-        };
-        let face = Face::of(item, number, tri);
-        draw_face(rt, strips, batch, lens, back, list, face, item.joint);
+        }
     }
 }
 
-/// Draws a face, whose triangle is in the coordinates of a joint: it becomes one of those that are drawn together; where these
-/// have no more room, they are drawn before.
-fn draw_face<R: Threads + Sync>(
+/// Draws the triangle of a number in an item of a number: it waits to be one of those that are drawn together; where these have no
+/// more room, they are drawn before.
+fn draw_tri<R: Threads + Sync>(
     rt: &R,
     strips: &mut [Strip],
     batch: &mut Batch,
     lens: &Lens,
     back: [u8; 3],
     list: &DrawList,
-    face: Face,
-    joint: u32,
+    item: usize,
+    number: u32,
 )
     requires sound { AreStrips lens.now strips.old }
-    requires joint { joint < length list.now.joints.lists }
-    requires gathered { AreGathered list.now.joints.lists lens.now batch.old.pieces batch.old.bare.items }
+    requires there { IsThere list.now item number }
+    requires gathered { AreGathered list.now lens.now batch.old.pieces batch.old.waiting.items }
     ensures sound { AreStrips lens.now strips.new }
-    ensures gathered { AreGathered list.now.joints.lists lens.now batch.new.pieces batch.new.bare.items }
-    ensures drawn { Gathers list.now.joints.lists lens.now batch.old.is_first strips.old batch.old.pieces batch.old.bare.items
-        batch.new.is_first strips.new batch.new.pieces batch.new.bare.items
-        (face_drawn (steps_at list.now.joints.lists joint) lens.now face) }
+    ensures gathered { AreGathered list.now lens.now batch.new.pieces batch.new.waiting.items }
+    ensures drawn { Gathers list.now lens.now batch.old.is_first strips.old batch.old.pieces batch.old.waiting.items
+        batch.new.is_first strips.new batch.new.pieces batch.new.waiting.items (waiting_over list.now lens.now item number) }
 {
     make_room(rt, strips, batch, lens, back, list);
-    batch.gather(face, joint);
+    batch.gather(item, number);
 }
 
 /// Draws a full batch.
@@ -155,12 +151,12 @@ fn make_room<R: Threads + Sync>(
     list: &DrawList,
 )
     requires sound { AreStrips lens.now strips.old }
-    requires gathered { AreGathered list.now.joints.lists lens.now batch.old.pieces batch.old.bare.items }
+    requires gathered { AreGathered list.now lens.now batch.old.pieces batch.old.waiting.items }
     ensures sound { AreStrips lens.now strips.new }
-    ensures gathered { AreGathered list.now.joints.lists lens.now batch.new.pieces batch.new.bare.items }
-    ensures room { length batch.new.pieces + length batch.new.bare.items < 16384 }
-    ensures drawn { Gathers list.now.joints.lists lens.now batch.old.is_first strips.old batch.old.pieces batch.old.bare.items
-        batch.new.is_first strips.new batch.new.pieces batch.new.bare.items (λ px py drawn. drawn) }
+    ensures gathered { AreGathered list.now lens.now batch.new.pieces batch.new.waiting.items }
+    ensures room { length batch.new.pieces + length batch.new.waiting.items < 16384 }
+    ensures drawn { Gathers list.now lens.now batch.old.is_first strips.old batch.old.pieces batch.old.waiting.items
+        batch.new.is_first strips.new batch.new.pieces batch.new.waiting.items (λ px py drawn. drawn) }
 {
     if batch.is_full() {
         batch.prepare(rt, list, lens);
@@ -181,7 +177,7 @@ pub(crate) fn flush<R: Threads + Sync>(
     ensures sound { AreStrips lens.now strips.new }
     ensures later { batch.new.is_first ≡ false }
     ensures empty { batch.new.pieces ≡ [] }
-    ensures none { batch.new.bare.items ≡ [] }
+    ensures none { batch.new.waiting.items ≡ [] }
     ensures drawn { (px py : ℕ) → px < lens.now.w → py < lens.now.h
         → seen_at strips.new px py ≡ drawn_with lens.now batch.old.is_first strips.old batch.old.pieces px py }
     ensures blank { (px py : ℕ) → px < lens.now.w → py < lens.now.h

@@ -2,13 +2,13 @@
 ghost use Rattle.std.specs.Prelude.{◌≡◌, ℕ, ◌+◌, ◌≤◌, ◌<◌, [], All, length, take, IfOk};
 ghost use Rattle.std.specs.Vec.{vec_capacity};
 ghost use Rattle.depth_raster.specs.Batches.{IsWithFace};
-ghost use Rattle.depth_raster.specs.Pieces.{AreMadeReady, HasJoint, AreAppended};
+ghost use Rattle.depth_raster.specs.Pieces.{AreMadeReady, AreThere, AreAppended};
 ghost use Rattle.depth_raster.specs.Slots.{AreNumbered, AreSlotted};
 
-use crate::bare::Bare;
 use crate::faces::Face;
 use crate::pieces::{Piece, make_ready, prepare};
 use crate::slots::{Slot, wait};
+use crate::waiting::Waiting;
 use crate::work::preparing_parts;
 use draw_list::DrawList;
 use fx_math::Lens;
@@ -80,28 +80,36 @@ impl PieceBuffer {
         self.count += 1;
     }
 
-    /// Takes the pieces of the faces of a list, prepared for a lens, as the last ones, and appends their slots.
+    /// Takes the pieces of triangles of a list that wait, prepared for a lens, as the last ones, and appends their slots.
     pub(crate) fn prepare<R: Threads + Sync>(
         &mut self,
         rt: &R,
-        bare: &[Bare],
+        waiting: &[Waiting],
         slots: &mut Vec<Slot>,
         list: &DrawList,
         lens: &Lens,
     )
-        requires few { length self.old + length bare.now ≤ 16384 }
-        requires joints { All (HasJoint list.now.joints.lists) bare.now }
+        requires few { length self.old + length waiting.now ≤ 16384 }
+        requires listed { AreThere list.now waiting.now }
         requires room { 16384 ≤ vec_capacity slots.old }
         requires count { length slots.old.items ≡ length self.old }
         requires slotted { AreSlotted self.old slots.old.items }
-        ensures pieces { AreAppended list.now.joints.lists lens.now bare.now self.old self.new }
+        ensures pieces { AreAppended list.now lens.now waiting.now self.old self.new }
         ensures room { 16384 ≤ vec_capacity slots.new }
         ensures slotted { AreSlotted self.new slots.new.items }
     {
-        fill_up(&mut self.written, self.count, bare);
-        wait(slots, bare.len());
-        prepare_behind(rt, &mut self.written, slots, self.count, bare, list, lens);
-        self.count += bare.len();
+        fill_up(&mut self.written, self.count + waiting.len());
+        wait(slots, waiting.len());
+        prepare_behind(
+            rt,
+            &mut self.written,
+            slots,
+            self.count,
+            waiting,
+            list,
+            lens,
+        );
+        self.count += waiting.len();
     }
 
     /// Makes the pieces, whose triangles have come to the eye, ready for a lens.
@@ -128,63 +136,47 @@ fn write_at(written: &mut Vec<Piece>, count: usize, face: Face)
     written.push_reserved(Piece::bare(face));
 }
 
-/// Sees to it that there are pieces behind the first so many, whatever they are, as many as faces.
-fn fill_up(written: &mut Vec<Piece>, count: usize, bare: &[Bare])
-    requires count { count ≤ length written.old.items }
-    requires few { count + length bare.now ≤ 16384 }
+/// Sees to it that there are so many pieces, whatever those are that it appends.
+fn fill_up(written: &mut Vec<Piece>, count: usize)
+    requires few { count ≤ 16384 }
     requires room { 16384 ≤ vec_capacity written.old }
-    ensures there { count + length bare.now ≤ length written.new.items }
-    ensures room { 16384 ≤ vec_capacity written.new }
-    ensures first { take count written.new.items ≡ take count written.old.items }
-{
-    for i in 0..bare.len() {
-        fill_at(written, count + i, bare[i].face);
-    }
-}
-
-/// Sees to it that there is a piece at a place, whatever it is.
-fn fill_at(written: &mut Vec<Piece>, place: usize, face: Face)
-    requires there { place ≤ length written.old.items }
-    requires few { place < 16384 }
-    requires room { 16384 ≤ vec_capacity written.old }
-    ensures there { place < length written.new.items }
+    ensures there { count ≤ length written.new.items }
     ensures room { 16384 ≤ vec_capacity written.new }
     ensures first { (n : ℕ) → n ≤ length written.old.items → take n written.new.items ≡ take n written.old.items }
 {
-    if place < written.len() {
-        return;
+    for i in written.len()..count {
+        written.push_reserved(Piece::blank());
     }
-    written.push_reserved(Piece::bare(face));
 }
 
-/// Prepares the pieces of the faces of a list behind the first so many, and their slots.
+/// Prepares the pieces of triangles of a list behind the first so many, and their slots.
 fn prepare_behind<R: Threads + Sync>(
     rt: &R,
     written: &mut [Piece],
     slots: &mut [Slot],
     count: usize,
-    bare: &[Bare],
+    waiting: &[Waiting],
     list: &DrawList,
     lens: &Lens,
 )
-    requires there { count + length bare.now ≤ length written.old }
-    requires slots { length slots.old ≡ count + length bare.now }
-    requires joints { All (HasJoint list.now.joints.lists) bare.now }
+    requires there { count + length waiting.now ≤ length written.old }
+    requires slots { length slots.old ≡ count + length waiting.now }
+    requires listed { AreThere list.now waiting.now }
     requires numbered { AreNumbered slots.old }
     requires slotted { AreSlotted (take count written.old) (take count slots.old) }
-    ensures pieces { AreAppended list.now.joints.lists lens.now bare.now (take count written.old)
-        (take (count + length bare.now) written.new) }
-    ensures slotted { AreSlotted (take (count + length bare.now) written.new) slots.new }
+    ensures pieces { AreAppended list.now lens.now waiting.now (take count written.old)
+        (take (count + length waiting.now) written.new) }
+    ensures slotted { AreSlotted (take (count + length waiting.now) written.new) slots.new }
 {
     let (_, behind) = written.split_at_mut(count);
-    let (fresh, _) = behind.split_at_mut(bare.len());
-    let (_, waiting) = slots.split_at_mut(count);
+    let (fresh, _) = behind.split_at_mut(waiting.len());
+    let (_, open) = slots.split_at_mut(count);
     prepare(
         rt,
-        preparing_parts(rt, bare.len()),
-        bare,
-        fresh,
+        preparing_parts(rt, waiting.len()),
         waiting,
+        fresh,
+        open,
         list,
         lens,
     );

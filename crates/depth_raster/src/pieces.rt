@@ -3,21 +3,21 @@ ghost use Rattle.std.specs.Prelude.{◌≡◌, All, length};
 ghost use Rattle.std.specs.Thread.{IsSync};
 ghost use Rattle.tri_cover.specs.Readiness.{IsReady};
 ghost use Rattle.depth_raster.specs.Around.{IsAround, IsBoxOf};
-ghost use Rattle.depth_raster.specs.Pieces.{IsMadeReady, AreMadeReady, HasJoint, IsPrepared, ArePrepared};
+ghost use Rattle.depth_raster.specs.Pieces.{IsMadeReady, AreMadeReady, IsThere, AreThere, IsPrepared, ArePrepared};
 ghost use Rattle.depth_raster.specs.Slots.{AreTaken};
 ghost use Rattle.depth_raster.specs.Recent.{AreCarried};
 
-use crate::bare::Bare;
 use crate::extents::Extent;
 use crate::faces::{Face, at_eye};
 use crate::leasts::least_mark;
 use crate::recent::Recent;
 use crate::slots::Slot;
 use crate::small::is_small;
+use crate::waiting::Waiting;
 use crate::work::{are_many, processors};
 use draw_list::DrawList;
 use edge_values::about;
-use fx_math::Lens;
+use fx_math::{Lens, Vec3};
 use pf_model::Tri;
 use std::thread::{Threads, for_each_mut, join_mut};
 use tri_cover::face_of;
@@ -36,6 +36,21 @@ pub(crate) struct Piece {
 }
 
 impl Piece {
+    /// A piece of no triangle: of one that is the point 0.
+    pub(crate) fn blank() -> Piece {
+        Piece::bare(Face {
+            tri: Tri {
+                v: [Vec3::ORIGIN; 3],
+                c: [[0; 3]; 3],
+            },
+            place: 0,
+            shift: 0,
+            number: 0,
+            rank: 0,
+            alpha: 0,
+        })
+    }
+
     /// A face of which nothing is reckoned yet.
     pub(crate) fn bare(face: Face) -> Piece
         ensures { result.face ≡ face }
@@ -55,15 +70,24 @@ impl Piece {
         }
     }
 
-    /// Becomes the piece of a face: brings its triangle to the eye, and makes it ready for a lens.
-    fn prepare(&mut self, bare: &Bare, list: &DrawList, lens: &Lens, recent: &mut Recent)
-        requires joint { HasJoint list.now.joints.lists bare.now }
+    /// Becomes the piece of a triangle that waits: brings it to the eye, and makes it ready for a lens.
+    fn prepare(&mut self, waiting: &Waiting, list: &DrawList, lens: &Lens, recent: &mut Recent)
+        requires there { IsThere list.now waiting.now.item waiting.now.number }
         requires carried { AreCarried list.now.joints.lists recent.old }
         ensures carried { AreCarried list.now.joints.lists recent.new }
-        ensures prepared { IsPrepared list.now.joints.lists lens.now bare.now self.new }
+        ensures prepared { IsPrepared list.now lens.now waiting.now self.new }
     {
-        self.face = bare.face;
-        self.face.tri = at_eye(list, bare.joint, &bare.face.tri, recent);
+        let Some(item) = list.item(waiting.item) else {
+            return;
+        };
+        let Some(tri) = list.tri(item.geom, waiting.number) else {
+            return;
+        };
+        let carried = at_eye(list, item.joint, &tri, recent);
+        self.face = Face {
+            rank: waiting.rank,
+            ..Face::of(item, waiting.number, carried)
+        };
         self.make_ready(lens);
     }
 
@@ -88,29 +112,29 @@ fn about_dividend(ready: &Option<tri_cover::Face>) -> f64 {
     }
 }
 
-/// Prepares the pieces of faces, and their slots, in so many parts side by side.
+/// Prepares the pieces of triangles that wait, and their slots, in so many parts side by side.
 #[cycle(preparing)]
 pub(crate) fn prepare<R: Threads + Sync>(
     rt: &R,
     parts: usize,
-    bare: &[Bare],
+    waiting: &[Waiting],
     pieces: &mut [Piece],
     slots: &mut [Slot],
     list: &DrawList,
     lens: &Lens,
 )
-    requires count { length bare.now ≡ length pieces.old }
-    requires slots { length bare.now ≡ length slots.old }
-    requires joints { All (HasJoint list.now.joints.lists) bare.now }
-    ensures pieces { ArePrepared list.now.joints.lists lens.now bare.now pieces.new }
+    requires count { length waiting.now ≡ length pieces.old }
+    requires slots { length waiting.now ≡ length slots.old }
+    requires listed { AreThere list.now waiting.now }
+    ensures pieces { ArePrepared list.now lens.now waiting.now pieces.new }
     ensures slots { AreTaken pieces.new slots.old slots.new }
 {
     if parts < 2 {
-        prepare_in_turn(bare, pieces, slots, list, lens);
+        prepare_in_turn(waiting, pieces, slots, list, lens);
         return;
     }
-    let count = bare.len() / parts;
-    let (first, others) = bare.split_at(count);
+    let count = waiting.len() / parts;
+    let (first, others) = waiting.split_at(count);
     let (front, rest) = pieces.split_at_mut(count);
     let (front_slots, rest_slots) = slots.split_at_mut(count);
     prepare_parts(
@@ -132,8 +156,8 @@ pub(crate) fn prepare<R: Threads + Sync>(
 fn prepare_parts<R: Threads + Sync>(
     rt: &R,
     more: usize,
-    first: &[Bare],
-    others: &[Bare],
+    first: &[Waiting],
+    others: &[Waiting],
     front: &mut [Piece],
     rest: &mut [Piece],
     front_slots: &mut [Slot],
@@ -145,46 +169,46 @@ fn prepare_parts<R: Threads + Sync>(
     requires rest_count { length others.now ≡ length rest.old }
     requires front_slots { length first.now ≡ length front_slots.old }
     requires rest_slots { length others.now ≡ length rest_slots.old }
-    requires front { All (HasJoint list.now.joints.lists) first.now }
-    requires rest { All (HasJoint list.now.joints.lists) others.now }
-    ensures front { ArePrepared list.now.joints.lists lens.now first.now front.new }
-    ensures rest { ArePrepared list.now.joints.lists lens.now others.now rest.new }
+    requires front { AreThere list.now first.now }
+    requires rest { AreThere list.now others.now }
+    ensures front { ArePrepared list.now lens.now first.now front.new }
+    ensures rest { ArePrepared list.now lens.now others.now rest.new }
     ensures front_slots { AreTaken front.new front_slots.old front_slots.new }
     ensures rest_slots { AreTaken rest.new rest_slots.old rest_slots.new }
 {
     let mut one = ||
-        requires { All (HasJoint list.now.joints.lists) first.now × (length first.now ≡ length front.now)
+        requires { AreThere list.now first.now × (length first.now ≡ length front.now)
             × (length first.now ≡ length front_slots.now) }
-        ensures { ArePrepared list.entry.now.joints.lists lens.entry.now first.entry.now front.exit.now
+        ensures { ArePrepared list.entry.now lens.entry.now first.entry.now front.exit.now
             × AreTaken front.exit.now front_slots.entry.now front_slots.exit.now }
     { prepare_in_turn(first, front, front_slots, list, lens) };
     let mut all = ||
-        requires { IsSync R.row × All (HasJoint list.now.joints.lists) others.now × (length others.now ≡ length rest.now)
+        requires { IsSync R.row × AreThere list.now others.now × (length others.now ≡ length rest.now)
             × (length others.now ≡ length rest_slots.now) }
-        ensures { ArePrepared list.entry.now.joints.lists lens.entry.now others.entry.now rest.exit.now
+        ensures { ArePrepared list.entry.now lens.entry.now others.entry.now rest.exit.now
             × AreTaken rest.exit.now rest_slots.entry.now rest_slots.exit.now }
     { prepare(rt, more, others, rest, rest_slots, list, lens) };
     join_mut(rt, &mut one, &mut all);
 }
 
-/// Prepares the piece of one face after the other, and its slot.
+/// Prepares the piece of one triangle after the other, and its slot.
 fn prepare_in_turn(
-    bare: &[Bare],
+    waiting: &[Waiting],
     pieces: &mut [Piece],
     slots: &mut [Slot],
     list: &DrawList,
     lens: &Lens,
 )
-    requires count { length bare.now ≡ length pieces.old }
-    requires slots { length bare.now ≡ length slots.old }
-    requires joints { All (HasJoint list.now.joints.lists) bare.now }
-    ensures pieces { ArePrepared list.now.joints.lists lens.now bare.now pieces.new }
+    requires count { length waiting.now ≡ length pieces.old }
+    requires slots { length waiting.now ≡ length slots.old }
+    requires listed { AreThere list.now waiting.now }
+    ensures pieces { ArePrepared list.now lens.now waiting.now pieces.new }
     ensures slots { AreTaken pieces.new slots.old slots.new }
 {
     let mut recent = Recent::new(0);
-    for i in 0..bare.len() {
+    for i in 0..waiting.len() {
         let piece = &mut pieces[i];
-        piece.prepare(&bare[i], list, lens, &mut recent);
+        piece.prepare(&waiting[i], list, lens, &mut recent);
         slots[i].take(piece);
     }
 }

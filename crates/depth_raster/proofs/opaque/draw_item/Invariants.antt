@@ -5,10 +5,10 @@ use Rattle.depth_raster.specs.Strips.{AreStrips}
 use Rattle.depth_raster.proofs.Items.{part_over}
 use Rattle.depth_raster.proofs.opaque.draw_item.Given as goal
 
-abbrev pub invariant-loop-number : goal.invariant-loop-number
-invariant-loop-number g l = record {
+abbrev pub invariant-loop-n : goal.invariant-loop-n
+invariant-loop-n g l = record {
   sound : AreStrips l.lens l.strips;
-  gathered : AreGathered l.list.joints.lists l.lens l.batch.pieces l.batch.bare.items;
-  drawn : Gathers l.list.joints.lists l.lens l.initial.batch.is_first l.initial.strips l.initial.batch.pieces l.initial.batch.bare.items l.batch.is_first l.strips l.batch.pieces l.batch.bare.items
-      (part_over l.lens (instance_of_item l.list.joints.lists l.list.kept.tris l.item) l.number);
+  gathered : AreGathered l.list l.lens l.batch.pieces l.batch.waiting.items;
+  drawn : Gathers l.list l.lens l.initial.batch.is_first l.initial.strips l.initial.batch.pieces l.initial.batch.waiting.items l.batch.is_first l.strips l.batch.pieces l.batch.waiting.items
+      (part_over l.lens (instance_of_item l.list.joints.lists l.list.kept.tris l.item) l.n);
 }

@@ -8,7 +8,7 @@ use Rattle.draw_list.specs.Lists.{instances_in}
 use Rattle.depth_raster.specs.Canvas.{drawn_with, drawn_after}
 use Rattle.depth_raster.specs.Drawing.{opaque_over}
 use Rattle.depth_raster.specs.Pieces.{IsPieceOf}
-use Rattle.depth_raster.specs.declared.bare.Bare.{Bare}
+use Rattle.depth_raster.specs.declared.waiting.Waiting.{Waiting}
 use Rattle.depth_raster.specs.declared.pieces.Piece.{Piece}
 use Rattle.depth_raster.proofs.Items.{opaque_none, opaque_more}
 use Rattle.depth_raster.proofs.Prepared.{none_gathered, drawn_appended, appended_ready}
@@ -17,17 +17,16 @@ use Rattle.depth_raster.proofs.opaque.draw_opaque.Goals as goal
 pub loop-number-init : goal.loop-number-init
 loop-number-init g c =
     let a = c.args in
-    let lists = a.list.now.joints.lists in
     let b = a.batch.now in
-    let d = c.clear_bare.new.self in
-    let ready = subst (λ (ps : List Piece). All (IsPieceOf a.lens.now) ps) (sym c.clear_bare.ensures.pieces) c.requires.ready in
+    let d = c.clear_waiting.new.self in
+    let ready = subst (λ (ps : List Piece). All (IsPieceOf a.lens.now) ps) (sym c.clear_waiting.ensures.pieces) c.requires.ready in
     record {
       sound = c.requires.sound;
-      gathered = none_gathered lists a.lens.now d.pieces d.bare.items d.few ready c.clear_bare.ensures.bare;
+      gathered = none_gathered a.list.now a.lens.now d.pieces d.waiting.items d.few ready c.clear_waiting.ensures.waiting;
       drawn = λ px py column row.
-          ap (λ (bs : List Bare). drawn_after lists a.lens.now d.is_first a.strips.now d.pieces bs px py) c.clear_bare.ensures.bare
-          ∙ ap (λ (first : Bool). drawn_with a.lens.now first a.strips.now d.pieces px py) c.clear_bare.ensures.first
-          ∙ ap (λ (ps : List Piece). drawn_with a.lens.now b.is_first a.strips.now ps px py) c.clear_bare.ensures.pieces
+          ap (λ (ws : List Waiting). drawn_after a.list.now a.lens.now d.is_first a.strips.now d.pieces ws px py) c.clear_waiting.ensures.waiting
+          ∙ ap (λ (first : Bool). drawn_with a.lens.now first a.strips.now d.pieces px py) c.clear_waiting.ensures.first
+          ∙ ap (λ (ps : List Piece). drawn_with a.lens.now b.is_first a.strips.now ps px py) c.clear_waiting.ensures.pieces
           ∙ opaque_none a.lens.now px py (drawn_with a.lens.now b.is_first a.strips.now b.pieces px py);
     }
 
@@ -46,7 +45,7 @@ loop-number-preserved g c = record {
 pub returns-clause-ready : goal.returns-clause-ready
 returns-clause-ready g c =
     let d = c.loop-number.batch in
-    appended_ready c.args.list.now.joints.lists c.args.lens.now d.bare.items d.pieces c.prepare.new.self.pieces c.prepare.ensures.pieces c.loop-number.invariant.gathered.ready
+    appended_ready c.args.list.now c.args.lens.now d.waiting.items d.pieces c.prepare.new.self.pieces c.prepare.ensures.pieces c.loop-number.invariant.gathered.ready
 
 pub returns-clause-drawn : goal.returns-clause-drawn
 returns-clause-drawn g c = λ px py column row.
@@ -59,6 +58,6 @@ returns-clause-drawn g c = λ px py column row.
     let after = c.loop-number.strips in
     let all : take c.loop-number.number xs ≡ xs = take_all c.loop-number.number xs (omega (arith, length-map a.list.now.items.items (instance_of_item lists a.list.now.kept.tris))) in
     ap (λ (first : Bool). drawn_with lens first after c.prepare.new.self.pieces px py) c.prepare.ensures.first
-    ∙ drawn_appended lists lens d.is_first after d.bare.items d.pieces c.prepare.new.self.pieces px py c.prepare.ensures.pieces
+    ∙ drawn_appended c.args.list.now lens d.is_first after d.waiting.items d.pieces c.prepare.new.self.pieces px py c.prepare.ensures.pieces
     ∙ c.loop-number.invariant.drawn px py column row
     ∙ ap (λ (ys : List Instance). opaque_over lens ys px py (drawn_with lens b.is_first a.strips.now b.pieces px py)) all

@@ -41,7 +41,7 @@ returns g c =
       sound = flushed_open lens a.back ps first before after c.requires.sound long each;
       later = refl;
       empty = c.clear.ensures.pieces;
-      none = c.clear.ensures.bare;
+      none = c.clear.ensures.waiting;
       drawn = λ px py column row. flushed_seen lens a.back ps first before after c.requires.sound long each px py column row;
       blank = flushed_blank lens a.back ps first before after c.requires.sound long each;
     }

@@ -9,13 +9,12 @@ flush-requires g c =
     let a = c.args in
     let b = a.batch.now in (
       c.type_bounds.sync-R,
-      (c.requires.sound, appended_ready a.list.now.joints.lists a.lens.now b.bare.items b.pieces c.prepare.new.self.pieces c.prepare.ensures.pieces c.requires.gathered.ready),
+      (c.requires.sound, appended_ready a.list.now a.lens.now b.waiting.items b.pieces c.prepare.new.self.pieces c.prepare.ensures.pieces c.requires.gathered.ready),
     )
 
 pub returns-then-is_full : goal.returns-then-is_full
 returns-then-is_full g c =
     let lens = c.args.lens.now in
-    let lists = c.args.list.now.joints.lists in
     let ready = c.prepare.new.self in
     let old = c.args.batch.now in
     let b = c.flush.new.batch in
@@ -23,11 +22,11 @@ returns-then-is_full g c =
     let strips = c.flush.new.strips in
     record {
       sound = c.flush.ensures.sound;
-      gathered = none_gathered lists lens b.pieces b.bare.items (omega (arith, ap length c.flush.ensures.empty)) (none_ready lens b.pieces c.flush.ensures.empty) c.flush.ensures.none;
+      gathered = none_gathered c.args.list.now lens b.pieces b.waiting.items (omega (arith, ap length c.flush.ensures.empty)) (none_ready lens b.pieces c.flush.ensures.empty) c.flush.ensures.none;
       room = omega (arith, ap length c.flush.ensures.empty, ap length c.flush.ensures.none);
       drawn = λ px py column row.
-          later_drawn lists lens b.is_first strips b.pieces b.bare.items px py c.flush.ensures.later c.flush.ensures.empty c.flush.ensures.none
+          later_drawn c.args.list.now lens b.is_first strips b.pieces b.waiting.items px py c.flush.ensures.later c.flush.ensures.empty c.flush.ensures.none
           ∙ c.flush.ensures.drawn px py column row
           ∙ ap (λ (first : Bool). drawn_with lens first before ready.pieces px py) c.prepare.ensures.first
-          ∙ drawn_appended lists lens old.is_first before old.bare.items old.pieces ready.pieces px py c.prepare.ensures.pieces;
+          ∙ drawn_appended c.args.list.now lens old.is_first before old.waiting.items old.pieces ready.pieces px py c.prepare.ensures.pieces;
     }
