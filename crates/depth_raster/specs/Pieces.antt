@@ -102,7 +102,9 @@ fragments_by lens px py ps = filter_map (λ p. fragment_by lens px py p.face) ps
 -- the fragment of the triangle of a number in the item of a number, once it has come to the eye
 unfoldable pub fragment_waiting : Drawables → Lens → (item number : ℕ) → (px py : ℕ) → Option Fragment
 fragment_waiting d lens item number px py = option_and_then
-    (λ i. option_and_then (λ t. fragment_after (steps_at d.joints.lists i.joint) lens px py (face_of_item i number t)) (slice_get (tris_at d.kept.tris i.geom) number))
+    (λ i. option_and_then
+    (λ t. fragment_after (steps_at d.joints.lists i.joint) lens px py (face_of_item i number t))
+    (slice_get (tris_at d.kept.tris i.geom) number))
     (slice_get d.items.items item)
 
 -- the fragments of triangles that wait

@@ -250,6 +250,7 @@ impl Flight {
     {
         self.stats.push_reserved(load.stats());
         bring_home(&mut self.home, load.take_updates());
+        load.clear_bytes();
         settle(*self.home.allocator(), &mut load);
         self.spare.push_reserved(load);
     }

@@ -14,6 +14,7 @@ fn rows_come_from_the_top(rt: HostRuntime) -> Result<(), Fail> {
     append_ppm_reserved(&mut out, &image);
     let want = b"P6\n3 2\n255\n\0\0\0\0\0\0\x01\x02\x03\x04\x05\x06\0\0\0\0\0\0";
     assert_eq!(rt; out.as_slice(), want.as_slice());
+    assert_eq!(rt; image.as_ppm(), want.as_slice());
     Ok(())
 }
 

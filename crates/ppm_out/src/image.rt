@@ -1,27 +1,35 @@
 //! An image of three bytes a pixel.
-ghost use Rattle.std.specs.Prelude.{◌≡◌, ◌+◌, ◌*◌, ◌<◌, ◌≤◌, length, replicate, IfOk};
+ghost use Rattle.std.specs.Prelude.{◌≡◌, ◌+◌, ◌*◌, ◌<◌, ◌≤◌, ◌++◌, length, take, drop, slice_index, slice_set, replicate, IfOk};
 ghost use Rattle.std.specs.Fn.{FnOnceTakesAtMut, FnOnceReturnsAtMut};
 ghost use Rattle.ppm_out.specs.Pixmap.{Pixmap, IsPixmap, SetsPixel, pixel, place_of};
-ghost use Rattle.ppm_out.specs.Ppm.{pixel_bytes};
+ghost use Rattle.ppm_out.specs.Ppm.{ppm_bytes, ppm_size};
 
+use crate::ppm::header;
 use pf_io::NoMemory;
 use std::alloc::Global;
 use std::marker::Model;
 
-/// An image of 1 to 1,024 pixels in width and in height, each with a red, a green and a blue byte.
+/// An image of 1 to 1,024 pixels in width and in height, each with a red, a green and a blue byte. It is kept as the file of its
+/// picture, a header and then the pixels from `start` on.
 #[derive(Drop)]
 pub struct Image {
     width: u16,
     height: u16,
-    bytes: Vec<u8>,
+    start: usize,
+    file: Vec<u8>,
 }
 
 impl Model for Image {
+    ghost use Rattle.std.specs.Prelude.{◌≡◌, take, drop};
+    ghost use Rattle.ppm_out.specs.Pixmap.{Pixmap, IsPixmap};
+    ghost use Rattle.ppm_out.specs.Ppm.{ppm_header};
+
     ghost Value = { Pixmap };
 
-    ghost view = { λ i. record { width = i.width; height = i.height; bytes = i.bytes.items } };
+    ghost view = { λ i. record { width = i.width; height = i.height; bytes = drop i.start i.file.items } };
 
-    ghost invariant = { λ i. IsPixmap (record { width = i.width; height = i.height; bytes = i.bytes.items }) };
+    ghost invariant = { λ i. IsPixmap (record { width = i.width; height = i.height; bytes = drop i.start i.file.items })
+        × (take i.start i.file.items ≡ ppm_header i.width i.height) };
 }
 
 impl Image {
@@ -36,11 +44,15 @@ impl Image {
         }) }
         ensures whole { IfOk result IsPixmap }
     {
-        let count = 3 * (height as usize * width as usize);
+        let header = header(alloc, width, height)?;
+        let start = header.len();
+        let mut file = vec![in alloc; 0; start + 3 * (height as usize * width as usize)]?;
+        write_front(&mut file, &header);
         Ok(Image {
             width,
             height,
-            bytes: vec![in alloc; 0; count]?,
+            start,
+            file,
         })
     }
 
@@ -66,9 +78,9 @@ impl Image {
         requires row { py < self.now.height }
         ensures { result ≡ pixel self.now px py }
     {
-        let place = self.place(px, py);
-        let bytes = &self.bytes;
-        [bytes[place], bytes[place + 1], bytes[place + 2]]
+        let place = self.start + self.place(px, py);
+        let file = &self.file;
+        [file[place], file[place + 1], file[place + 2]]
     }
 
     /// Gives a colour to the pixel in column `px` from the left and row `py` from the top.
@@ -78,11 +90,8 @@ impl Image {
         ensures pixel { SetsPixel self.old self.new px py colour }
         ensures whole { IsPixmap self.new }
     {
-        let start = self.place(px, py);
-        let [red, green, blue] = colour;
-        self.bytes[start] = red;
-        self.bytes[start + 1] = green;
-        self.bytes[start + 2] = blue;
+        let place = self.place(px, py);
+        set_behind(&mut self.file, self.start, place, colour);
     }
 
     /// Lends the bytes of all pixels to `write`, which may change them: three a pixel, its red, its green and its blue, the pixels
@@ -94,16 +103,15 @@ impl Image {
         ensures bytes { FnOnceReturnsAtMut F.FnOnce write self.old.bytes tt self.new.bytes }
         ensures whole { IsPixmap self.new }
     {
-        write(&mut self.bytes);
+        edit_behind(&mut self.file, self.start, write);
     }
 
-    /// The bytes of all pixels, rows from the top.
-    pub(crate) fn as_bytes(&self) -> &[u8]
-        ensures bytes { result.now ≡ self.now.bytes }
-        ensures pixels { result.now ≡ pixel_bytes self.now.width self.now.height (pixel self.now) }
-        ensures count { length result.now ≡ 3 * (self.now.height * self.now.width) }
+    /// The bytes of the picture, as a raw portable pixmap.
+    pub fn as_ppm(&self) -> &[u8]
+        ensures bytes { result.now ≡ ppm_bytes self.now }
+        ensures count { length result.now ≡ ppm_size self.now.width self.now.height }
     {
-        &self.bytes
+        &self.file
     }
 
     // Where the bytes of a pixel begin.
@@ -115,4 +123,38 @@ impl Image {
     {
         3 * (py as usize * self.width as usize + px as usize)
     }
+}
+
+// Writes bytes over the first ones.
+fn write_front(bytes: &mut [u8], front: &[u8])
+    requires { length front.now ≤ length bytes.old }
+    ensures { bytes.new ≡ front.now ++ drop (length front.now) bytes.old }
+{
+    bytes[..front.len()].copy_from_slice(front);
+}
+
+// Lends the bytes from a place on.
+fn edit_behind<F: FnOnce(&mut [u8])>(bytes: &mut [u8], start: usize, write: F)
+    requires within { start ≤ length bytes.old }
+    requires takes { FnOnceTakesAtMut F.FnOnce write (drop start bytes.old) }
+    ensures front { take start bytes.new ≡ take start bytes.old }
+    ensures behind { FnOnceReturnsAtMut F.FnOnce write (drop start bytes.old) tt (drop start bytes.new) }
+{
+    let (_, behind) = bytes.split_at_mut(start);
+    write(behind);
+}
+
+// Writes three bytes at a place, which is counted from another one on.
+fn set_behind(bytes: &mut [u8], start: usize, place: usize, colour: [u8; 3])
+    requires { start + (place + 3) ≤ length bytes.old }
+    ensures front { take start bytes.new ≡ take start bytes.old }
+    ensures behind { drop start bytes.new
+        ≡ slice_set (slice_set (slice_set (drop start bytes.old) place (slice_index colour 0)) (place + 1) (slice_index colour 1))
+        (place + 2) (slice_index colour 2) }
+{
+    let (_, behind) = bytes.split_at_mut(start);
+    let [red, green, blue] = colour;
+    behind[place] = red;
+    behind[place + 1] = green;
+    behind[place + 2] = blue;
 }

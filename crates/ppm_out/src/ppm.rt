@@ -1,11 +1,12 @@
 //! Images as Netpbm's raw portable pixmaps.
-ghost use Rattle.std.specs.Prelude.{◌≡◌, ℕ, List, ◌+◌, ◌≤◌, ◌++◌, length, vec_len, vec_capacity, OnOk, OnErr};
+ghost use Rattle.std.specs.Prelude.{◌≡◌, ℕ, List, ◌+◌, ◌≤◌, ◌++◌, length, vec_len, vec_capacity, IfOk, OnOk, OnErr};
 ghost use Rattle.ppm_out.specs.Pixmap.{Pixmap, IsPixmap, Shows};
 ghost use Rattle.ppm_out.specs.Ppm.{ppm_bytes, picture_bytes, ppm_header, ppm_size};
 
 use crate::Image;
 use itoa::Buffer;
 use pf_io::NoMemory;
+use std::alloc::Global;
 
 /// How many bytes the picture of an image so wide and high has.
 pub fn ppm_len(width: u16, height: u16) -> usize
@@ -13,8 +14,16 @@ pub fn ppm_len(width: u16, height: u16) -> usize
     ensures of_image { (image : Pixmap) → IsPixmap image → image.width ≡ width → image.height ≡ height
         → length (ppm_bytes image) ≡ result }
 {
+    header_len(width, height) + 3 * (height as usize * width as usize)
+}
+
+/// How many bytes the header of such a picture has.
+fn header_len(width: u16, height: u16) -> usize
+    ensures exact { result ≡ length (ppm_header width height) }
+    ensures small { result ≤ 19 }
+{
     let digits = Buffer::new().format(width).len() + Buffer::new().format(height).len();
-    digits + b"P6\n \n255\n".len() + 3 * (height as usize * width as usize)
+    digits + b"P6\n \n255\n".len()
 }
 
 /// Appends the picture of an image to `out`, or leaves `out` as it was.
@@ -37,8 +46,16 @@ pub fn append_ppm_reserved(out: &mut Vec<u8>, image: &Image)
     ensures shown { (colour : ℕ → ℕ → List ℕ) → Shows image.now colour
         → out.new.items ≡ out.old.items ++ picture_bytes image.now.width image.now.height colour }
 {
-    append_header(out, image.width(), image.height());
-    append_within(out, image.as_bytes());
+    append_within(out, image.as_ppm());
+}
+
+// The header of the picture of an image so wide and high.
+pub(crate) fn header(alloc: Global, width: u16, height: u16) -> Result<Vec<u8>, NoMemory>
+    ensures { IfOk result (λ h. h.items ≡ ppm_header width height) }
+{
+    let mut out = Vec::with_capacity(alloc, header_len(width, height))?;
+    append_header(&mut out, width, height);
+    Ok(out)
 }
 
 // Appends a picture's header, for which there is room.

@@ -16,12 +16,14 @@ use std::mem;
 use update_lists::{Cut, Updates, Views};
 
 /// The load of a frame: its cut, a draw list and an image for each channel, a buffer for the bytes of all images, and the
-/// frame's numbers, which are sums over the channels. Once it is cleared, the buffer has room for these bytes.
+/// frame's numbers, which are sums over the channels. Once it is cleared, the buffer has room for these bytes. The bytes of one
+/// image alone need no buffer, as they stand in the image: then `is_image` says that they are those.
 pub struct Load {
     cut: Cut,
     lists: Vec<DrawList>,
     images: Vec<Image>,
     bytes: Vec<u8>,
+    is_image: bool,
     stats: Stats,
 }
 
@@ -33,6 +35,7 @@ impl Drop for Load {
             lists: _,
             images: _,
             bytes: _,
+            is_image: _,
             stats: _,
         } = self;
     }
@@ -43,19 +46,22 @@ impl Model for Load {
 
     ghost Value = { LoadState };
 
-    ghost use Rattle.std.specs.Prelude.{◌≤◌};
+    ghost use Rattle.std.specs.Prelude.{◌≡◌, ◌≤◌, true, if◌then◌else◌, length};
+    ghost use Rattle.std.specs.List.{flat_map};
     ghost use Rattle.std.specs.Vec.{vec_capacity};
+    ghost use Rattle.ppm_out.specs.Ppm.{ppm_bytes};
     ghost use Rattle.stage_parts.specs.Loads.{bytes_of_all};
 
     ghost view = { λ l. record {
       cut = l.cut;
       lists = l.lists.items;
       images = l.images.items;
-      bytes = l.bytes.items;
+      bytes = if l.is_image then flat_map ppm_bytes l.images.items else l.bytes.items;
       stats = l.stats;
     } };
 
-    ghost invariant = { λ l. bytes_of_all l.images.items ≤ vec_capacity l.bytes };
+    ghost invariant = { λ l. (bytes_of_all l.images.items ≤ vec_capacity l.bytes)
+        × (l.is_image ≡ true → length l.images.items ≡ 1) };
 }
 
 /// No numbers yet.
@@ -174,6 +180,7 @@ impl Load {
             lists: new_lists(alloc, channels)?,
             images: new_images(alloc, lens, channels)?,
             bytes: new_bytes(alloc, lens, channels)?,
+            is_image: false,
             stats: NO_STATS,
         })
     }
@@ -240,6 +247,11 @@ impl Load {
         } }
         ensures back { image.new ≡ (if result then slice_index_or self.old.images channel image.old else image.old) }
     {
+        if self.is_image {
+            self.bytes.clear();
+            append_all(&mut self.bytes, self.images.as_slice());
+            self.is_image = false;
+        }
         swap_in(self.images.as_mut_slice(), channel, image)
     }
 
@@ -271,13 +283,31 @@ impl Load {
     pub fn bytes(&self) -> &[u8]
         ensures { result.now ≡ self.now.bytes }
     {
-        self.bytes.as_slice()
+        if self.is_image {
+            self.images[0].as_ppm()
+        } else {
+            self.bytes.as_slice()
+        }
     }
 
-    /// Puts the P6 bytes of all images in the byte buffer, in the order of the channels. It takes no memory.
+    /// Leaves no bytes of pictures.
+    pub fn clear_bytes(&mut self)
+        ensures { self.new ≡ record self.old { bytes = [] } }
+    {
+        self.is_image = false;
+        self.bytes.clear();
+    }
+
+    /// Takes the P6 bytes of all images, in the order of the channels, as the bytes of the pictures. Those of one image stay in it, and
+    /// those of several are put in the buffer. It takes no memory.
     pub fn write_bytes(&mut self)
         ensures { self.new ≡ record self.old { bytes = flat_map ppm_bytes self.old.images } }
     {
+        if self.images.len() == 1 {
+            self.is_image = true;
+            return;
+        }
+        self.is_image = false;
         self.bytes.clear();
         append_all(&mut self.bytes, self.images.as_slice());
     }

@@ -1,5 +1,4 @@
-use Rattle.std.proofs.Common.{◌≡◌, ◌+◌, ◌*◌, sym, ap, ◌∙◌, length, length-append, arith}
-use Rattle.std.proofs.lemmas.Grind.{common_steps}
+use Rattle.std.proofs.Common.{◌≡◌, ℕ, ◌+◌, ◌*◌, sym, ap, ◌∙◌, length, length-append}
 use Rattle.ppm_out.specs.Pixmap.{pixel}
 use Rattle.ppm_out.specs.Ppm.{ppm_header, ppm_size, ppm_bytes, pixel_bytes}
 use Rattle.ppm_out.proofs.Pictures.{bytes_of_pixels}
@@ -12,7 +11,5 @@ returns-clause-of_image c image is wide high =
     let size : length (ppm_bytes image) ≡ ppm_size image.width image.height =
     length-append (ppm_header image.width image.height) (pixel_bytes image.width image.height (pixel image))
     ∙ ap (λ n. length (ppm_header image.width image.height) + n) pixels in
-    let exact : length c.format.result.now + length c.format-2.result.now + 9 + 3 * (c.args.height * c.args.width)
-    ≡ ppm_size c.args.width c.args.height =
-    grind (arith, common_steps, c.format.ensures.text, c.format-2.ensures.text) in
-    size ∙ ap (λ w. ppm_size w image.height) wide ∙ ap (λ h. ppm_size c.args.width h) high ∙ sym exact
+    size ∙ ap (λ w. ppm_size w image.height) wide ∙ ap (λ h. ppm_size c.args.width h) high
+    ∙ sym (ap (λ (n : ℕ). n + 3 * (c.args.height * c.args.width)) c.header_len.ensures.exact)
