@@ -27,7 +27,7 @@ pub(crate) fn show<R: Threads + Sync>(rt: &R, image: &mut Image, strips: &[Strip
     let parts = parts_of_picture(rt, lens);
     let width = image.width();
     image.edit(
-        |bytes: &mut [u8]|
+        &mut |bytes: &mut [u8]|
             requires { IsSync R.row × AreBands width strips.now × (length bytes.now ≡ 3 * (height_of strips.now * width)) }
             ensures { ShowsStrips width strips.entry.now bytes.exit.now }
         { show_strips(rt, parts, strips, bytes, width) },

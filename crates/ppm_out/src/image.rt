@@ -1,6 +1,7 @@
 //! An image of three bytes a pixel.
-ghost use Rattle.std.specs.Prelude.{◌≡◌, ◌+◌, ◌*◌, ◌<◌, ◌≤◌, ◌++◌, length, take, drop, slice_index, slice_set, replicate, IfOk};
-ghost use Rattle.std.specs.Fn.{FnOnceTakesAtMut, FnOnceReturnsAtMut};
+ghost use denote.Ref.{MutBor};
+ghost use Rattle.std.specs.Prelude.{◌≡◌, ℕ, ◌+◌, ◌*◌, ◌<◌, ◌≤◌, List, ◌++◌, length, take, drop, slice_index, slice_set, replicate, IfOk};
+ghost use Rattle.std.specs.Fn.{CalledAtMut};
 ghost use Rattle.ppm_out.specs.Pixmap.{Pixmap, IsPixmap, SetsPixel, pixel, place_of};
 ghost use Rattle.ppm_out.specs.Ppm.{ppm_bytes, ppm_size};
 
@@ -96,11 +97,11 @@ impl Image {
 
     /// Lends the bytes of all pixels to `write`, which may change them: three a pixel, its red, its green and its blue, the pixels
     /// of a row from the left and the rows from the top.
-    pub fn edit<F: FnOnce(&mut [u8])>(&mut self, write: F)
-        requires { FnOnceTakesAtMut F.FnOnce write self.old.bytes }
+    pub fn edit<F: FnMut(&mut [u8])>(&mut self, write: &mut F)
+        requires { (bytes : MutBor (List ℕ)) → bytes.now ≡ self.old.bytes → F.pre write.old bytes }
         ensures width { self.new.width ≡ self.old.width }
         ensures height { self.new.height ≡ self.old.height }
-        ensures bytes { FnOnceReturnsAtMut F.FnOnce write self.old.bytes tt self.new.bytes }
+        ensures bytes { CalledAtMut F.FnMut write.old self.old.bytes tt write.new self.new.bytes }
         ensures whole { IsPixmap self.new }
     {
         edit_behind(&mut self.file, self.start, write);
@@ -134,11 +135,11 @@ fn write_front(bytes: &mut [u8], front: &[u8])
 }
 
 // Lends the bytes from a place on.
-fn edit_behind<F: FnOnce(&mut [u8])>(bytes: &mut [u8], start: usize, write: F)
+fn edit_behind<F: FnMut(&mut [u8])>(bytes: &mut [u8], start: usize, write: &mut F)
     requires within { start ≤ length bytes.old }
-    requires takes { FnOnceTakesAtMut F.FnOnce write (drop start bytes.old) }
+    requires takes { (behind : MutBor (List ℕ)) → behind.now ≡ drop start bytes.old → F.pre write.old behind }
     ensures front { take start bytes.new ≡ take start bytes.old }
-    ensures behind { FnOnceReturnsAtMut F.FnOnce write (drop start bytes.old) tt (drop start bytes.new) }
+    ensures behind { CalledAtMut F.FnMut write.old (drop start bytes.old) tt write.new (drop start bytes.new) }
 {
     let (_, behind) = bytes.split_at_mut(start);
     write(behind);

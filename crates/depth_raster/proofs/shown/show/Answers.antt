@@ -30,4 +30,4 @@ returns-clause-pixels g c = λ px py column row.
     let shown = c.edit.ensures.bytes in
     ap (λ (w : ℕ). pixel_in new.bytes w px py) (c.edit.ensures.width ∙ sym width.ensures.exact)
     ∙ ap (λ (bytes : List ℕ). pixel_in bytes width.result px py) (sym shown.leaves)
-    ∙ shown.met px py (omega (arith, column, width.ensures.exact, c.requires.width)) (omega (arith, row, height_of_picture lens strips c.requires.strips))
+    ∙ shown.called.met.1 px py (omega (arith, column, width.ensures.exact, c.requires.width)) (omega (arith, row, height_of_picture lens strips c.requires.strips))

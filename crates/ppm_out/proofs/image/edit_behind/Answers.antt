@@ -11,6 +11,6 @@ returns-clause-behind g c =
       shown = _;
       shows = cut.ensures.back;
       left = _;
-      met = c.write.ensures;
+      called = c.write.ensures;
       leaves = sym (ap (λ (n : ℕ). drop n (front ++ after)) (sym cut.ensures.front_len) ∙ drop-append_seam front after);
     }
