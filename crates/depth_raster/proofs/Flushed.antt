@@ -10,11 +10,13 @@ use Rattle.fx_math.specs.declared.lenses.Lens.{Lens}
 use Rattle.tri_cover.specs.Picture.{Fragment, nearer}
 use Rattle.depth_raster.specs.Blocks.{colour_in}
 use Rattle.depth_raster.specs.Canvas.{tile_at, seen_at, seen_from, mark_at, colour_at, drawn_with, drawn_after, Gathers, waiting_over}
+use Rattle.depth_raster.specs.Goes.{IsDrawnIn}
 use Rattle.depth_raster.specs.Marks.{nothing, no_mark, seen_as}
 use Rattle.depth_raster.specs.Pieces.{fragments_by, fragment_waiting, fragments_waiting, settled}
 use Rattle.depth_raster.specs.Strips.{StripsRelate, AreStrips}
 use Rattle.depth_raster.specs.Tiles.{marks_of, mark_in, seen_in, IsAt, IsCleared, IsBegun, IsDrawn, IsDrawnFrom}
 use Rattle.depth_raster.specs.declared.blocks.Block.{Block}
+use Rattle.depth_raster.specs.declared.goes.Go.{Go}
 use Rattle.depth_raster.specs.declared.marks.Mark.{Mark}
 use Rattle.depth_raster.specs.declared.pieces.Piece.{Piece}
 use Rattle.depth_raster.specs.declared.strip.Strip.{Strip}
@@ -123,6 +125,14 @@ flushed_blank lens back ps first before after are long each px py column row non
     let at = drawn_at lens back ps first before after are long each px py column row in
     colour_is after px py at.new at.is
     ∙ at.drawn.blank (px % 16) (py % 16) at.at at.unranked (sym (seen_is after px py at.new at.is) ∙ none)
+
+-- the strips of a go, by what it is made of
+pub go_drawn : (go : Go) (lens : Lens) (back : List ℕ) (ps : List Piece) (first : Bool) (before after : List Strip) → go.lens.now ≡ lens → go.back ≡ back → go.pieces.now ≡ ps → go.is_first ≡ first → StripsRelate (IsDrawnIn go) before after → StripsRelate (IsDrawnFrom lens back ps first) before after
+go_drawn go lens back ps first before after l b p f each =
+    subst (λ (x : Lens). StripsRelate (IsDrawnFrom x back ps first) before after) l
+    (subst (λ (x : List ℕ). StripsRelate (IsDrawnFrom go.lens.now x ps first) before after) b
+    (subst (λ (x : List Piece). StripsRelate (IsDrawnFrom go.lens.now go.back x first) before after) p
+    (subst (λ (x : Bool). StripsRelate (IsDrawnFrom go.lens.now go.back go.pieces.now x) before after) f each)))
 
 -- before the first drawing nothing is seen, and afterwards the marks count
 pub first_seen : (lens : Lens) (first : Bool) (strips : List Strip) (ps : List Piece) (px py : ℕ) → first ≡ true → ps ≡ [] → drawn_with lens first strips ps px py ≡ None

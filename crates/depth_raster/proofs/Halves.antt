@@ -1,5 +1,7 @@
 -- Lists in two halves.
-use Rattle.std.proofs.Common.{◌≡◌, ℕ, zero, suc, ◌<◌, List, [], ◌∷◌, ◌++◌, length, get_or, arith}
+use Rattle.std.proofs.Common.{◌≡◌, ℕ, zero, suc, ◌+◌, ◌<◌, List, [], ◌∷◌, ◌++◌, length, length-append, get_or, subst, arith}
+use Rattle.std.specs.List.{All}
+use Rattle.std.proofs.lemmas.List.{get_or_append_left, get_or-append-add}
 
 -- P holds of each element before and after
 abbrev pub EachRelates : {X : Type 0} → (X → X → Type 0) → (before after : List X) → Type 0
@@ -15,3 +17,10 @@ halves_relate P [] (y ∷ ys) us vs long front rear = absurd (omega (arith, long
 halves_relate P (x ∷ xs) [] us vs long front rear = absurd (omega (arith, long))
 halves_relate P (x ∷ xs) (y ∷ ys) us vs long front rear =
     one_more P x y (xs ++ us) (ys ++ vs) (front 0 x (omega arith)) (halves_relate P xs ys us vs (omega (arith, long)) (λ i d l. front (suc i) d (omega (arith, l))) rear)
+
+-- what holds of each element holds of those of either half
+pub all_front : {X : Type 0} (P : X → Type 0) (xs ys : List X) → All P (xs ++ ys) → All P xs
+all_front P xs ys all i d below = subst P (get_or_append_left xs ys d i below) (all i d (omega (arith, below, length-append xs ys)))
+
+pub all_rear : {X : Type 0} (P : X → Type 0) (xs ys : List X) → All P (xs ++ ys) → All P ys
+all_rear P xs ys all i d below = subst P (get_or-append-add xs ys i d) (all (length xs + i) d (omega (arith, below, length-append xs ys)))

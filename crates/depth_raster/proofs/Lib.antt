@@ -34,6 +34,7 @@ pub mod PanesLeft
 pub mod PixelTiles
 pub mod Prepared
 pub mod Readied
+pub mod Rows
 pub mod Settling
 pub mod Shared
 pub mod Skipped

@@ -12,6 +12,7 @@ use Rattle.fx_math.specs.declared.lenses.Lens.{Lens}
 use Rattle.depth_raster.specs.Blocks.{IsBlockOf}
 use Rattle.depth_raster.specs.Pieces.{IsPieceOf, pieces_over}
 use Rattle.depth_raster.specs.Shares.{meets, LieFrom, AreStacked, HasSlots, Gains, EachGains, HasShare, AreShared, AreSlotsFor, HasSlotsFor}
+use Rattle.depth_raster.specs.Shown.{AreRowsOf}
 use Rattle.depth_raster.specs.Slots.{slot_over, slots_over, IsSlotOf, AreSlotsOf}
 use Rattle.depth_raster.specs.Strips.{tile_block, AreTilesOf, TilesRelate, IsStripOf, StripRelates, StripsRelate, AreStrips}
 use Rattle.depth_raster.specs.declared.blocks.Block.{Block}
@@ -21,6 +22,7 @@ use Rattle.depth_raster.specs.declared.strip.Strip.{Strip}
 use Rattle.depth_raster.specs.declared.slots.Slot.{Slot}
 use Rattle.depth_raster.specs.declared.tile.Tile.{Tile}
 use Rattle.depth_raster.proofs.Drawn.{AreOver}
+use Rattle.depth_raster.proofs.Rows.{rows_kept}
 use Rattle.depth_raster.proofs.Skipped.{mark_missed}
 use Rattle.depth_raster.proofs.Slotted.{slot_is, slot_none, ready_piece}
 
@@ -244,3 +246,13 @@ tile_over lens ps b ss j t slots is within q r at m =
     let row : r < b.rows = omega (arith, at.row, ap (λ (c : Block). c.rows) is) in
     subst (λ (y : ℕ). slots_over lens ps ss (t.block.left + q) (y + r) m ≡ pieces_over lens ps (t.block.left + q) (y + r) m) (sym first)
     (slots.over (t.block.left + q) r m (omega (arith, at.column, within.columns)) row)
+
+-- and they have the same rows
+pub shared_rows : (ss : List Slot) (width : ℕ) (before after : List Strip) (bytes : List ℕ) → AreRowsOf width before bytes → length after ≡ length before → AreShared ss before after → AreRowsOf width after bytes
+shared_rows ss width before after bytes rows long shared =
+    rows_kept (λ (s t : Tile). t ≡ s) width before after bytes (λ s t same. ap (λ (u : Tile). u.block) same) rows long
+    (λ i d below. let has = shared i d below in record {
+      band = has.band;
+      count = ap (λ (ts : List Tile). length ts) has.tiles;
+      tiles = λ j e in_band. ap (λ (ts : List Tile). get_or ts j e) has.tiles;
+    })

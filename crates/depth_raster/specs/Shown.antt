@@ -1,9 +1,10 @@
 -- The colours of tiles, put into the bytes of their rows, which are `width` pixels wide.
-use Rattle.std.specs.Prelude.{◌≡◌, ℕ, ◌+◌, ◌<◌, ◌≤◌, ◌/◌, ◌%◌, List, [], ◌∷◌, length, slice_get, slice_index_or}
+use Rattle.std.specs.Prelude.{◌≡◌, ℕ, ◌+◌, ◌*◌, ◌<◌, ◌≤◌, ◌/◌, ◌%◌, List, [], ◌∷◌, length, slice_get, slice_index_or}
 use Rattle.std.specs.Option.{option_map_or}
 use Rattle.ppm_out.specs.Pixmap.{pixel_in}
 use Rattle.depth_raster.specs.Blocks.{colour_in}
 use Rattle.depth_raster.specs.Canvas.{colour_at}
+use Rattle.depth_raster.specs.Strips.{AreBands}
 use Rattle.depth_raster.specs.declared.blocks.Block.{Block}
 use Rattle.depth_raster.specs.declared.strip.Strip.{Strip}
 use Rattle.depth_raster.specs.declared.tile.Tile.{Tile}
@@ -34,6 +35,10 @@ ShowsTiles band tiles bytes =
 abbrev pub height_of : List Strip → ℕ
 height_of [] = 0
 height_of (s ∷ strips) = s.band.rows + height_of strips
+
+-- the bytes are those of the rows of strips, which are so wide
+abbrev pub AreRowsOf : (width : ℕ) → List Strip → (bytes : List ℕ) → Type 0
+AreRowsOf width strips bytes = AreBands width strips × (length bytes ≡ 3 * (height_of strips * width))
 
 -- each pixel of the strips, whose rows are so wide, has the colour of its tile
 abbrev pub ShowsStrips : (width : ℕ) → List Strip → (bytes : List ℕ) → Type 0

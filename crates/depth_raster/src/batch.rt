@@ -5,6 +5,7 @@ ghost use Rattle.depth_raster.specs.Pieces.{AreRanked};
 ghost use Rattle.depth_raster.specs.Slots.{AreSlotted};
 
 use crate::faces::Face;
+use crate::goes::Go;
 use crate::piece_buffer::{PieceBuffer, ROOM};
 use crate::slots::{Slot, complete, sort};
 use crate::waiting::Waiting;
@@ -34,6 +35,7 @@ pub(crate) struct Batch {
 impl Batch {
     ghost use Rattle.fx_math.specs.declared.lenses.Lens.{Lens};
     ghost use Rattle.depth_raster.specs.Pieces.{IsPieceOf, IsLeast, AreGathered, AreAppended};
+    ghost use Rattle.depth_raster.specs.Goes.{IsReady};
     ghost use Rattle.depth_raster.specs.Slots.{AreSlotsOf};
     ghost use Rattle.depth_raster.specs.declared.pieces.Piece.{Piece};
     ghost use Rattle.depth_raster.specs.Batches.{IsWithFace, faces_of};
@@ -157,6 +159,7 @@ impl Batch {
     /// Sorts the slots by the least depths of their pieces, where the strips are drawn in one part. Where there are several, each
     /// sorts the slots of its strips.
     pub(crate) fn sort_slots(&mut self, parts: usize)
+        ensures first { self.new.is_first ≡ self.old.is_first }
         ensures pieces { self.new.pieces ≡ self.old.pieces }
         ensures count { length self.new.slots.items ≡ length self.old.slots.items }
         ensures slots { (lens : Lens) (ps : List Piece) → AreSlotsOf lens ps self.old.slots.items
@@ -165,6 +168,29 @@ impl Batch {
         if parts < 2 {
             self.slotted = 0;
             sort(&mut self.slots);
+        }
+    }
+
+    /// The pieces, which are ready for a lens and have their slots, as a go before a background, which may be the last one of a
+    /// picture.
+    pub(crate) fn go<'a>(&'a self, lens: &'a Lens, back: [u8; 3], is_last: bool) -> Go<'a>
+        requires ready { All (IsPieceOf lens.now) self.now.pieces }
+        requires count { length self.now.slots.items ≡ length self.now.pieces }
+        requires slots { AreSlotsOf lens.now self.now.pieces self.now.slots.items }
+        ensures ready { IsReady result }
+        ensures first { result.is_first ≡ self.now.is_first }
+        ensures last { result.is_last ≡ is_last }
+        ensures lens { result.lens.now ≡ lens.now }
+        ensures back { result.back ≡ back }
+        ensures pieces { result.pieces.now ≡ self.now.pieces }
+    {
+        Go {
+            is_first: self.is_first,
+            is_last,
+            lens,
+            back,
+            pieces: self.pieces.as_slice(),
+            slots: &self.slots,
         }
     }
 }

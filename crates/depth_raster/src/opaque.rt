@@ -1,19 +1,28 @@
 //! Opaque items, drawn batch by batch.
-ghost use Rattle.std.specs.Prelude.{◌≡◌, ℕ, ◌+◌, ◌<◌, false, [], ◌∷◌, None, Some, All, length, slice_get};
+ghost use Rattle.std.specs.Prelude.{◌≡◌, ℕ, ◌+◌, ◌<◌, true, false, [], ◌∷◌, None, Some, All, length, slice_get};
 ghost use Rattle.std.specs.Option.{option_to_list};
 ghost use Rattle.draw_list.specs.Items.{instance_of_item};
 ghost use Rattle.draw_list.specs.Lists.{instances_in};
 ghost use Rattle.depth_raster.specs.Canvas.{Draws, Gathers, drawn_with, seen_at, colour_at, waiting_over};
 ghost use Rattle.depth_raster.specs.Pieces.{IsPieceOf, IsThere, AreGathered};
 ghost use Rattle.depth_raster.specs.Drawing.{instance_over, opaque_over};
-ghost use Rattle.depth_raster.specs.Strips.{AreStrips};
+ghost use Rattle.depth_raster.specs.Goes.{IsReady, IsDrawnIn};
+ghost use Rattle.depth_raster.specs.Shares.{AreStacked};
+ghost use Rattle.depth_raster.specs.Shown.{AreRowsOf, ShowsStrips};
+ghost use Rattle.depth_raster.specs.Slots.{AreSlotsOf};
+ghost use Rattle.depth_raster.specs.Strips.{AreStrips, IsStripOf, StripsRelate};
+ghost use Rattle.ppm_out.specs.Pixmap.{IsPixmap, pixel};
+ghost use Rattle.std.specs.Thread.{IsSync};
 
 use crate::batch::Batch;
+use crate::goes::Go;
+use crate::idle::Idle;
 use crate::strip::Strip;
 use crate::strips::draw_strips;
-use crate::work::{parts_of, work_of_slots};
+use crate::work::{parts_of, work_of_slots, work_to_show};
 use draw_list::{DrawList, Item};
 use fx_math::Lens;
+use ppm_out::Image;
 use std::thread::Threads;
 
 /// Draws the opaque items of a list.
@@ -183,20 +192,92 @@ pub(crate) fn flush<R: Threads + Sync>(
     ensures blank { (px py : ℕ) → px < lens.now.w → py < lens.now.h
         → seen_at strips.new px py ≡ None → colour_at strips.new px py ≡ back }
 {
-    let is_first = batch.is_first;
+    let parts = begin_go(rt, batch, lens, 0);
+    let go = batch.go(lens, back, false);
+    draw_strips(rt, &Idle::new(), parts, &go, strips, &mut []);
+    end_go(batch);
+}
+
+/// Draws the last pieces of a picture, which are ready, over strips that are cleared where they are its first ones too, and puts the
+/// picture into an image of the lens's size. The batch has no pieces then.
+pub(crate) fn finish<R: Threads + Sync>(
+    rt: &R,
+    strips: &mut [Strip],
+    batch: &mut Batch,
+    lens: &Lens,
+    back: [u8; 3],
+    image: &mut Image,
+)
+    requires sound { AreStrips lens.now strips.old }
+    requires ready { All (IsPieceOf lens.now) batch.old.pieces }
+    requires width { image.old.width ≡ lens.now.w }
+    requires height { image.old.height ≡ lens.now.h }
+    ensures sound { AreStrips lens.now strips.new }
+    ensures empty { batch.new.pieces ≡ [] }
+    ensures drawn { (px py : ℕ) → px < lens.now.w → py < lens.now.h
+        → seen_at strips.new px py ≡ drawn_with lens.now batch.old.is_first strips.old batch.old.pieces px py }
+    ensures blank { (px py : ℕ) → px < lens.now.w → py < lens.now.h
+        → seen_at strips.new px py ≡ None → colour_at strips.new px py ≡ back }
+    ensures width { image.new.width ≡ image.old.width }
+    ensures height { image.new.height ≡ image.old.height }
+    ensures pixels { (px py : ℕ) → px < lens.now.w → py < lens.now.h → pixel image.new px py ≡ colour_at strips.new px py }
+{
+    let parts = begin_go(rt, batch, lens, work_to_show(image.width(), image.height()));
+    let go = batch.go(lens, back, true);
+    draw_into(rt, parts, &go, strips, image);
+    end_go(batch);
+}
+
+/// Draws the last go of a picture in its strips, and puts them into an image of the lens's size.
+fn draw_into<R: Threads + Sync>(
+    rt: &R,
+    parts: usize,
+    go: &Go<'_>,
+    strips: &mut [Strip],
+    image: &mut Image,
+)
+    requires go { IsReady go.now }
+    requires last { go.now.is_last ≡ true }
+    requires sound { AreStrips go.now.lens.now strips.old }
+    requires image { IsPixmap image.old }
+    requires width { image.old.width ≡ go.now.lens.now.w }
+    requires height { image.old.height ≡ go.now.lens.now.h }
+    ensures drawn { StripsRelate (IsDrawnIn go.now) strips.old strips.new }
+    ensures width { image.new.width ≡ image.old.width }
+    ensures height { image.new.height ≡ image.old.height }
+    ensures pixels { (px py : ℕ) → px < go.now.lens.now.w → py < go.now.lens.now.h
+        → pixel image.new px py ≡ colour_at strips.new px py }
+{
+    let idle = Idle::new();
+    let mut write = |bytes: &mut [u8]|
+        requires { IsSync R.row × IsReady go.now × All (IsStripOf go.now.lens.now) strips.now × AreStacked strips.now
+            × (go.now.is_last ≡ true → AreRowsOf go.now.lens.now.w strips.now bytes.now) }
+        ensures { StripsRelate (IsDrawnIn go.entry.now) strips.entry.now strips.exit.now
+            × (go.entry.now.is_last ≡ true → ShowsStrips go.entry.now.lens.now.w strips.exit.now bytes.exit.now) }
+    { draw_strips(rt, &idle, parts, go, strips, bytes) };
+    image.edit(&mut write);
+}
+
+/// Gets the slots of a batch ready, and answers in how many parts it is drawn, if there is so much work besides.
+fn begin_go<R: Threads>(rt: &R, batch: &mut Batch, lens: &Lens, besides: u64) -> usize
+    requires { All (IsPieceOf lens.now) batch.old.pieces }
+    ensures first { batch.new.is_first ≡ batch.old.is_first }
+    ensures pieces { batch.new.pieces ≡ batch.old.pieces }
+    ensures count { length batch.new.slots.items ≡ length batch.new.pieces }
+    ensures slots { AreSlotsOf lens.now batch.new.pieces batch.new.slots.items }
+{
     batch.complete_slots();
-    let parts = parts_of(rt, work_of_slots(&batch.slots));
+    let parts = parts_of(rt, work_of_slots(&batch.slots).saturating_add(besides));
     batch.sort_slots(parts);
-    draw_strips(
-        rt,
-        parts,
-        is_first,
-        lens,
-        back,
-        batch.pieces.as_slice(),
-        &batch.slots,
-        strips,
-    );
+    parts
+}
+
+/// Leaves a batch without pieces, whose next ones are not the first of a picture.
+fn end_go(batch: &mut Batch)
+    ensures later { batch.new.is_first ≡ false }
+    ensures empty { batch.new.pieces ≡ [] }
+    ensures none { batch.new.waiting.items ≡ [] }
+{
     batch.clear();
     batch.is_first = false;
 }

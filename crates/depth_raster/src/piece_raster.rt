@@ -8,7 +8,6 @@ ghost use Rattle.tri_cover.specs.Glass.{is_opaque, is_glass, is_drawn_before};
 ghost use Rattle.tri_cover.specs.Picture.{picture};
 ghost use Rattle.tri_cover.specs.Sorting.{sorted};
 ghost use Rattle.draw_list.specs.Lists.{instances_in};
-ghost use Rattle.depth_raster.specs.Canvas.{colour_at};
 ghost use Rattle.depth_raster.specs.InPieces.{HasDrawn, held, joined, glass_in_turn, IsGlassInOrder};
 ghost use Rattle.depth_raster.specs.Pieces.{IsPieceOf};
 ghost use Rattle.depth_raster.specs.Strips.{AreStrips};
@@ -182,7 +181,7 @@ fn add_piece<R: Threads + Sync>(
 }
 
 /// Draws a piece of a draw list before which no glass has come, and answers whether glass has come.
-fn add_ground<R: Threads + Sync>(
+pub(crate) fn add_ground<R: Threads + Sync>(
     rt: &R,
     strips: &mut [Strip],
     batch: &mut Batch,
@@ -232,7 +231,7 @@ fn is_glass(list: &DrawList, number: usize) -> bool
 }
 
 /// Draws what is left of a picture, puts it into an image, and begins the next one.
-fn end_picture<R: Threads + Sync>(
+pub(crate) fn end_picture<R: Threads + Sync>(
     rt: &R,
     glazing: bool,
     strips: &mut [Strip],
@@ -255,12 +254,11 @@ fn end_picture<R: Threads + Sync>(
         (sorted is_drawn_before (filter is_glass xs))
         → Shows image.new (picture lens.now back xs) }
 {
-    draw_rest(rt, glazing, strips, batch, lens, back);
-    show(rt, image, strips, lens);
+    draw_rest(rt, glazing, strips, batch, lens, back, image);
     batch.begin();
 }
 
-/// Draws what is left of a picture.
+/// Draws what is left of a picture, and puts it into an image.
 fn draw_rest<R: Threads + Sync>(
     rt: &R,
     glazing: bool,
@@ -268,20 +266,25 @@ fn draw_rest<R: Threads + Sync>(
     batch: &mut Batch,
     lens: &Lens,
     back: [u8; 3],
+    image: &mut Image,
 )
     requires sound { AreStrips lens.now strips.old }
     requires ready { glazing ≡ false → All (IsPieceOf lens.now) batch.old.pieces }
+    requires width { image.old.width ≡ lens.now.w }
+    requires height { image.old.height ≡ lens.now.h }
     ensures strips { AreStrips lens.now strips.new }
     ensures empty { batch.new.pieces ≡ [] }
-    ensures colours { (xs : List Instance)
+    ensures width { image.new.width ≡ image.old.width }
+    ensures height { image.new.height ≡ image.old.height }
+    ensures pixels { (xs : List Instance)
         → HasDrawn (held lens.now back glazing batch.old.is_first strips.old batch.old.pieces) xs
         (sorted is_drawn_before (filter is_glass xs))
-        → (px py : ℕ) → px < lens.now.w → py < lens.now.h
-        → colour_at strips.new px py ≡ picture lens.now back xs px py }
+        → Shows image.new (picture lens.now back xs) }
 {
     if glazing {
         glass::flush(rt, strips, batch, lens);
+        show(rt, image, strips, lens);
     } else {
-        opaque::flush(rt, strips, batch, lens, back);
+        opaque::finish(rt, strips, batch, lens, back, image);
     }
 }

@@ -1,21 +1,19 @@
 //! The renderer.
-ghost use Rattle.std.specs.Prelude.{◌≡◌, ℕ, ◌*◌, ◌<◌, [], IfOk};
+ghost use Rattle.std.specs.Prelude.{◌≡◌, ◌*◌, ◌<◌, [], IfOk};
 ghost use Rattle.std.specs.Int.{div_ceil};
 ghost use Rattle.ppm_out.specs.Pixmap.{Shows};
 ghost use Rattle.tri_cover.specs.Picture.{picture};
 ghost use Rattle.draw_list.specs.Lists.{instances_in};
-ghost use Rattle.depth_raster.specs.Canvas.{colour_at};
 ghost use Rattle.depth_raster.specs.Strips.{band_at, tile_block, AreTilesOf, AreStrips};
 
 use crate::across::COLUMNS;
 use crate::batch::Batch;
 use crate::blocks::Block;
 use crate::piece_buffer::ROOM;
-use crate::shown::show;
+use crate::piece_raster::{add_ground, end_picture};
 use crate::strip::Strip;
 use crate::strips::ROWS;
 use crate::tile::Tile;
-use crate::{glass, opaque};
 use draw_list::DrawList;
 use fx_math::Lens;
 use pf_io::NoMemory;
@@ -97,7 +95,7 @@ impl Raster {
     }
 }
 
-/// Draws the picture of a list in strips, and puts it into an image.
+/// Draws the picture of a list, as a picture in one piece, and puts it into an image.
 fn draw_all<R: Threads + Sync>(
     rt: &R,
     strips: &mut [Strip],
@@ -117,31 +115,9 @@ fn draw_all<R: Threads + Sync>(
     ensures height { image.new.height ≡ image.old.height }
     ensures pixels { Shows image.new (picture lens.now back (instances_in list.now)) }
 {
-    draw_strips(rt, strips, batch, lens, list, back);
-    show(rt, image, strips, lens);
-}
-
-/// Draws the picture of a list in strips.
-fn draw_strips<R: Threads + Sync>(
-    rt: &R,
-    strips: &mut [Strip],
-    batch: &mut Batch,
-    lens: &Lens,
-    list: &DrawList,
-    back: [u8; 3],
-)
-    requires strips { AreStrips lens.now strips.old }
-    requires empty { batch.old.pieces ≡ [] }
-    ensures strips { AreStrips lens.now strips.new }
-    ensures empty { batch.new.pieces ≡ [] }
-    ensures colours { (px py : ℕ) → px < lens.now.w → py < lens.now.h
-        → colour_at strips.new px py ≡ picture lens.now back (instances_in list.now) px py }
-{
     batch.begin();
-    opaque::draw_opaque(rt, strips, batch, lens, back, list);
-    opaque::flush(rt, strips, batch, lens, back);
-    glass::draw_glass(rt, strips, batch, lens, list);
-    glass::flush(rt, strips, batch, lens);
+    let glazing = add_ground(rt, strips, batch, lens, back, list);
+    end_picture(rt, glazing, strips, batch, lens, back, image);
 }
 
 /// The strips of a lens's picture, from the top.

@@ -97,7 +97,7 @@ fn show_parts<R: Threads + Sync>(
 }
 
 /// Puts the colours of a strip, or of none, into the bytes of its rows.
-fn show_last(strips: &[Strip], bytes: &mut [u8], width: u16)
+pub(crate) fn show_last(strips: &[Strip], bytes: &mut [u8], width: u16)
     requires few { length strips.now < 2 }
     requires strips { AreBands width strips.now }
     requires bytes { length bytes.old ≡ 3 * (height_of strips.now * width) }

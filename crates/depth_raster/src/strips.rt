@@ -1,155 +1,256 @@
 //! The strips of a picture, drawn.
-ghost use Rattle.std.specs.Prelude.{◌≤◌, All, length};
+ghost use Rattle.std.specs.Prelude.{◌≡◌, ◌<◌, true, false, All, length};
 ghost use Rattle.std.specs.Thread.{IsSync};
 ghost use Rattle.depth_raster.specs.Blocks.{IsBlockOf};
 ghost use Rattle.depth_raster.specs.Pieces.{IsPieceOf, AreRanked};
+ghost use Rattle.depth_raster.specs.Goes.{IsReady, IsDrawnIn};
 ghost use Rattle.depth_raster.specs.Shares.{AreStacked, AreSlotsFor, HasSlotsFor};
-ghost use Rattle.depth_raster.specs.Slots.{AreSlotsOf};
+ghost use Rattle.depth_raster.specs.Shown.{AreRowsOf, ShowsStrips};
 ghost use Rattle.depth_raster.specs.Strips.{AreTilesOf, TilesRelate, IsStripOf, StripRelates, StripsRelate};
 ghost use Rattle.depth_raster.specs.Tiles.{IsCleared, IsSettled, IsBegun, IsPainted, IsDrawn, IsDrawnFrom};
 
 use crate::across::draw_slots;
 use crate::blocks::Block;
+use crate::goes::Go;
+use crate::idle::Idle;
 use crate::painting::{clear, paint, settle_tile};
 use crate::pieces::Piece;
 use crate::shares::share_out;
+use crate::shown::show_last;
 use crate::slots::{Slot, sort};
 use crate::strip::Strip;
 use crate::tile::Tile;
-use crate::work::{Layer, end_of_part, work_of_tiles};
+use crate::work::{Layer, end_of_part, is_much_left, work_of_tiles};
 use fx_math::Lens;
 use std::thread::{Threads, join_mut};
 
 /// The rows of a strip; the last one of a picture may have fewer.
 pub(crate) const ROWS: u16 = 16;
 
-/// Draws opaque pieces in strips, in so many parts side by side, which are about as much work each. The first drawing of a
-/// picture is over strips that are cleared.
+/// Draws a go in strips, in so many parts side by side, which are about as much work each; the last one puts them into the bytes of
+/// their rows.
 #[cycle(parts)]
 pub(crate) fn draw_strips<R: Threads + Sync>(
     rt: &R,
+    idle: &Idle,
     parts: usize,
-    is_first: bool,
-    lens: &Lens,
-    back: [u8; 3],
-    pieces: &[Piece],
-    slots: &[Slot],
+    go: &Go<'_>,
     strips: &mut [Strip],
+    bytes: &mut [u8],
 )
-    requires strips { All (IsStripOf lens.now) strips.old }
+    requires go { IsReady go.now }
+    requires strips { All (IsStripOf go.now.lens.now) strips.old }
     requires stacked { AreStacked strips.old }
-    requires pieces { All (IsPieceOf lens.now) pieces.now }
-    requires ranks { AreRanked pieces.now }
-    requires few { length slots.now ≤ 16384 }
-    requires slots { AreSlotsOf lens.now pieces.now slots.now }
-    ensures { StripsRelate (IsDrawnFrom lens.now back pieces.now is_first) strips.old strips.new }
+    requires rows { go.now.is_last ≡ true → AreRowsOf go.now.lens.now.w strips.old bytes.old }
+    ensures drawn { StripsRelate (IsDrawnIn go.now) strips.old strips.new }
+    ensures shown { go.now.is_last ≡ true → ShowsStrips go.now.lens.now.w strips.new bytes.new }
 {
     if parts < 2 || strips.len() < 2 {
-        draw_part(is_first, lens, back, pieces, slots, strips);
+        draw_part(rt, idle, go, strips, bytes);
         return;
     }
-    let (upper, lower) = strips.split_at_mut(end_of_part(strips, parts, Layer::Opaque));
-    draw_parts(
-        rt,
-        parts - 1,
-        is_first,
-        lens,
-        back,
-        pieces,
-        slots,
-        upper,
-        lower,
-    );
+    let count = end_of_part(strips, parts, Layer::Opaque);
+    let (upper, lower) = strips.split_at_mut(count);
+    let (above, below) = bytes.split_at_mut(go.bytes_of(count));
+    draw_parts(rt, idle, parts - 1, go, upper, lower, above, below);
 }
 
-/// Draws opaque pieces in the strips of one part, in a thread of its own, and in those of so many others.
+/// Draws a go in the strips of one part, in a thread of its own, and in those of so many others.
 #[cycle(parts)]
 fn draw_parts<R: Threads + Sync>(
     rt: &R,
+    idle: &Idle,
     more: usize,
-    is_first: bool,
-    lens: &Lens,
-    back: [u8; 3],
-    pieces: &[Piece],
-    slots: &[Slot],
+    go: &Go<'_>,
     upper: &mut [Strip],
     lower: &mut [Strip],
+    above: &mut [u8],
+    below: &mut [u8],
 )
-    requires upper { All (IsStripOf lens.now) upper.old }
-    requires lower { All (IsStripOf lens.now) lower.old }
+    requires go { IsReady go.now }
+    requires upper { All (IsStripOf go.now.lens.now) upper.old }
+    requires lower { All (IsStripOf go.now.lens.now) lower.old }
     requires upper_stacked { AreStacked upper.old }
     requires lower_stacked { AreStacked lower.old }
-    requires pieces { All (IsPieceOf lens.now) pieces.now }
-    requires ranks { AreRanked pieces.now }
-    requires few { length slots.now ≤ 16384 }
-    requires slots { AreSlotsOf lens.now pieces.now slots.now }
-    ensures upper { StripsRelate (IsDrawnFrom lens.now back pieces.now is_first) upper.old upper.new }
-    ensures lower { StripsRelate (IsDrawnFrom lens.now back pieces.now is_first) lower.old lower.new }
+    requires above { go.now.is_last ≡ true → AreRowsOf go.now.lens.now.w upper.old above.old }
+    requires below { go.now.is_last ≡ true → AreRowsOf go.now.lens.now.w lower.old below.old }
+    ensures upper { StripsRelate (IsDrawnIn go.now) upper.old upper.new }
+    ensures lower { StripsRelate (IsDrawnIn go.now) lower.old lower.new }
+    ensures above { go.now.is_last ≡ true → ShowsStrips go.now.lens.now.w upper.new above.new }
+    ensures below { go.now.is_last ≡ true → ShowsStrips go.now.lens.now.w lower.new below.new }
 {
-    let mut above = ||
-        requires { All (IsStripOf lens.now) upper.now × AreStacked upper.now × All (IsPieceOf lens.now) pieces.now
-            × AreRanked pieces.now × (length slots.now ≤ 16384) × AreSlotsOf lens.now pieces.now slots.now }
-        ensures { StripsRelate (IsDrawnFrom lens.entry.now back pieces.entry.now is_first) upper.entry.now upper.exit.now }
-    { draw_part(is_first, lens, back, pieces, slots, upper) };
-    let mut below = ||
-        requires { IsSync R.row × All (IsStripOf lens.now) lower.now × AreStacked lower.now × All (IsPieceOf lens.now) pieces.now
-            × AreRanked pieces.now × (length slots.now ≤ 16384) × AreSlotsOf lens.now pieces.now slots.now }
-        ensures { StripsRelate (IsDrawnFrom lens.entry.now back pieces.entry.now is_first) lower.entry.now lower.exit.now }
-    { draw_strips(rt, more, is_first, lens, back, pieces, slots, lower) };
-    join_mut(rt, &mut above, &mut below);
+    let mut first = ||
+        requires { IsSync R.row × IsReady go.now × All (IsStripOf go.now.lens.now) upper.now × AreStacked upper.now
+            × (go.now.is_last ≡ true → AreRowsOf go.now.lens.now.w upper.now above.now) }
+        ensures { StripsRelate (IsDrawnIn go.entry.now) upper.entry.now upper.exit.now
+            × (go.entry.now.is_last ≡ true → ShowsStrips go.entry.now.lens.now.w upper.exit.now above.exit.now) }
+    { draw_part(rt, idle, go, upper, above) };
+    let mut rest = ||
+        requires { IsSync R.row × IsReady go.now × All (IsStripOf go.now.lens.now) lower.now × AreStacked lower.now
+            × (go.now.is_last ≡ true → AreRowsOf go.now.lens.now.w lower.now below.now) }
+        ensures { StripsRelate (IsDrawnIn go.entry.now) lower.entry.now lower.exit.now
+            × (go.entry.now.is_last ≡ true → ShowsStrips go.entry.now.lens.now.w lower.exit.now below.exit.now) }
+    { draw_strips(rt, idle, more, go, lower, below) };
+    join_mut(rt, &mut first, &mut rest);
 }
 
-/// Draws opaque pieces in the strips of a part, one after the other. They get their slots first.
-fn draw_part(
-    is_first: bool,
-    lens: &Lens,
-    back: [u8; 3],
-    pieces: &[Piece],
-    slots: &[Slot],
+/// Draws a go in the strips of a part. They get their slots first.
+fn draw_part<R: Threads + Sync>(
+    rt: &R,
+    idle: &Idle,
+    go: &Go<'_>,
     strips: &mut [Strip],
+    bytes: &mut [u8],
 )
-    requires strips { All (IsStripOf lens.now) strips.old }
+    requires go { IsReady go.now }
+    requires strips { All (IsStripOf go.now.lens.now) strips.old }
     requires stacked { AreStacked strips.old }
-    requires pieces { All (IsPieceOf lens.now) pieces.now }
-    requires ranks { AreRanked pieces.now }
-    requires few { length slots.now ≤ 16384 }
-    requires slots { AreSlotsOf lens.now pieces.now slots.now }
-    ensures { StripsRelate (IsDrawnFrom lens.now back pieces.now is_first) strips.old strips.new }
+    requires rows { go.now.is_last ≡ true → AreRowsOf go.now.lens.now.w strips.old bytes.old }
+    ensures drawn { StripsRelate (IsDrawnIn go.now) strips.old strips.new }
+    ensures shown { go.now.is_last ≡ true → ShowsStrips go.now.lens.now.w strips.new bytes.new }
 {
-    share_out(strips, slots);
-    draw_in_turn(strips, is_first, lens, back, pieces);
+    share_out(strips, go.slots);
+    draw_in_turn(rt, idle, go, strips, bytes);
 }
 
-/// Draws opaque pieces in strips, by the slots that each has.
-fn draw_in_turn(strips: &mut [Strip], is_first: bool, lens: &Lens, back: [u8; 3], pieces: &[Piece])
-    requires strips { All (IsStripOf lens.now) strips.old }
-    requires pieces { All (IsPieceOf lens.now) pieces.now }
-    requires ranks { AreRanked pieces.now }
-    requires slots { All (HasSlotsFor lens.now pieces.now) strips.old }
-    ensures { StripsRelate (IsDrawnFrom lens.now back pieces.now is_first) strips.old strips.new }
+/// Draws a go in strips that have their slots, one after the other. Where a processor has nothing to do meanwhile, it gets some of
+/// those that are left.
+#[cycle(turns)]
+fn draw_in_turn<R: Threads + Sync>(
+    rt: &R,
+    idle: &Idle,
+    go: &Go<'_>,
+    strips: &mut [Strip],
+    bytes: &mut [u8],
+)
+    requires go { IsReady go.now }
+    requires strips { All (IsStripOf go.now.lens.now) strips.old }
+    requires slots { All (HasSlotsFor go.now.lens.now go.now.pieces.now) strips.old }
+    requires rows { go.now.is_last ≡ true → AreRowsOf go.now.lens.now.w strips.old bytes.old }
+    ensures drawn { StripsRelate (IsDrawnIn go.now) strips.old strips.new }
+    ensures shown { go.now.is_last ≡ true → ShowsStrips go.now.lens.now.w strips.new bytes.new }
 {
-    for i in 0..strips.len() {
-        draw_strip(&mut strips[i], is_first, lens, back, pieces);
+    if strips.len() < 2 {
+        draw_last(go, strips, bytes);
+        idle.give();
+        return;
+    }
+    let beside = is_much_left(strips) && idle.take();
+    let count = next_strips(strips, beside);
+    let (upper, lower) = strips.split_at_mut(count);
+    let (above, below) = bytes.split_at_mut(go.bytes_of(count));
+    draw_both(rt, idle, beside, go, upper, lower, above, below);
+}
+
+/// How many of some strips are drawn next: half of the work beside the other half, or else one strip.
+fn next_strips(strips: &[Strip], beside: bool) -> usize
+    requires { 1 < length strips.now }
+    ensures some { 0 < result }
+    ensures rest { result < length strips.now }
+    ensures one { beside ≡ false → result < 2 }
+{
+    if beside {
+        end_of_part(strips, 2, Layer::Opaque)
+    } else {
+        1
     }
 }
 
-/// Draws opaque pieces in a strip, by the least depths of its slots.
-fn draw_strip(strip: &mut Strip, is_first: bool, lens: &Lens, back: [u8; 3], pieces: &[Piece])
-    requires strip { IsStripOf lens.now strip.old }
-    requires pieces { All (IsPieceOf lens.now) pieces.now }
-    requires ranks { AreRanked pieces.now }
-    requires slots { HasSlotsFor lens.now pieces.now strip.old }
-    ensures { StripRelates (IsDrawnFrom lens.now back pieces.now is_first) strip.old strip.new }
+/// Draws a go in some strips, in a thread of their own or, where it is one, before the others, and in the others.
+#[cycle(turns)]
+fn draw_both<R: Threads + Sync>(
+    rt: &R,
+    idle: &Idle,
+    beside: bool,
+    go: &Go<'_>,
+    upper: &mut [Strip],
+    lower: &mut [Strip],
+    above: &mut [u8],
+    below: &mut [u8],
+)
+    requires some_upper { 0 < length upper.old }
+    requires some_lower { 0 < length lower.old }
+    requires one { beside ≡ false → length upper.old < 2 }
+    requires go { IsReady go.now }
+    requires upper { All (IsStripOf go.now.lens.now) upper.old }
+    requires lower { All (IsStripOf go.now.lens.now) lower.old }
+    requires upper_slots { All (HasSlotsFor go.now.lens.now go.now.pieces.now) upper.old }
+    requires lower_slots { All (HasSlotsFor go.now.lens.now go.now.pieces.now) lower.old }
+    requires above { go.now.is_last ≡ true → AreRowsOf go.now.lens.now.w upper.old above.old }
+    requires below { go.now.is_last ≡ true → AreRowsOf go.now.lens.now.w lower.old below.old }
+    ensures upper { StripsRelate (IsDrawnIn go.now) upper.old upper.new }
+    ensures lower { StripsRelate (IsDrawnIn go.now) lower.old lower.new }
+    ensures above { go.now.is_last ≡ true → ShowsStrips go.now.lens.now.w upper.new above.new }
+    ensures below { go.now.is_last ≡ true → ShowsStrips go.now.lens.now.w lower.new below.new }
+{
+    if !beside {
+        draw_last(go, upper, above);
+        draw_in_turn(rt, idle, go, lower, below);
+        return;
+    }
+    let mut first = ||
+        requires { IsSync R.row × IsReady go.now × All (IsStripOf go.now.lens.now) upper.now
+            × All (HasSlotsFor go.now.lens.now go.now.pieces.now) upper.now
+            × (go.now.is_last ≡ true → AreRowsOf go.now.lens.now.w upper.now above.now) }
+        ensures { StripsRelate (IsDrawnIn go.entry.now) upper.entry.now upper.exit.now
+            × (go.entry.now.is_last ≡ true → ShowsStrips go.entry.now.lens.now.w upper.exit.now above.exit.now) }
+    { draw_in_turn(rt, idle, go, upper, above) };
+    let mut rest = ||
+        requires { IsSync R.row × IsReady go.now × All (IsStripOf go.now.lens.now) lower.now
+            × All (HasSlotsFor go.now.lens.now go.now.pieces.now) lower.now
+            × (go.now.is_last ≡ true → AreRowsOf go.now.lens.now.w lower.now below.now) }
+        ensures { StripsRelate (IsDrawnIn go.entry.now) lower.entry.now lower.exit.now
+            × (go.entry.now.is_last ≡ true → ShowsStrips go.entry.now.lens.now.w lower.exit.now below.exit.now) }
+    { draw_in_turn(rt, idle, go, lower, below) };
+    join_mut(rt, &mut first, &mut rest);
+}
+
+/// Draws a go in a strip, or in none; the last one puts it into the bytes of its rows.
+fn draw_last(go: &Go<'_>, strips: &mut [Strip], bytes: &mut [u8])
+    requires few { length strips.old < 2 }
+    requires go { IsReady go.now }
+    requires strips { All (IsStripOf go.now.lens.now) strips.old }
+    requires slots { All (HasSlotsFor go.now.lens.now go.now.pieces.now) strips.old }
+    requires rows { go.now.is_last ≡ true → AreRowsOf go.now.lens.now.w strips.old bytes.old }
+    ensures drawn { StripsRelate (IsDrawnIn go.now) strips.old strips.new }
+    ensures shown { go.now.is_last ≡ true → ShowsStrips go.now.lens.now.w strips.new bytes.new }
+{
+    draw_few(go, strips);
+    if go.is_last {
+        show_last(strips, bytes, go.lens.w);
+    }
+}
+
+/// Draws a go in a strip, or in none.
+fn draw_few(go: &Go<'_>, strips: &mut [Strip])
+    requires few { length strips.old < 2 }
+    requires go { IsReady go.now }
+    requires strips { All (IsStripOf go.now.lens.now) strips.old }
+    requires slots { All (HasSlotsFor go.now.lens.now go.now.pieces.now) strips.old }
+    ensures { StripsRelate (IsDrawnIn go.now) strips.old strips.new }
+{
+    if strips.is_empty() {
+        return;
+    }
+    draw_strip(&mut strips[0], go);
+}
+
+/// Draws a go in a strip, by the least depths of its slots.
+fn draw_strip(strip: &mut Strip, go: &Go<'_>)
+    requires go { IsReady go.now }
+    requires strip { IsStripOf go.now.lens.now strip.old }
+    requires slots { HasSlotsFor go.now.lens.now go.now.pieces.now strip.old }
+    ensures { StripRelates (IsDrawnIn go.now) strip.old strip.new }
 {
     sort(&mut strip.slots);
     let band = strip.band;
     draw_band(
         &mut strip.tiles,
-        is_first,
+        go.is_first,
         &band,
-        lens,
-        back,
-        pieces,
+        go.lens,
+        go.back,
+        go.pieces,
         &strip.slots,
     );
     strip.opaque_work = work_of_tiles(&strip.tiles, strip.slots.len());

@@ -22,6 +22,9 @@ const MOST_PARTS: usize = 4;
 /// The work, in pixels that are drawn, that the caller does before a thread that it makes begins: about a tenth of a millisecond.
 const LATE_WORK: u64 = 24_576;
 
+/// The work, in pixels that are drawn, from which on strips are divided again for a processor that has nothing to do.
+const MUCH_LEFT: u64 = 2 * LATE_WORK;
+
 /// The work of a piece besides that of its pixels.
 const PIECE_WORK: u64 = 128;
 
@@ -30,6 +33,9 @@ const TILE_WORK: u64 = 48;
 
 /// The work of a slot in a strip besides that of its piece: it is sorted and looked at.
 const SLOT_WORK: u64 = 12;
+
+/// The work, in pixels of boxes, of a pixel that is put into the image.
+const SHOWN_WORK: u64 = 6;
 
 /// The work of a strip besides that of its pieces.
 const STRIP_WORK: u64 = 1024;
@@ -92,6 +98,11 @@ fn work_of_box(left: u16, right: u16, top: u16, bottom: u16) -> u64 {
     let columns = right.saturating_sub(left);
     let rows = bottom.saturating_sub(top);
     PIECE_WORK + u64::from(columns) * u64::from(rows)
+}
+
+/// About how much work it is to put the tiles of a picture so wide and high into the image, in pixels of boxes.
+pub(crate) fn work_to_show(width: u16, height: u16) -> u64 {
+    SHOWN_WORK * u64::from(width) * u64::from(height)
 }
 
 /// In how many parts side by side the tiles of a lens's picture are put into the image: as many as there are processors, where
@@ -193,6 +204,11 @@ pub(crate) fn end_of_part(strips: &[Strip], parts: usize, layer: Layer) -> usize
         }
     }
     strips.len() - 1
+}
+
+/// Whether some strips, of opaque pieces, are worth dividing once more.
+pub(crate) fn is_much_left(strips: &[Strip]) -> bool {
+    MUCH_LEFT <= work_of_strips(strips, Layer::Opaque)
 }
 
 fn work_of_strips(strips: &[Strip], layer: Layer) -> u64 {

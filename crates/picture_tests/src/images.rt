@@ -22,7 +22,7 @@ fn rows_come_from_the_top(rt: HostRuntime) -> Result<(), Fail> {
 fn bytes_are_lent(rt: HostRuntime) -> Result<(), Fail> {
     let mut image = Image::new(rt.alloc(), 3, 2)?;
     image.set(2, 0, [1, 2, 3]);
-    image.edit(|bytes| bytes.reverse());
+    image.edit(&mut |bytes| bytes.reverse());
     assert_eq!(rt; image.get(0, 1), [3, 2, 1]);
     assert_eq!(rt; image.get(2, 0), [0, 0, 0]);
     Ok(())

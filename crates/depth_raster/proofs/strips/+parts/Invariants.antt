@@ -7,5 +7,5 @@ decreases-draw_strips g l = 4 * l.parts
 abbrev pub decreases-draw_parts : goal.decreases-draw_parts
 decreases-draw_parts g l = 4 * l.more + 2
 
-abbrev pub decreases-draw_parts-below : goal.decreases-draw_parts-below
-decreases-draw_parts-below g l = 4 * l.more + 1
+abbrev pub decreases-draw_parts-rest : goal.decreases-draw_parts-rest
+decreases-draw_parts-rest g l = 4 * l.more + 1
