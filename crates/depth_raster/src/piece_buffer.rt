@@ -6,10 +6,11 @@ ghost use Rattle.depth_raster.specs.Pieces.{AreMadeReady, AreThere, AreAppended}
 ghost use Rattle.depth_raster.specs.Slots.{AreNumbered, AreSlotted};
 
 use crate::faces::Face;
+use crate::idle::Idle;
 use crate::pieces::{Piece, make_ready, prepare};
 use crate::slots::{Slot, wait};
 use crate::waiting::Waiting;
-use crate::work::preparing_parts;
+use crate::work::others_to_prepare;
 use draw_list::DrawList;
 use fx_math::Lens;
 use pf_io::NoMemory;
@@ -173,7 +174,7 @@ fn prepare_behind<R: Threads + Sync>(
     let (_, open) = slots.split_at_mut(count);
     prepare(
         rt,
-        preparing_parts(rt, waiting.len()),
+        &Idle::new(others_to_prepare(rt, waiting.len())),
         waiting,
         fresh,
         open,

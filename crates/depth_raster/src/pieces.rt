@@ -1,5 +1,5 @@
 //! Faces made ready to be drawn.
-ghost use Rattle.std.specs.Prelude.{◌≡◌, All, length};
+ghost use Rattle.std.specs.Prelude.{◌≡◌, ◌<◌, All, length};
 ghost use Rattle.std.specs.Thread.{IsSync};
 ghost use Rattle.tri_cover.specs.Readiness.{IsReady};
 ghost use Rattle.depth_raster.specs.Around.{IsAround, IsBoxOf};
@@ -9,12 +9,13 @@ ghost use Rattle.depth_raster.specs.Recent.{AreCarried};
 
 use crate::extents::Extent;
 use crate::faces::{Face, at_eye};
+use crate::idle::Idle;
 use crate::leasts::least_mark;
 use crate::recent::Recent;
 use crate::slots::Slot;
 use crate::small::is_small;
 use crate::waiting::Waiting;
-use crate::work::{are_many, processors};
+use crate::work::{FEW_PIECES, are_many, is_more_to_prepare, next_pieces, processors};
 use draw_list::DrawList;
 use edge_values::about;
 use fx_math::{Lens, Vec3};
@@ -112,11 +113,12 @@ fn about_dividend(ready: &Option<tri_cover::Face>) -> f64 {
     }
 }
 
-/// Prepares the pieces of triangles that wait, and their slots, in so many parts side by side.
+/// Prepares the pieces of triangles of a list that wait, and their slots, a few after the others. A processor that has nothing to do
+/// gets its share of those that are left.
 #[cycle(preparing)]
 pub(crate) fn prepare<R: Threads + Sync>(
     rt: &R,
-    parts: usize,
+    idle: &Idle,
     waiting: &[Waiting],
     pieces: &mut [Piece],
     slots: &mut [Slot],
@@ -129,19 +131,26 @@ pub(crate) fn prepare<R: Threads + Sync>(
     ensures pieces { ArePrepared list.now lens.now waiting.now pieces.new }
     ensures slots { AreTaken pieces.new slots.old slots.new }
 {
-    if parts < 2 {
+    if waiting.len() <= FEW_PIECES {
         prepare_in_turn(waiting, pieces, slots, list, lens);
+        idle.give();
         return;
     }
-    let count = waiting.len() / parts;
-    let (first, others) = waiting.split_at(count);
+    let others = if is_more_to_prepare(waiting.len()) {
+        idle.take()
+    } else {
+        0
+    };
+    let count = next_pieces(waiting.len(), others);
+    let (first, later) = waiting.split_at(count);
     let (front, rest) = pieces.split_at_mut(count);
     let (front_slots, rest_slots) = slots.split_at_mut(count);
-    prepare_parts(
+    prepare_both(
         rt,
-        parts - 1,
+        idle,
+        0 < others,
         first,
-        others,
+        later,
         front,
         rest,
         front_slots,
@@ -151,11 +160,12 @@ pub(crate) fn prepare<R: Threads + Sync>(
     );
 }
 
-/// Prepares the pieces of one part and their slots, in a thread of its own, and those of so many others.
+/// Prepares some pieces and their slots, in a thread of their own or before the others, and the others.
 #[cycle(preparing)]
-fn prepare_parts<R: Threads + Sync>(
+fn prepare_both<R: Threads + Sync>(
     rt: &R,
-    more: usize,
+    idle: &Idle,
+    beside: bool,
     first: &[Waiting],
     others: &[Waiting],
     front: &mut [Piece],
@@ -165,6 +175,8 @@ fn prepare_parts<R: Threads + Sync>(
     list: &DrawList,
     lens: &Lens,
 )
+    requires some_first { 0 < length first.now }
+    requires some_others { 0 < length others.now }
     requires front_count { length first.now ≡ length front.old }
     requires rest_count { length others.now ≡ length rest.old }
     requires front_slots { length first.now ≡ length front_slots.old }
@@ -176,18 +188,23 @@ fn prepare_parts<R: Threads + Sync>(
     ensures front_slots { AreTaken front.new front_slots.old front_slots.new }
     ensures rest_slots { AreTaken rest.new rest_slots.old rest_slots.new }
 {
+    if !beside {
+        prepare_in_turn(first, front, front_slots, list, lens);
+        prepare(rt, idle, others, rest, rest_slots, list, lens);
+        return;
+    }
     let mut one = ||
-        requires { AreThere list.now first.now × (length first.now ≡ length front.now)
+        requires { IsSync R.row × AreThere list.now first.now × (length first.now ≡ length front.now)
             × (length first.now ≡ length front_slots.now) }
         ensures { ArePrepared list.entry.now lens.entry.now first.entry.now front.exit.now
             × AreTaken front.exit.now front_slots.entry.now front_slots.exit.now }
-    { prepare_in_turn(first, front, front_slots, list, lens) };
+    { prepare(rt, idle, first, front, front_slots, list, lens) };
     let mut all = ||
         requires { IsSync R.row × AreThere list.now others.now × (length others.now ≡ length rest.now)
             × (length others.now ≡ length rest_slots.now) }
         ensures { ArePrepared list.entry.now lens.entry.now others.entry.now rest.exit.now
             × AreTaken rest.exit.now rest_slots.entry.now rest_slots.exit.now }
-    { prepare(rt, more, others, rest, rest_slots, list, lens) };
+    { prepare(rt, idle, others, rest, rest_slots, list, lens) };
     join_mut(rt, &mut one, &mut all);
 }
 

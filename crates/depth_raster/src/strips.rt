@@ -135,7 +135,7 @@ fn draw_in_turn<R: Threads + Sync>(
         idle.give();
         return;
     }
-    let beside = is_much_left(strips) && idle.take();
+    let beside = is_much_left(strips) && 0 < idle.take();
     let count = next_strips(strips, beside);
     let (upper, lower) = strips.split_at_mut(count);
     let (above, below) = bytes.split_at_mut(go.bytes_of(count));

@@ -43,6 +43,13 @@ const STRIP_WORK: u64 = 1024;
 /// The number of pieces from which on it is worth some threads to prepare them: about a millisecond.
 const MANY_PIECES: usize = 4096;
 
+/// The pieces that a thread prepares before it looks again whether another one has nothing to do.
+pub(crate) const FEW_PIECES: usize = 256;
+
+/// The number of pieces that are left from which on they are shared with one that has nothing to do: about a quarter of a
+/// millisecond.
+const SOME_PIECES: usize = 1024;
+
 /// The pixels of a picture from which on its tiles are put into the image in parts side by side: one thread takes almost half
 /// a millisecond for so many.
 const MANY_PIXELS: u32 = 196_608;
@@ -59,9 +66,32 @@ pub(crate) fn are_many(count: usize) -> bool {
     MANY_PIECES <= count
 }
 
-/// In how many parts so many pieces are prepared side by side.
-pub(crate) fn preparing_parts<R: Threads>(rt: &R, count: usize) -> usize {
-    if are_many(count) { processors(rt) } else { 1 }
+/// How many other processors prepare pieces too, where there are so many pieces.
+pub(crate) fn others_to_prepare<R: Threads>(rt: &R, count: usize) -> u64 {
+    if are_many(count) {
+        processors(rt) as u64 - 1
+    } else {
+        0
+    }
+}
+
+/// Whether so many pieces are worth sharing with a processor that has nothing to do.
+pub(crate) fn is_more_to_prepare(count: usize) -> bool {
+    SOME_PIECES <= count
+}
+
+/// How many of so many pieces are prepared next: the share of one processor of so many others and this one, or a few where there
+/// are no others.
+pub(crate) fn next_pieces(count: usize, others: u64) -> usize
+    requires { 256 < count }
+    ensures some { 0 < result }
+    ensures rest { result < count }
+{
+    if others == 0 {
+        return FEW_PIECES;
+    }
+    let share = count as u64 / others.saturating_add(1);
+    (share as usize).clamp(1, count - 1)
 }
 
 /// In how many parts pieces are drawn side by side: as many as there are processors, where it is much work, and else one.

@@ -1,4 +1,4 @@
-use Rattle.std.proofs.Common.{◌≡◌, ◌/◌, List, ◌++◌, length, take, ap, sym, ◌∙◌, subst, arith}
+use Rattle.std.proofs.Common.{◌≡◌, List, ◌++◌, length, take, ap, sym, ◌∙◌, subst, arith}
 use Rattle.std.proofs.lemmas.List.{take-append-drop}
 use Rattle.depth_raster.specs.Pieces.{ArePrepared}
 use Rattle.depth_raster.specs.Slots.{AreTaken}
@@ -14,9 +14,9 @@ prepare-returns g t c =
     let list = a.list.now in
     let lens = a.lens.now in
     let faces = c.split_at in
-    let parts = c.prepare_parts in
+    let parts = c.prepare_both in
     let ws = a.waiting.now in
-    let n = length ws / a.parts in
+    let n = c.next_pieces-count.result in
     let whole : faces.result.0.now ++ faces.result.1.now ≡ ws =
     ap (λ (vs : List Waiting). vs ++ faces.result.1.now) faces.ensures.front ∙ ap (λ (vs : List Waiting). take n ws ++ vs) faces.ensures.back ∙ take-append-drop n ws in
     let cut = c.split_at_mut-front_slots in

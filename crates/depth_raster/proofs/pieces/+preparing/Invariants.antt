@@ -1,11 +1,14 @@
-use Rattle.std.proofs.Common.{◌+◌, ◌*◌}
+use Rattle.std.proofs.Common.{◌+◌, ◌-◌, ◌*◌, length}
 use Rattle.depth_raster.proofs.pieces.+preparing.Given as goal
 
 abbrev pub decreases-prepare : goal.decreases-prepare
-decreases-prepare g l = 4 * l.parts
+decreases-prepare g l = 4 * length l.waiting.now
 
-abbrev pub decreases-prepare_parts : goal.decreases-prepare_parts
-decreases-prepare_parts g l = 4 * l.more + 2
+abbrev pub decreases-prepare_both : goal.decreases-prepare_both
+decreases-prepare_both g l = 4 * (length l.first.now + length l.others.now) - 1
 
-abbrev pub decreases-prepare_parts-all : goal.decreases-prepare_parts-all
-decreases-prepare_parts-all g l = 4 * l.more + 1
+abbrev pub decreases-prepare_both-one : goal.decreases-prepare_both-one
+decreases-prepare_both-one g l = 4 * length l.first.now + 1
+
+abbrev pub decreases-prepare_both-all : goal.decreases-prepare_both-all
+decreases-prepare_both-all g l = 4 * length l.others.now + 1
