@@ -7,9 +7,10 @@ use Rattle.std.specs.Option.{option_map}
 use Rattle.fx_math.specs.declared.boxes.Box3.{Box3}
 use Rattle.fx_math.specs.Views.{bounds_of}
 use Rattle.bound_cache.specs.declared.marks.Mark.{Mark}
-use Rattle.bound_cache.specs.declared.marks.Mark.TheVariants.{Clean}
+use Rattle.bound_cache.specs.declared.marks.Mark.TheVariants.{Clean, Noted, Touched, Same, Changed}
 use Rattle.bound_cache.specs.Sizes.{AreCleanFrom}
-use Rattle.bound_cache.specs.Tables.{TableState, with_mark, with_box}
+use Rattle.pf_model.specs.Graphs.{Look}
+use Rattle.bound_cache.specs.Tables.{TableState, with_mark, with_box, is_under_way, rested}
 
 -- one more of the same
 pub same_more : {X : Type 0} (xs : List X) (x : X) → ((k : ℕ) → get_or xs k x ≡ x) → (k : ℕ) → get_or (xs ++ x ∷ []) k x ≡ x
@@ -63,35 +64,54 @@ boxed_longer bs longer ms id b l same =
     boxed_table longer ms id b l
     ∙ (λ i. with_box id (option_map bounds_of b) (record { boxes = λ k. option_map bounds_of (same k i); marks = λ k. get_or ms k Clean }))
 
--- marks at the end of which all are clean, and from the start of which some are made so
-pub record ClearedBelow (count place : ℕ) (was marks : List Mark) : Type 0 where
+-- marks of which the first are those that are kept when a clean has ended
+pub record RestedBelow (look : Look) (count : ℕ) (was marks : List Mark) : Type 0 where
   pub same_length : length marks ≡ length was
-  pub before : (k : ℕ) → k < place → get_or marks k Clean ≡ Clean
-  pub after : (k : ℕ) → count ≤ k → get_or marks k Clean ≡ Clean
+  pub before : (k : ℕ) → k < count → get_or marks k Clean ≡ rested (look k) (get_or was k Clean)
+  pub after : (k : ℕ) → count ≤ k → get_or marks k Clean ≡ get_or was k Clean
 
-pub cleared_none : (count : ℕ) (marks : List Mark) → AreCleanFrom count marks → ClearedBelow count 0 marks marks
-cleared_none count marks rest = record { same_length = refl; before = λ k below. absurd (omega arith); after = rest.clean }
+pub rested_none : (look : Look) (marks : List Mark) → RestedBelow look 0 marks marks
+rested_none look marks = record { same_length = refl; before = λ k below. absurd (omega arith); after = λ k above. refl }
 
-still_clean : (marks : List Mark) (place k : ℕ) → place < length marks → get_or marks k Clean ≡ Clean → get_or (set marks place Clean) k Clean ≡ Clean
-still_clean marks place k l h = read_set marks place Clean Clean k l ∙ ap (λ m. cond (k == place) Clean m) h ∙ by (k == place)
-  where
-    by : (b : Bool) → cond b Clean Clean ≡ Clean
-    by true = refl
-    by false = refl
-
-pub cleared_more : (count place : ℕ) (was marks : List Mark) → place < length marks → ClearedBelow count place was marks → ClearedBelow count (place + 1) was (set marks place Clean)
-cleared_more count place was marks l some = record {
-  same_length = length-set marks place Clean ∙ some.same_length;
-  before = below_more (λ k. get_or (set marks place Clean) k Clean ≡ Clean) place (λ k below. still_clean marks place k l (some.before k below)) (get_or-set_same marks place Clean Clean l);
-  after = λ k above. still_clean marks place k l (some.after k above);
+pub rested_more : (look : Look) (place : ℕ) (m : Mark) (was marks : List Mark) → place < length marks → m ≡ rested (look place) (get_or marks place Clean) → RestedBelow look place was marks → RestedBelow look (place + 1) was (set marks place m)
+rested_more look place m was marks l e some = record {
+  same_length = length-set marks place m ∙ some.same_length;
+  before = below_more (λ k. get_or (set marks place m) k Clean ≡ rested (look k) (get_or was k Clean)) place
+      (λ k below. get_or-set_other marks place k m Clean (λ s. absurd (omega arith)) ∙ some.before k below)
+      (get_or-set_same marks place m Clean l ∙ e ∙ ap (λ w. rested (look place) w) (some.after place (omega arith)));
+  after = λ k above. get_or-set_other marks place k m Clean (λ s. absurd (omega arith)) ∙ some.after k (omega arith);
 }
 
-pub cleared_all : (count place : ℕ) (was marks : List Mark) → count ≤ place → ClearedBelow count place was marks → (k : ℕ) → get_or marks k Clean ≡ Clean
-cleared_all count place was marks all some k = by (nat_lt k place) refl
+-- a mark that is kept as it is
+pub rested_already : (look : Look) (place : ℕ) (was marks : List Mark) → is_under_way (get_or marks place Clean) ≡ false → RestedBelow look place was marks → RestedBelow look (place + 1) was marks
+rested_already look place was marks still some = record {
+  same_length = some.same_length;
+  before = below_more (λ k. get_or marks k Clean ≡ rested (look k) (get_or was k Clean)) place some.before
+      (same (get_or marks place Clean) still ∙ ap (λ w. rested (look place) w) (some.after place (omega arith)));
+  after = λ k above. some.after k (omega arith);
+}
   where
-    by : (b : Bool) → nat_lt k place ≡ b → get_or marks k Clean ≡ Clean
-    by true e = let l : k < place = grind (arith, nat_tests) in some.before k l
-    by false e = let l : place ≤ k = grind (arith, nat_tests) in some.after k (omega arith)
+    same : (m : Mark) → is_under_way m ≡ false → m ≡ rested (look place) m
+    same Clean h = refl
+    same Noted h = refl
+    same Touched h = absurd (cc)
+    same Same h = absurd (cc)
+    same Changed h = absurd (cc)
+
+-- all marks, where those from a number on were clean
+pub rested_all : (look : Look) (first : ℕ) (was marks : List Mark) → ((k : ℕ) → k < first → get_or marks k Clean ≡ rested (look k) (get_or was k Clean)) → ((k : ℕ) → first ≤ k → get_or marks k Clean ≡ get_or was k Clean)
+    → AreCleanFrom first was → (id : ℕ) → get_or marks id Clean ≡ rested (look id) (get_or was id Clean)
+rested_all look first was marks before after clean id = by (nat_lt id first) refl
+  where
+    by : (b : Bool) → nat_lt id first ≡ b → get_or marks id Clean ≡ rested (look id) (get_or was id Clean)
+    by true e = let l : id < first = grind (arith, nat_tests) in before id l
+    by false e =
+        let l : first ≤ id = grind (arith, nat_tests) in
+        let none : get_or was id Clean ≡ Clean = clean.clean id l in
+        after id l ∙ none ∙ sym (ap (λ w. rested (look id) w) none)
+
+pub rested_from : (first : ℕ) (was marks : List Mark) → ((k : ℕ) → first ≤ k → get_or marks k Clean ≡ get_or was k Clean) → AreCleanFrom first was → AreCleanFrom first marks
+rested_from first was marks after clean = record { narrow = clean.narrow; clean = λ k l. after k l ∙ clean.clean k l }
 
 -- a mark moves up where marks are clean from
 pub clean_above : (marks : List Mark) (first id : ℕ) (m : Mark) → id < 65536 → AreCleanFrom first marks → AreCleanFrom (max first (id + 1)) (set marks id m)

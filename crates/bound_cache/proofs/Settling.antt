@@ -8,27 +8,28 @@ use Rattle.pf_model.specs.Boxes.{box_in, box_of, box_step}
 use Rattle.pf_model.specs.Laws.{AreLow}
 use Rattle.pf_model.proofs.Levels.{all_map}
 use Rattle.bound_cache.specs.declared.marks.Mark.{Mark}
-use Rattle.bound_cache.specs.declared.marks.Mark.TheVariants.{Clean, Touched, Same, Changed}
-use Rattle.bound_cache.specs.Tables.{TableState, is_seen, is_changed, is_still, with_box, with_mark, parts, is_stale, settled, IsHalfwayAt, IsHalfway, MovesOn, IsStillAll, Proceeds}
+use Rattle.bound_cache.specs.declared.marks.Mark.TheVariants.{Clean, Noted, Touched, Same, Changed}
+use Rattle.bound_cache.specs.Tables.{TableState, is_done, is_changed, is_still, with_box, with_mark, parts, is_stale, settled, IsHalfwayAt, IsHalfway, MovesOn, IsStillAll, Proceeds}
 use Rattle.bound_cache.proofs.Parts.{same_step, new_step}
-use Rattle.bound_cache.proofs.Marking.{moves_same, seen_right, seen_same, same_id, or_false, not_false}
+use Rattle.bound_cache.proofs.Marking.{moves_same, done_right, done_same, same_id, or_false, not_false}
 
--- the boxes of seen parts are right
-parts_right : (was look : Look) (t : TableState) (ps : List ℕ) → IsHalfway was look t → AllByRecursion (λ c. is_seen (t.marks c) ≡ true) ps → AllByRecursion (λ c. t.boxes c ≡ box_of look c) ps
+-- the boxes of parts done are right
+parts_right : (was look : Look) (t : TableState) (ps : List ℕ) → IsHalfway was look t → AllByRecursion (λ c. is_done (t.marks c) ≡ true) ps → AllByRecursion (λ c. t.boxes c ≡ box_of look c) ps
 parts_right was look t ps half seen =
-    all_map (λ c. is_seen (t.marks c) ≡ true) (λ c. t.boxes c ≡ box_of look c) (λ c s. seen_right was look c (t.boxes c) (t.marks c) s (half.each c)) ps seen
+    all_map (λ c. is_done (t.marks c) ≡ true) (λ c. t.boxes c ≡ box_of look c) (λ c s. done_right was look c (t.boxes c) (t.marks c) s (half.each c)) ps seen
 
--- seen parts none of which has changed have the same boxes in both scenes
-parts_same : (was look : Look) (t : TableState) (ps : List ℕ) → IsHalfway was look t → AllByRecursion (λ c. is_seen (t.marks c) ≡ true) ps → list_any (λ c. is_changed (t.marks c)) ps ≡ false
+-- parts done none of which has changed have the same boxes in both scenes
+parts_same : (was look : Look) (t : TableState) (ps : List ℕ) → IsHalfway was look t → AllByRecursion (λ c. is_done (t.marks c) ≡ true) ps → list_any (λ c. is_changed (t.marks c)) ps ≡ false
     → AllByRecursion (λ c. (n : ℕ) → box_in n look c ≡ box_in n was c) ps
 parts_same was look t [] half seen none = tt
 parts_same was look t (c ∷ cs) half seen none =
     let both : (is_changed (t.marks c) ≡ false) × (list_any (λ d. is_changed (t.marks d)) cs ≡ false) = or_false (is_changed (t.marks c)) (list_any (λ d. is_changed (t.marks d)) cs) none in
-    (seen_same was look c (t.boxes c) (t.marks c) seen.0 both.0 (half.each c), parts_same was look t cs half seen.1 both.1)
+    (done_same was look c (t.boxes c) (t.marks c) seen.0 both.0 (half.each c), parts_same was look t cs half seen.1 both.1)
 
 still_same : (was look : Look) (id : ℕ) (box : Option Bounds) (m : Mark) → is_still m ≡ true → IsHalfwayAt was look id box m
     → AllByRecursion (λ c. (n : ℕ) → box_in n look c ≡ box_in n was c) (parts (look id)) → IsHalfwayAt was look id box Same
 still_same was look id box Clean s h all = (h.0 ∙ sym (same_step was look id h.1 all 32), same_step was look id h.1 all)
+still_same was look id box Noted s h all = (h.0 ∙ sym (same_step was look id h.1 all 32), same_step was look id h.1 all)
 still_same was look id box Touched s h all = absurd (cc)
 still_same was look id box Same s h all = h
 still_same was look id box Changed s h all = absurd (cc)
@@ -47,7 +48,7 @@ marked was look t id m half h = record { each = λ k. by k (k == id) refl }
     by k true e = subst (λ (j : ℕ). IsHalfwayAt was look j (t.boxes j) m) (sym (eqb-true k id e)) h
     by k false e = half.each k
 
-pub settled_right : (was look : Look) (t : TableState) (id : ℕ) → AreLow look → AllByRecursion (λ c. is_seen (t.marks c) ≡ true) (parts (look id)) → IsHalfway was look t → IsHalfway was look (settled look id t)
+pub settled_right : (was look : Look) (t : TableState) (id : ℕ) → AreLow look → AllByRecursion (λ c. is_done (t.marks c) ≡ true) (parts (look id)) → IsHalfway was look t → IsHalfway was look (settled look id t)
 settled_right was look t id low seen half = by (is_stale look id t) refl
   where
     by : (b : Bool) → is_stale look id t ≡ b → IsHalfway was look (cond b (with_mark id Changed (with_box id (box_step look t.boxes id) t)) (with_mark id Same t))
@@ -56,18 +57,19 @@ settled_right was look t id low seen half = by (is_stale look id t) refl
         let both : (not (is_still (t.marks id)) ≡ false) × (list_any (λ c. is_changed (t.marks c)) (parts (look id)) ≡ false) = or_false (not (is_still (t.marks id))) (list_any (λ c. is_changed (t.marks c)) (parts (look id))) e in
         marked was look t id Same half (still_same was look id (t.boxes id) (t.marks id) (not_false (is_still (t.marks id)) both.0) (half.each id) (parts_same was look t (parts (look id)) half seen both.1))
 
-pub settled_seen : (look : Look) (t : TableState) (id : ℕ) → is_seen ((settled look id t).marks id) ≡ true
-settled_seen look t id = by (is_stale look id t)
+pub settled_done : (look : Look) (t : TableState) (id : ℕ) → is_done ((settled look id t).marks id) ≡ true
+settled_done look t id = by (is_stale look id t)
   where
-    at : (m : Mark) → is_seen m ≡ true → is_seen (cond (id == id) m (t.marks id)) ≡ true
-    at m s = subst (λ (b : Bool). is_seen (cond b m (t.marks id)) ≡ true) (sym (same_id id)) s
+    at : (m : Mark) → is_done m ≡ true → is_done (cond (id == id) m (t.marks id)) ≡ true
+    at m s = subst (λ (b : Bool). is_done (cond b m (t.marks id)) ≡ true) (sym (same_id id)) s
 
-    by : (b : Bool) → is_seen ((cond b (with_mark id Changed (with_box id (box_step look t.boxes id) t)) (with_mark id Same t)).marks id) ≡ true
+    by : (b : Bool) → is_done ((cond b (with_mark id Changed (with_box id (box_step look t.boxes id) t)) (with_mark id Same t)).marks id) ≡ true
     by true = at Changed refl
     by false = at Same refl
 
 still_unchanged : (m : Mark) → is_still m ≡ true → is_changed m ≡ false
 still_unchanged Clean h = refl
+still_unchanged Noted h = refl
 still_unchanged Touched h = absurd (cc)
 still_unchanged Same h = refl
 still_unchanged Changed h = absurd (cc)

@@ -1,18 +1,19 @@
 -- What clauses see of a cache of boxes, and when its boxes are those of a scene.
-use Rattle.std.specs.Prelude.{◌≡◌, ℕ, ◌≤◌, Bool, true, false, List, slice_index_or, Option, None}
+use Rattle.std.specs.Prelude.{◌≡◌, ℕ, Bool, true, false, List, [], slice_index_or, Option, None}
 use Rattle.std.specs.List.{AllByRecursion}
 use Rattle.std.specs.Option.{option_map_or}
 use Rattle.fx_math.specs.Plain.{Bounds}
 use Rattle.pf_model.specs.Kinds.{is_geode}
 use Rattle.pf_model.specs.Graphs.{Look, children_of}
 use Rattle.pf_model.specs.Boxes.{box_of}
+use Rattle.bound_cache.specs.Tables.{parts}
 
--- The boxes that are kept, and whether each id was touched since the last clean, both by the id; and one more than the
--- greatest id that was ever touched.
+-- The boxes that are kept, whether each id was touched since the last clean, and whether it is noted, each by the id: a
+-- clean looks at the ids that are noted, which are those touched and those whose boxes are made of others.
 pub record CacheState : Type 0 where
   pub boxes : List (Option Bounds)
   pub touched : List Bool
-  pub high : ℕ
+  pub noted : List Bool
 
 -- the box that is kept for an id
 abbrev pub box_at : CacheState → ℕ → Option Bounds
@@ -20,6 +21,9 @@ box_at c id = slice_index_or c.boxes id None
 
 abbrev pub touched_at : CacheState → ℕ → Bool
 touched_at c id = slice_index_or c.touched id false
+
+abbrev pub noted_at : CacheState → ℕ → Bool
+noted_at c id = slice_index_or c.noted id false
 
 -- the boxes are those of a scene, from scratch
 pub record AreBoxesOf (look : Look) (boxes : ℕ → Option Bounds) : Type 0 where
@@ -29,9 +33,9 @@ pub record AreBoxesOf (look : Look) (boxes : ℕ → Option Bounds) : Type 0 whe
 pub record ChangesAreTouched (was look : Look) (touched : ℕ → Bool) : Type 0 where
   pub same : (id : ℕ) → touched id ≡ false → look id ≡ was id
 
--- nodes stand only under ids below this
-abbrev pub StandBelow : Look → ℕ → Type 0
-StandBelow look high = (id : ℕ) → high ≤ id → look id ≡ None
+-- each node whose box is made of others is noted
+pub record AreNoted (look : Look) (noted : ℕ → Bool) : Type 0 where
+  pub none : (id : ℕ) → noted id ≡ false → parts (look id) ≡ []
 
 -- A set of nodes with all below them, none of which was touched.
 pub record IsCalm (look : Look) (touched calm : ℕ → Bool) : Type 0 where

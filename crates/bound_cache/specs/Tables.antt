@@ -1,5 +1,5 @@
 -- How far a clean has come from the boxes of the scene as it was to those of the scene as it is.
-use Rattle.std.specs.Prelude.{◌≡◌, ⊤, ℕ, suc, ◌<◌, ◌≤◌, Bool, true, false, not, ◌||◌, ◌==◌, if◌then◌else◌, List, [], Option, Some, None}
+use Rattle.std.specs.Prelude.{◌≡◌, ⊤, ℕ, suc, ◌≤◌, Bool, true, false, not, ◌||◌, ◌==◌, if◌then◌else◌, List, [], ◌∷◌, Option, Some, None}
 use Rattle.std.specs.List.{AllByRecursion, list_any}
 use Rattle.fx_math.specs.Plain.{Bounds}
 use Rattle.pf_model.specs.declared.nodes.Node.{Node}
@@ -7,7 +7,7 @@ use Rattle.pf_model.specs.Kinds.{is_geode}
 use Rattle.pf_model.specs.Graphs.{Look, height_in}
 use Rattle.pf_model.specs.Boxes.{box_in, box_of, box_step}
 use Rattle.bound_cache.specs.declared.marks.Mark.{Mark}
-use Rattle.bound_cache.specs.declared.marks.Mark.TheVariants.{Clean, Touched, Same, Changed}
+use Rattle.bound_cache.specs.declared.marks.Mark.TheVariants.{Clean, Noted, Touched, Same, Changed}
 
 -- The box and the mark of each id.
 pub record TableState : Type 0 where
@@ -22,16 +22,30 @@ abbrev pub is_changed : Mark → Bool
 is_changed Changed = true
 is_changed _ = false
 
--- the clean has come to the id
-abbrev pub is_seen : Mark → Bool
-is_seen Clean = false
-is_seen Touched = false
-is_seen Same = true
-is_seen Changed = true
+-- the id is touched, or its box is made of others
+abbrev pub is_noted : Mark → Bool
+is_noted Noted = true
+is_noted Touched = true
+is_noted _ = false
+
+-- no clean is under way with the id
+abbrev pub is_at_rest : Mark → Bool
+is_at_rest Same = false
+is_at_rest Changed = false
+is_at_rest _ = true
+
+-- the clean has come to the id, or has nothing to do there
+abbrev pub is_done : Mark → Bool
+is_done Clean = true
+is_done Noted = false
+is_done Touched = false
+is_done Same = true
+is_done Changed = true
 
 -- neither touched nor changed
 abbrev pub is_still : Mark → Bool
 is_still Clean = true
+is_still Noted = true
 is_still Touched = false
 is_still Same = true
 is_still Changed = false
@@ -63,7 +77,8 @@ HasSameBox was look id = (n : ℕ) → box_in n look id ≡ box_in n was id
 -- What a mark tells of the box that is kept: before the clean comes to an id it is the box in the scene as it was, and
 -- then the box in the scene as it is.
 abbrev pub IsHalfwayAt : Look → Look → ℕ → Option Bounds → Mark → Type 0
-IsHalfwayAt was look id box Clean = (box ≡ box_of was id) × (look id ≡ was id)
+IsHalfwayAt was look id box Clean = (box ≡ box_of was id) × (look id ≡ was id) × (parts (was id) ≡ [])
+IsHalfwayAt was look id box Noted = (box ≡ box_of was id) × (look id ≡ was id)
 IsHalfwayAt was look id box Touched = box ≡ box_of was id
 IsHalfwayAt was look id box Same = (box ≡ box_of look id) × HasSameBox was look id
 IsHalfwayAt was look id box Changed = box ≡ box_of look id
@@ -78,6 +93,7 @@ StaysHalfway look before after = (was : Look) → IsHalfway was look before → 
 -- a mark stays until the clean comes to its id, and then tells for good that it came
 abbrev pub MovesOn : Mark → Mark → Type 0
 MovesOn m Clean = m ≡ Clean
+MovesOn m Noted = m ≡ Noted
 MovesOn m Touched = m ≡ Touched
 MovesOn m Same = ⊤
 MovesOn m Changed = ⊤
@@ -93,20 +109,30 @@ pub record Proceeds (look : Look) (before after : TableState) : Type 0 where
   pub kept : (calm : ℕ → Bool) → IsStillAll look before calm → (id : ℕ) → calm id ≡ true → after.boxes id ≡ before.boxes id
   pub still : (calm : ℕ → Bool) → IsStillAll look before calm → IsStillAll look after calm
 
--- the clean came to the id, or had no need to: it is not touched and has no node
-abbrev pub IsReached : Look → ℕ → Mark → Type 0
-IsReached look id Clean = look id ≡ None
-IsReached look id Touched = ⊥
-IsReached look id Same = ⊤
-IsReached look id Changed = ⊤
-
 -- no chain down from the node has more than n nodes
 abbrev pub FitsLevels : Look → ℕ → ℕ → Type 0
 FitsLevels look n id = height_in (suc n) look id ≤ n
 
--- a table between two cleans, whether any id is touched, and a number that touched ids are below
-pub record IsAtRest (t : TableState) (any_touched : Bool) (high : ℕ) : Type 0 where
-  pub unseen : (id : ℕ) → is_seen (t.marks id) ≡ false
+-- the mark of an id whose box is made of these
+abbrev pub mark_of_parts : List ℕ → Mark
+mark_of_parts [] = Clean
+mark_of_parts (_ ∷ _) = Noted
+
+-- the mark that an id keeps when a clean has ended
+abbrev pub rested : Option Node → Mark → Mark
+rested o Clean = Clean
+rested o Noted = Noted
+rested o Touched = Noted
+rested o Same = Noted
+rested o Changed = mark_of_parts (parts o)
+
+-- a mark that a clean changes when it ends
+abbrev pub is_under_way : Mark → Bool
+is_under_way Clean = false
+is_under_way Noted = false
+is_under_way _ = true
+
+-- a table between two cleans, and whether any id is touched
+pub record IsAtRest (t : TableState) (any_touched : Bool) : Type 0 where
+  pub resting : (id : ℕ) → is_at_rest (t.marks id) ≡ true
   pub told : any_touched ≡ false → (id : ℕ) → is_touched (t.marks id) ≡ false
-  pub below : (id : ℕ) → is_touched (t.marks id) ≡ true → id < high
-  pub narrow : high ≤ 65536

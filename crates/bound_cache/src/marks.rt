@@ -1,12 +1,14 @@
 //! Marks: how far a clean has come with an id.
 ghost use Rattle.std.specs.Prelude.{◌≡◌};
-ghost use Rattle.bound_cache.specs.Tables.{is_seen, is_still, is_changed};
+ghost use Rattle.bound_cache.specs.Tables.{is_done, is_still, is_changed, is_under_way};
 
-/// How far a clean has come with an id.
+/// What a clean knows of an id, and how far it has come with it.
 #[derive(Clone, Copy, Debug, PartialEq, Eq)]
 pub(crate) enum Mark {
-    /// Neither touched nor seen.
+    /// Not touched since the last clean; its box is made of no other, so there is nothing to do.
     Clean,
+    /// Not touched since the last clean, and not seen in this one; its box is made of others.
+    Noted,
     /// Touched since the last clean, and not seen in this one.
     Touched,
     /// Seen; its box did not have to be reckoned.
@@ -16,12 +18,12 @@ pub(crate) enum Mark {
 }
 
 impl Mark {
-    pub(crate) fn is_seen(self) -> bool
-        ensures { result ≡ is_seen self }
+    pub(crate) fn is_done(self) -> bool
+        ensures { result ≡ is_done self }
     {
         match self {
-            Mark::Clean | Mark::Touched => false,
-            Mark::Same | Mark::Changed => true,
+            Mark::Noted | Mark::Touched => false,
+            Mark::Clean | Mark::Same | Mark::Changed => true,
         }
     }
 
@@ -29,7 +31,7 @@ impl Mark {
         ensures { result ≡ is_still self }
     {
         match self {
-            Mark::Clean | Mark::Same => true,
+            Mark::Clean | Mark::Noted | Mark::Same => true,
             Mark::Touched | Mark::Changed => false,
         }
     }
@@ -38,8 +40,18 @@ impl Mark {
         ensures { result ≡ is_changed self }
     {
         match self {
-            Mark::Clean | Mark::Touched | Mark::Same => false,
+            Mark::Clean | Mark::Noted | Mark::Touched | Mark::Same => false,
             Mark::Changed => true,
+        }
+    }
+
+    /// Whether a clean that ends has to change it.
+    pub(crate) fn is_under_way(self) -> bool
+        ensures { result ≡ is_under_way self }
+    {
+        match self {
+            Mark::Clean | Mark::Noted => false,
+            Mark::Touched | Mark::Same | Mark::Changed => true,
         }
     }
 }

@@ -9,8 +9,8 @@ ghost use Rattle.pf_model.specs.Laws.{AreLow};
 ghost use Rattle.pf_model.specs.Boxes.{hull_of_all, box_from, box_step};
 ghost use Rattle.bound_cache.specs.Sizes.{AreCleanFrom};
 ghost use Rattle.bound_cache.specs.declared.marks.Mark.TheVariants.{Clean};
-ghost use Rattle.bound_cache.specs.Tables.{is_seen, is_changed, is_stale, with_box, with_mark, settled};
-ghost use Rattle.bound_cache.specs.Tables.{FitsLevels, StaysHalfway, IsReached, Proceeds};
+ghost use Rattle.bound_cache.specs.Tables.{is_done, is_changed, is_stale, parts, mark_of_parts, rested, with_box, with_mark, settled};
+ghost use Rattle.bound_cache.specs.Tables.{FitsLevels, StaysHalfway, Proceeds};
 
 use crate::marks::Mark;
 use crate::reckoning::{carried, joined, parts_of};
@@ -25,8 +25,8 @@ const IDS: usize = 65_536;
 /// The nodes on the longest chain of a scene within the limits.
 const MAX_LEVELS: u8 = 32;
 
-/// The box and the mark of each id, and one more than the greatest id that was marked since the marks were forgotten. There
-/// is memory for the boxes of all ids, and as many are written as the greatest id that has had one asks.
+/// The box and the mark of each id, and one more than the greatest id that was ever marked. There is memory for the boxes of
+/// all ids, and as many are written as the greatest id that has had one asks.
 #[derive(Debug, Drop)]
 pub(crate) struct BoxTable {
     boxes: Vec<Option<Box3>>,
@@ -49,15 +49,42 @@ fn filled<T: Copy>(alloc: Global, item: T, count: usize) -> Result<Vec<T>, NoMem
     Ok(items)
 }
 
-/// Makes the first marks clean, after which all are.
-fn clear(marks: &mut Vec<Mark>, count: u32)
+/// The mark of an id whose box is made of these.
+fn mark_of_parts(ids: &[u16]) -> Mark
+    ensures { result ≡ mark_of_parts ids.now }
+{
+    match ids {
+        [] => Mark::Clean,
+        [_, ..] => Mark::Noted,
+    }
+}
+
+/// The mark that an id keeps when a clean has ended.
+fn rested<V: NodeView>(scene: &V, id: u16, mark: Mark) -> Mark
+    ensures { result ≡ rested (V.look scene.now id) mark }
+{
+    match mark {
+        Mark::Clean => Mark::Clean,
+        Mark::Noted | Mark::Touched | Mark::Same => Mark::Noted,
+        Mark::Changed => mark_of_parts(parts_of(scene, id)),
+    }
+}
+
+/// Gives each of the first ids the mark that it keeps when a clean has ended.
+fn rest_first<V: NodeView>(marks: &mut Vec<Mark>, scene: &V, count: u32)
     requires within { count ≤ length marks.old.items }
-    requires rest { AreCleanFrom count marks.old.items }
+    requires narrow { count ≤ 65536 }
     ensures count { length marks.new.items ≡ length marks.old.items }
-    ensures clean { (k : ℕ) → slice_index_or marks.new.items k Clean ≡ Clean }
+    ensures first { (k : ℕ) → k < count → slice_index_or marks.new.items k Clean
+        ≡ rested (V.look scene.now k) (slice_index_or marks.old.items k Clean) }
+    ensures others { (k : ℕ) → count ≤ k
+        → slice_index_or marks.new.items k Clean ≡ slice_index_or marks.old.items k Clean }
 {
     for place in 0..count {
-        marks[place as usize] = Mark::Clean;
+        let mark = marks[place as usize];
+        if mark.is_under_way() {
+            marks[place as usize] = rested(scene, place as u16, mark);
+        }
     }
 }
 
@@ -112,13 +139,13 @@ impl BoxTable {
         self.boxes[id as usize] = around;
     }
 
-    /// Makes all marks clean, and leaves the boxes.
-    pub(crate) fn forget_marks(&mut self)
+    /// Gives each id the mark that it keeps when a clean has ended, and leaves the boxes.
+    pub(crate) fn rest<V: NodeView>(&mut self, scene: &V)
         ensures boxes { (table_of self.new).boxes ≡ (table_of self.old).boxes }
-        ensures clean { (id : ℕ) → (table_of self.new).marks id ≡ Clean }
+        ensures marks { (id : ℕ) → (table_of self.new).marks id
+            ≡ rested (V.look scene.now id) ((table_of self.old).marks id) }
     {
-        clear(&mut self.marks, self.marked);
-        self.marked = 0;
+        rest_first(&mut self.marks, scene, self.marked);
     }
 
     /// Whether the box of one of these has changed.
@@ -161,17 +188,19 @@ impl BoxTable {
     }
 
     /// Whether the box of an id has to be reckoned: it was touched, or the box of a part has changed.
-    fn is_stale<V: NodeView>(&self, scene: &V, id: u16) -> bool
+    fn is_stale<V: NodeView>(&self, scene: &V, id: u16, ids: &[u16]) -> bool
+        requires { ids.now ≡ parts (V.look scene.now id) }
         ensures { result ≡ is_stale (V.look scene.now) id (table_of self.now) }
     {
-        !self.mark_of(id).is_still() || self.any_changed(parts_of(scene, id))
+        !self.mark_of(id).is_still() || self.any_changed(ids)
     }
 
-    /// Reckons the box of an id where it has to be, and marks it.
-    fn settle<V: NodeView>(&mut self, scene: &V, id: u16)
+    /// Reckons the box of an id where it has to be, and marks it. `ids` are its parts.
+    fn settle<V: NodeView>(&mut self, scene: &V, id: u16, ids: &[u16])
+        requires { ids.now ≡ parts (V.look scene.now id) }
         ensures { table_of self.new ≡ settled (V.look scene.now) id (table_of self.old) }
     {
-        if self.is_stale(scene, id) {
+        if self.is_stale(scene, id, ids) {
             let around = self.reckoned(scene, id);
             self.set_box(id, around);
             self.set_mark(id, Mark::Changed);
@@ -180,9 +209,9 @@ impl BoxTable {
         }
     }
 
-    /// Settles an id after all below it, at most so many nodes deep; one that was seen is left.
+    /// Settles an id after all below it, at most so many nodes deep; where there is nothing to do it is left.
     fn visit<V: NodeView>(&mut self, scene: &V, levels: u8, id: u16)
-        ensures seen { 0 < levels → is_seen ((table_of self.new).marks id) ≡ true }
+        ensures done { 0 < levels → is_done ((table_of self.new).marks id) ≡ true }
         ensures proceeds { Proceeds (V.look scene.now) (table_of self.old) (table_of self.new) }
         ensures right { AreLow (V.look scene.now) → FitsLevels (V.look scene.now) levels id
             → StaysHalfway (V.look scene.now) (table_of self.old) (table_of self.new) }
@@ -190,38 +219,39 @@ impl BoxTable {
         if levels == 0 {
             return;
         }
-        if self.mark_of(id).is_seen() {
+        if self.mark_of(id).is_done() {
             return;
         }
         let parts = parts_of(scene, id);
         for part in parts {
-            self.visit(scene, levels - 1, *part);
+            if !self.mark_of(*part).is_done() {
+                self.visit(scene, levels - 1, *part);
+            }
         }
-        self.settle(scene, id);
+        self.settle(scene, id, parts);
     }
 
-    /// Visits an id that is touched or has a node.
+    /// Visits an id at which there is something to do.
     fn reach<V: NodeView>(&mut self, scene: &V, id: u16)
-        ensures reached { IsReached (V.look scene.now) id ((table_of self.new).marks id) }
+        ensures done { is_done ((table_of self.new).marks id) ≡ true }
         ensures proceeds { Proceeds (V.look scene.now) (table_of self.old) (table_of self.new) }
         ensures right { AreLow (V.look scene.now)
             → StaysHalfway (V.look scene.now) (table_of self.old) (table_of self.new) }
     {
-        if self.mark_of(id).is_still() && scene.node(id).is_none() {
+        if self.mark_of(id).is_done() {
             return;
         }
         self.visit(scene, MAX_LEVELS, id);
     }
 
-    /// Visits all ids below a number that are touched or have a node.
-    pub(crate) fn reach_all<V: NodeView>(&mut self, scene: &V, high: u32)
-        requires { high ≤ 65536 }
-        ensures reached { (id : ℕ) → id < high → IsReached (V.look scene.now) id ((table_of self.new).marks id) }
+    /// Visits all ids at which there is something to do.
+    pub(crate) fn reach_all<V: NodeView>(&mut self, scene: &V)
+        ensures done { (id : ℕ) → is_done ((table_of self.new).marks id) ≡ true }
         ensures proceeds { Proceeds (V.look scene.now) (table_of self.old) (table_of self.new) }
         ensures right { AreLow (V.look scene.now)
             → StaysHalfway (V.look scene.now) (table_of self.old) (table_of self.new) }
     {
-        for id in 0..high {
+        for id in 0..self.marked {
             self.reach(scene, id as u16);
         }
     }

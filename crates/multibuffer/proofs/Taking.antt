@@ -1,11 +1,10 @@
 -- A copy after some entries of an update list.
-use Rattle.std.proofs.Common.{◌≡◌, ℕ, zero, suc, ◌+◌, ◌<◌, ◌≤◌, max, Bool, true, false, cond, ◌||◌, ◌==◌, List, [], ◌∷◌, ◌++◌, map, length, set, take, Option, Some, None, refl, sym, ◌∙◌, ap, subst, arith}
+use Rattle.std.proofs.Common.{◌≡◌, ℕ, zero, suc, ◌+◌, ◌<◌, Bool, true, false, cond, ◌||◌, ◌==◌, List, [], ◌∷◌, ◌++◌, map, length, set, take, Option, Some, None, refl, sym, ◌∙◌, ap, subst, arith}
 use Rattle.std.specs.List.{AllByRecursion, fold}
 use Rattle.std.proofs.lemmas.Bool.Decides.{nat_tests}
 use Rattle.std.proofs.lemmas.List.{take_more}
 use Rattle.std.proofs.lemmas.List.Sums.{fold-append}
 use Rattle.std.proofs.lemmas.List.Folds.{list_any_more}
-use Rattle.std.proofs.Math.Nat.{le-max_left, le-max_right}
 use Rattle.std.proofs.Math.Seq.{take-length}
 use Rattle.fx_math.specs.Plain.{Bounds}
 use Rattle.pf_model.specs.declared.nodes.Node.{Node}
@@ -14,39 +13,28 @@ use Rattle.pf_model.specs.Limits.{IsRising, KeepsLimits}
 use Rattle.pf_model.specs.Copies.{UpdateList, updated, updated_by, updates_of, copy_of}
 use Rattle.pf_model.proofs.Places.{node_at_step}
 use Rattle.pf_model.proofs.Histories.{limits_empty}
-use Rattle.bound_cache.specs.Caches.{CacheState, box_at, touched_at, AreBoxesOf, ChangesAreTouched, StandBelow, IsCalm}
+use Rattle.bound_cache.specs.Caches.{CacheState, box_at, touched_at, noted_at, AreBoxesOf, ChangesAreTouched, AreNoted, IsCalm}
 use Rattle.bound_cache.proofs.Parts.{none_box}
 use Rattle.multibuffer.specs.StageCopies.{HasRightBoxes, IsTended, entry_at, is_named}
 use Rattle.multibuffer.proofs.Handing.{handed, handed_entry, handed_more, handed_all}
 
--- a node set or cleared below a number that is above its id
-pub stand_more : (nodes after : Nodes) (id high : ℕ) (node : Option Node) → ((k : ℕ) → node_at after k ≡ cond (k == id) node (node_at nodes k)) → StandBelow (node_at nodes) high → StandBelow (node_at after) (max high (id + 1))
-stand_more nodes after id high node looks stand k l =
-    let left : high ≤ max high (id + 1) = le-max_left high (id + 1) in
-    let right : id + 1 ≤ max high (id + 1) = le-max_right high (id + 1) in
-    looks k ∙ ap (λ b. cond b node (node_at nodes k)) (other k (omega arith)) ∙ stand k (omega arith)
-  where
-    other : (k : ℕ) → id < k → (k == id) ≡ false
-    other k above = grind (arith, nat_tests)
-
-pub record TakenSome (us : UpdateList) (was : Nodes) (kept : ℕ → Option Bounds) (first : ℕ) (i : ℕ) (left : UpdateList) (nodes : Nodes) (boxes : ℕ → Option Bounds) (touched : ℕ → Bool) (high : ℕ) : Type 0 where
+-- the first entries taken
+pub record TakenSome (us : UpdateList) (was : Nodes) (kept : ℕ → Option Bounds) (first : ℕ → Bool) (i : ℕ) (left : UpdateList) (nodes : Nodes) (boxes : ℕ → Option Bounds) (touched noted : ℕ → Bool) : Type 0 where
   pub handed_back : left ≡ handed (node_at was) i us
   pub nodes_are : nodes ≡ updated_by was (take i us)
   pub looks : (k : ℕ) → is_named k (take i us) ≡ false → node_at nodes k ≡ node_at was k
   pub boxes_are : (k : ℕ) → boxes k ≡ kept k
   pub touched_are : (k : ℕ) → touched k ≡ is_named k (take i us)
-  pub higher : first ≤ high
-  pub stand : StandBelow (node_at was) first → StandBelow (node_at nodes) high
+  pub grows : (k : ℕ) → noted k ≡ false → first k ≡ false
 
-pub taken_none : (us : UpdateList) (was : Nodes) (boxes : ℕ → Option Bounds) (touched : ℕ → Bool) (high : ℕ) → ((k : ℕ) → touched k ≡ false) → TakenSome us was boxes high 0 us was boxes touched high
-taken_none us was boxes touched high none = record {
+pub taken_none : (us : UpdateList) (was : Nodes) (boxes : ℕ → Option Bounds) (touched noted : ℕ → Bool) → ((k : ℕ) → touched k ≡ false) → TakenSome us was boxes noted 0 us was boxes touched noted
+taken_none us was boxes touched noted none = record {
   handed_back = refl;
   nodes_are = refl;
   looks = λ k n. refl;
   boxes_are = λ k. refl;
   touched_are = none;
-  higher = omega arith;
-  stand = λ s. s;
+  grows = λ k e. e;
 }
 
 all_at : (P : ℕ → Type 0) (us : UpdateList) (i : ℕ) → AllByRecursion P (map (λ e. e.0) us) → i < length us → P (entry_at us i).0
@@ -81,12 +69,12 @@ eq_turned a b = grind (arith, nat_tests)
 named_more : (us : UpdateList) (i k : ℕ) → i < length us → is_named k (take (i + 1) us) ≡ (is_named k (take i us) || (entry_at us i).0 == k)
 named_more us i k l = list_any_more (λ (e : ℕ × Option Node). e.0 == k) us i (0, None) l
 
-pub taken_more : (us : UpdateList) (was : Nodes) (kept : ℕ → Option Bounds) (first i id : ℕ) (left next : UpdateList) (nodes after : Nodes) (boxes boxes' : ℕ → Option Bounds) (touched touched' : ℕ → Bool) (high high' : ℕ)
-    → IsRising (map (λ e. e.0) us) → i < length us → TakenSome us was kept first i left nodes boxes touched high
+pub taken_more : (us : UpdateList) (was : Nodes) (kept : ℕ → Option Bounds) (first : ℕ → Bool) (i id : ℕ) (left next : UpdateList) (nodes after : Nodes) (boxes boxes' : ℕ → Option Bounds) (touched touched' noted noted' : ℕ → Bool)
+    → IsRising (map (λ e. e.0) us) → i < length us → TakenSome us was kept first i left nodes boxes touched noted
     → id ≡ (entry_at left i).0 → after ≡ updated nodes (entry_at left i) → ((k : ℕ) → node_at after k ≡ cond (k == id) (entry_at left i).1 (node_at nodes k)) → next ≡ set left i (id, node_at nodes id)
-    → ((k : ℕ) → boxes' k ≡ boxes k) → ((k : ℕ) → touched' k ≡ (k == id || touched k)) → high' ≡ max high (id + 1)
-    → TakenSome us was kept first (i + 1) next after boxes' touched' high'
-taken_more us was kept first i id left next nodes after boxes boxes' touched touched' high high' rising l some id_is after_is looks next_is boxes_same touches rises = record {
+    → ((k : ℕ) → boxes' k ≡ boxes k) → ((k : ℕ) → touched' k ≡ (k == id || touched k)) → ((k : ℕ) → noted' k ≡ (k == id || noted k))
+    → TakenSome us was kept first (i + 1) next after boxes' touched' noted'
+taken_more us was kept first i id left next nodes after boxes boxes' touched touched' noted noted' rising l some id_is after_is looks next_is boxes_same touches notes = record {
   handed_back =
       next_is
       ∙ ap (λ (x : List (ℕ × Option Node)). set x i (id, node_at nodes id)) some.handed_back
@@ -111,11 +99,7 @@ taken_more us was kept first i id left next nodes after boxes boxes' touched tou
       ∙ ap (λ b. b || is_named k (take i us)) (eq_turned k (entry_at us i).0)
       ∙ or_turned ((entry_at us i).0 == k) (is_named k (take i us))
       ∙ sym (named_more us i k l);
-  higher =
-      let risen : high ≤ max high (id + 1) = le-max_left high (id + 1) in
-      let low : first ≤ max high (id + 1) = omega (arith, some.higher) in
-      subst (λ (h : ℕ). first ≤ h) (sym rises) low;
-  stand = λ s. subst (λ (h : ℕ). StandBelow (node_at after) h) (sym rises) (stand_more nodes after id high (entry_at left i).1 looks (some.stand s));
+  grows = λ k e. some.grows k (or_false (k == id) (noted k) (sym (notes k) ∙ e)).1;
 }
   where
     entry : entry_at left i ≡ entry_at us i
@@ -131,25 +115,23 @@ whole : (us : UpdateList) (i : ℕ) → i ≡ length us → take i us ≡ us
 whole us i e = ap (λ n. take n us) e ∙ take-length us
 
 -- all entries taken
-pub record TakenAll (us : UpdateList) (was : Nodes) (kept : ℕ → Option Bounds) (first : ℕ) (left : UpdateList) (nodes : Nodes) (boxes : ℕ → Option Bounds) (touched : ℕ → Bool) (high : ℕ) : Type 0 where
+pub record TakenAll (us : UpdateList) (was : Nodes) (kept : ℕ → Option Bounds) (first : ℕ → Bool) (left : UpdateList) (nodes : Nodes) (boxes : ℕ → Option Bounds) (touched noted : ℕ → Bool) : Type 0 where
   pub back : left ≡ updates_of (node_at was) (map (λ e. e.0) us)
   pub nodes_are : nodes ≡ updated_by was us
   pub looks : (k : ℕ) → is_named k us ≡ false → node_at nodes k ≡ node_at was k
   pub boxes_are : (k : ℕ) → boxes k ≡ kept k
   pub touched_are : (k : ℕ) → touched k ≡ is_named k us
-  pub higher : first ≤ high
-  pub stand : StandBelow (node_at was) first → StandBelow (node_at nodes) high
+  pub grows : (k : ℕ) → noted k ≡ false → first k ≡ false
 
-pub taken_all : (us : UpdateList) (was : Nodes) (kept : ℕ → Option Bounds) (first i : ℕ) (left : UpdateList) (nodes : Nodes) (boxes : ℕ → Option Bounds) (touched : ℕ → Bool) (high : ℕ) → i ≡ length us
-    → TakenSome us was kept first i left nodes boxes touched high → TakenAll us was kept first left nodes boxes touched high
-taken_all us was kept first i left nodes boxes touched high e some = record {
+pub taken_all : (us : UpdateList) (was : Nodes) (kept : ℕ → Option Bounds) (first : ℕ → Bool) (i : ℕ) (left : UpdateList) (nodes : Nodes) (boxes : ℕ → Option Bounds) (touched noted : ℕ → Bool) → i ≡ length us
+    → TakenSome us was kept first i left nodes boxes touched noted → TakenAll us was kept first left nodes boxes touched noted
+taken_all us was kept first i left nodes boxes touched noted e some = record {
   back = some.handed_back ∙ ap (λ n. handed (node_at was) n us) e ∙ handed_all (node_at was) us;
   nodes_are = some.nodes_are ∙ ap (λ (xs : UpdateList). updated_by was xs) (whole us i e);
   looks = λ k n. some.looks k (ap (λ (xs : UpdateList). is_named k xs) (whole us i e) ∙ n);
   boxes_are = some.boxes_are;
   touched_are = λ k. some.touched_are k ∙ ap (λ (xs : UpdateList). is_named k xs) (whole us i e);
-  higher = some.higher;
-  stand = some.stand;
+  grows = some.grows;
 }
 
 -- one more list of a copy
@@ -168,21 +150,16 @@ calm_named look us touched calm touches is = record { untouched = λ k h. touche
 pub boxes_still : (was : Nodes) (kept boxes : ℕ → Option Bounds) → AreBoxesOf (node_at was) kept → ((k : ℕ) → boxes k ≡ kept k) → AreBoxesOf (node_at was) boxes
 boxes_still was kept boxes right same = record { each = λ k. same k ∙ right.each k }
 
--- the boxes of a cache that was cleaned after a list was taken
-pub boxes_after : (was nodes : Nodes) (before taken clean : CacheState) → StandBelow (node_at was) before.high → AreBoxesOf (node_at was) (box_at before)
-    → ((k : ℕ) → box_at taken k ≡ box_at before k) → ChangesAreTouched (node_at was) (node_at nodes) (touched_at taken) → before.high ≤ taken.high
-    → (AreBoxesOf (node_at was) (box_at taken) → ChangesAreTouched (node_at was) (node_at nodes) (touched_at taken) → StandBelow (node_at was) taken.high → AreBoxesOf (node_at nodes) (box_at clean))
-    → HasRightBoxes (record { nodes = nodes; boxes = clean.boxes })
-boxes_after was nodes before taken clean stand right same told higher cleans = record {
-  each = (cleans (boxes_still was (box_at before) (box_at taken) right same) told (λ id l. stand id (omega arith))).each;
-}
+-- what was noted before some ids were touched is noted
+pub noted_still : (look : Look) (before taken : ℕ → Bool) → ((k : ℕ) → taken k ≡ false → before k ≡ false) → AreNoted look before → AreNoted look taken
+noted_still look before taken grows are = record { none = λ id e. are.none id (grows id e) }
 
--- what a clean leaves: nothing is touched, and the nodes stand where they stood for it
-pub tended_after : (nodes : Nodes) (taken clean : CacheState) → ((k : ℕ) → touched_at clean k ≡ false) → StandBelow (node_at nodes) taken.high → clean.high ≡ taken.high → IsTended nodes clean
-tended_after nodes taken clean none stand high = record {
-  untouched = none;
-  stand = subst (λ (h : ℕ). StandBelow (node_at nodes) h) (sym high) stand;
-}
+-- the boxes of a cache that was cleaned after a list was taken
+pub boxes_after : (was nodes : Nodes) (before taken clean : CacheState) → AreNoted (node_at was) (noted_at taken) → AreBoxesOf (node_at was) (box_at before)
+    → ((k : ℕ) → box_at taken k ≡ box_at before k) → ChangesAreTouched (node_at was) (node_at nodes) (touched_at taken)
+    → (AreBoxesOf (node_at was) (box_at taken) → ChangesAreTouched (node_at was) (node_at nodes) (touched_at taken) → AreNoted (node_at was) (noted_at taken) → AreBoxesOf (node_at nodes) (box_at clean))
+    → HasRightBoxes (record { nodes = nodes; boxes = clean.boxes })
+boxes_after was nodes before taken clean noted right same told cleans = record { each = (cleans (boxes_still was (box_at before) (box_at taken) right same) told noted).each }
 
 -- the copy before the first list: its one node is touched, and the boxes are brought to it
 pub record Opened (nodes : Nodes) (clean : CacheState) : Type 0 where
@@ -190,19 +167,20 @@ pub record Opened (nodes : Nodes) (clean : CacheState) : Type 0 where
   pub tended : IsTended nodes clean
 
 pub opened : (nodes : Nodes) (fresh touched clean : CacheState) → nodes ≡ ((0, scene_node) ∷ []) → ((k : ℕ) → box_at fresh k ≡ None) → ((k : ℕ) → box_at touched k ≡ box_at fresh k)
-    → ((k : ℕ) → touched_at touched k ≡ (k == 0 || touched_at fresh k)) → touched.high ≡ max fresh.high (0 + 1)
-    → ((was : Look) → AreBoxesOf was (box_at touched) → ChangesAreTouched was (node_at nodes) (touched_at touched) → StandBelow was touched.high → KeepsLimits (node_at nodes) → AreBoxesOf (node_at nodes) (box_at clean))
-    → ((k : ℕ) → touched_at clean k ≡ false) → clean.high ≡ touched.high → Opened nodes clean
-opened nodes fresh touched clean lone none same touches rises cleans untouched high = record {
+    → ((k : ℕ) → touched_at touched k ≡ (k == 0 || touched_at fresh k))
+    → ((was : Look) → AreBoxesOf was (box_at touched) → ChangesAreTouched was (node_at nodes) (touched_at touched) → AreNoted was (noted_at touched) → KeepsLimits (node_at nodes) → AreBoxesOf (node_at nodes) (box_at clean))
+    → ((was : Look) → ChangesAreTouched was (node_at nodes) (touched_at touched) → AreNoted was (noted_at touched) → AreNoted (node_at nodes) (noted_at clean))
+    → ((k : ℕ) → touched_at clean k ≡ false) → Opened nodes clean
+opened nodes fresh touched clean lone none same touches cleans notes untouched = record {
   right =
-      boxes_after [] nodes fresh touched clean (λ k l. refl) (record { each = λ k. none k ∙ sym (none_box (node_at []) k refl) })
-      same told (let l : fresh.high ≤ max fresh.high (0 + 1) = le-max_left fresh.high (0 + 1) in subst (λ (h : ℕ). fresh.high ≤ h) (sym rises) l)
-      (λ right changed stand. cleans (node_at []) right changed stand limits);
-  tended =
-      tended_after nodes touched clean untouched
-      (subst (λ (h : ℕ). StandBelow (node_at nodes) h) (sym rises) (stand_more [] nodes 0 fresh.high (Some scene_node) looks (λ k l. refl))) high;
+      boxes_after [] nodes fresh touched clean bare (record { each = λ k. none k ∙ sym (none_box (node_at []) k refl) }) same told
+      (λ right changed noted. cleans (node_at []) right changed noted limits);
+  tended = record { untouched = untouched; noted = notes (node_at []) told bare };
 }
   where
+    bare : AreNoted (node_at []) (noted_at touched)
+    bare = record { none = λ k e. refl }
+
     looks : (k : ℕ) → node_at nodes k ≡ cond (k == 0) (Some scene_node) None
     looks k = ap (λ (ns : Nodes). node_at ns k) lone ∙ node_at_step k (0, scene_node) [] ∙ ap (λ b. cond b (Some scene_node) None) (eq_turned 0 k)
 

@@ -6,7 +6,7 @@ use Rattle.pf_model.specs.declared.nodes.Node.{Node}
 use Rattle.pf_model.specs.Graphs.{Nodes, node_at}
 use Rattle.pf_model.specs.Copies.{UpdateList}
 use Rattle.pf_model.specs.Boxes.{box_of}
-use Rattle.bound_cache.specs.Caches.{CacheState, touched_at, StandBelow}
+use Rattle.bound_cache.specs.Caches.{CacheState, touched_at, noted_at, AreNoted}
 
 -- The nodes of the copy and the box that is kept for each id.
 pub record CopyState : Type 0 where
@@ -21,10 +21,10 @@ boxes_of c id = slice_index_or c.boxes id None
 pub record HasRightBoxes (c : CopyState) : Type 0 where
   pub each : (id : ℕ) → boxes_of c id ≡ box_of (node_at c.nodes) id
 
--- between two update lists no id is touched, and all nodes stand where a clean looks for them
+-- between two update lists no id is touched, and each node whose box is made of others is noted
 pub record IsTended (nodes : Nodes) (cache : CacheState) : Type 0 where
   pub untouched : (id : ℕ) → touched_at cache id ≡ false
-  pub stand : StandBelow (node_at nodes) cache.high
+  pub noted : AreNoted (node_at nodes) (noted_at cache)
 
 -- an update list names the id
 abbrev pub is_named : ℕ → UpdateList → Bool

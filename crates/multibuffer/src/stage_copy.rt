@@ -3,7 +3,7 @@ ghost use Rattle.std.specs.Prelude.{◌≡◌, ℕ, ◌≤◌, Bool, true, false
 ghost use Rattle.pf_model.specs.Graphs.{Look, node_at};
 ghost use Rattle.pf_model.specs.Limits.{KeepsLimits};
 ghost use Rattle.pf_model.specs.Copies.{UpdateList, updated_by, updates_of, copy_of};
-ghost use Rattle.bound_cache.specs.Caches.{box_at, touched_at, is_geode_at, AreBoxesOf, ChangesAreTouched, StandBelow, IsCalm};
+ghost use Rattle.bound_cache.specs.Caches.{box_at, touched_at, noted_at, is_geode_at, AreBoxesOf, ChangesAreTouched, AreNoted, IsCalm};
 ghost use Rattle.multibuffer.specs.StageCopies.{is_named, boxes_of, HasRightBoxes};
 
 use crate::node_table::NodeTable;
@@ -47,8 +47,7 @@ fn take_all(nodes: &mut NodeTable, cache: &mut BoxCache, updates: &mut Updates)
     ensures updates { updates.new ≡ updates_of (node_at nodes.old) (map (λ e. e.0) updates.old) }
     ensures boxes { (k : ℕ) → box_at cache.new k ≡ box_at cache.old k }
     ensures touched { (k : ℕ) → touched_at cache.new k ≡ is_named k updates.old }
-    ensures higher { cache.old.high ≤ cache.new.high }
-    ensures stand { StandBelow (node_at nodes.old) cache.old.high → StandBelow (node_at nodes.new) cache.new.high }
+    ensures noted { (k : ℕ) → noted_at cache.new k ≡ false → noted_at cache.old k ≡ false }
 {
     for i in 0..updates.len() {
         let id = nodes.take_entry(updates, i);
@@ -59,14 +58,15 @@ fn take_all(nodes: &mut NodeTable, cache: &mut BoxCache, updates: &mut Updates)
 /// Brings the boxes to the nodes.
 fn refresh(cache: &mut BoxCache, nodes: &NodeTable)
     ensures right { (was : Look) → AreBoxesOf was (box_at cache.old)
-        → ChangesAreTouched was (node_at nodes.now) (touched_at cache.old) → StandBelow was cache.old.high
+        → ChangesAreTouched was (node_at nodes.now) (touched_at cache.old) → AreNoted was (noted_at cache.old)
         → KeepsLimits (node_at nodes.now) → AreBoxesOf (node_at nodes.now) (box_at cache.new) }
+    ensures noted { (was : Look) → ChangesAreTouched was (node_at nodes.now) (touched_at cache.old)
+        → AreNoted was (noted_at cache.old) → AreNoted (node_at nodes.now) (noted_at cache.new) }
     ensures kept { (id : ℕ) → is_geode_at (node_at nodes.now) id ≡ true → touched_at cache.old id ≡ false
         → box_at cache.new id ≡ box_at cache.old id }
     ensures calm { (calm : ℕ → Bool) → IsCalm (node_at nodes.now) (touched_at cache.old) calm
         → (id : ℕ) → calm id ≡ true → box_at cache.new id ≡ box_at cache.old id }
     ensures untouched { (id : ℕ) → touched_at cache.new id ≡ false }
-    ensures high { cache.new.high ≡ cache.old.high }
 {
     cache.clean(nodes);
 }
