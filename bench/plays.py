@@ -280,6 +280,14 @@ def empty(frames=0):
     return header(1, 1) + ["frame"] * frames
 
 
+def parked(frames=0):
+    """The town of `city` in pictures of one pixel that see none of it, while a car moves."""
+    lines = ["size 1 1" if line.startswith("size") else line for line in city(0)]
+    for k in range(frames):
+        lines += [f"trans 200 {k % 100 * UNIT} 0 0", f"view 0 0 {-5000 * UNIT} 0 -900 0", "frame"]
+    return lines
+
+
 def merges(count=0):
     """A frame of one pixel, and merges of nothing."""
     return header(1, 1) + ["frame", "dbase"] + ["buffer", "merge"] * count
@@ -336,8 +344,8 @@ def instances(size=1024):
     return lines + ["frame"]
 
 
-PLAYS = {play.__name__: play for play in (flight, city, town, traffic, signs, fill, edits, empty, merges, children, waiting,
-                                          large, instances)}
+PLAYS = {play.__name__: play for play in (flight, city, town, traffic, signs, fill, edits, empty, parked, merges, children,
+                                          waiting, large, instances)}
 
 
 def main():
