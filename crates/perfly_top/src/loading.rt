@@ -10,9 +10,10 @@ ghost use Rattle.perfly_top.specs.declared.stop.Stop.TheVariants as stop;
 
 use crate::stop::Stop;
 use pf_io::{Source, read_all};
-use play_format::{Play, parse};
+use play_format::{Play, parse_beside};
 use play_gen::make_play;
 use std::alloc::Global;
+use std::thread::Threads;
 
 /// The bytes of the source, to its end or to the limit.
 fn read_input<I: Source>(alloc: Global, input: &mut I) -> Result<Vec<u8>, Stop>
@@ -25,17 +26,21 @@ fn read_input<I: Source>(alloc: Global, input: &mut I) -> Result<Vec<u8>, Stop>
 }
 
 /// The play that bytes spell.
-fn play_of(alloc: Global, bytes: &[u8]) -> Result<Play, Stop>
+fn play_of<R: Threads + Sync>(alloc: Global, rt: &R, bytes: &[u8]) -> Result<Play, Stop>
     ensures found { IfOk result (λ p. Reads bytes.now p) }
     ensures refused { (r : Refusal) → result ≡ Err (stop.Refused r)
         → (first_refusal bytes.now ≡ Some r) × ¬ HasReading bytes.now }
     ensures causes { (s : Stop) → result ≡ Err s → ((r : Refusal) × (s ≡ stop.Refused r)) ⊎ (s ≡ stop.NoMemory) }
 {
-    Ok(parse(alloc, bytes)?)
+    Ok(parse_beside(rt, alloc, bytes)?)
 }
 
 /// The play that the source spells.
-fn read_play<I: Source>(alloc: Global, input: &mut I) -> Result<Play, Stop>
+fn read_play<R: Threads + Sync, I: Source>(
+    alloc: Global,
+    rt: &R,
+    input: &mut I,
+) -> Result<Play, Stop>
     ensures spelled { IfOk result (λ p. IfSome (I.left input.old) (λ text. Reads text p)) }
     ensures read { OnOk result (IsReadFor None (I.left input.old) (I.left input.new)) }
     ensures why { IfErr result (λ s. HasNoPlay None (I.left input.old) (I.left input.new) s) }
@@ -43,12 +48,13 @@ fn read_play<I: Source>(alloc: Global, input: &mut I) -> Result<Play, Stop>
     ensures calm { result ≢ Err stop.ReadFault → Calm (I.faults input.old) (I.faults input.new) }
 {
     let bytes = read_input(alloc, input)?;
-    play_of(alloc, bytes.as_slice())
+    play_of(alloc, rt, bytes.as_slice())
 }
 
 /// The play of a call: made from the number, where there is one, and else the one that the source spells.
-pub(crate) fn given_play<I: Source>(
+pub(crate) fn given_play<R: Threads + Sync, I: Source>(
     alloc: Global,
+    rt: &R,
     make: Option<u16>,
     input: &mut I,
 ) -> Result<Play, Stop>
@@ -63,6 +69,6 @@ pub(crate) fn given_play<I: Source>(
 {
     match make {
         Some(n) => Ok(make_play(alloc, u32::from(n))?),
-        None => read_play(alloc, input),
+        None => read_play(alloc, rt, input),
     }
 }

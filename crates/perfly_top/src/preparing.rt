@@ -16,6 +16,7 @@ use play_check::stuck;
 use play_format::Play;
 use program_words::{Words, read_words};
 use std::alloc::Global;
+use std::thread::Threads;
 
 /// A play that can end, and the words that say how it is played.
 #[derive(Drop)]
@@ -39,8 +40,9 @@ fn right_words(alloc: Global, words: &[String]) -> Result<Words, Stop>
 }
 
 /// The play that the words and the source give, where it can end; else why there is none.
-pub(crate) fn prepared<I: Source>(
+pub(crate) fn prepared<R: Threads + Sync, I: Source>(
     alloc: Global,
+    rt: &R,
     words: &[String],
     input: &mut I,
 ) -> Result<Task, Stop>
@@ -57,7 +59,7 @@ pub(crate) fn prepared<I: Source>(
     ensures calm { result ≢ Err stop.ReadFault → Calm (I.faults input.old) (I.faults input.new) }
 {
     let words = right_words(alloc, words)?;
-    let play = given_play(alloc, words.make, input)?;
+    let play = given_play(alloc, rt, words.make, input)?;
     match stuck(&play) {
         Some((app, dbase)) => Err(Stop::Stuck(app, dbase)),
         None => Ok(Task { words, play }),

@@ -140,7 +140,7 @@ pub fn perfly<
     ensures due { IsDue (meaning_of_words (map string_bytes words.now)) (I.left input.old) result.status }
     ensures made { IsDueMade (meaning_of_words (map string_bytes words.now)) result.status }
 {
-    match prepared(alloc, words, input) {
+    match prepared(alloc, rt, words, input) {
         Err(stop) => stopped(report, stop, History::new(alloc)),
         Ok(task) => played(alloc, rt, task, frames, report, gate),
     }

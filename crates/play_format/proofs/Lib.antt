@@ -4,6 +4,7 @@ pub mod LineLemmas
 pub mod ReadingLemmas
 pub mod EntryLemmas
 pub mod ReaderLemmas
+pub mod EarlyLemmas
 pub mod SameLemmas
 pub mod BackLemmas
 pub mod MadeLemmas

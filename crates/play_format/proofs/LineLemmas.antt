@@ -1,5 +1,5 @@
 -- Cutting a text at the first byte of a kind.
-use Rattle.std.proofs.Common.{◌≡◌, ℕ, ◌+◌, ◌-◌, ◌≤◌, ◌==◌, arith, refl, sym, true, false, cond, Bool, List, [], ◌∷◌, Option, Some, None, length, take, drop, ltb}
+use Rattle.std.proofs.Common.{◌≡◌, ℕ, ◌+◌, ◌-◌, ◌<◌, ◌≤◌, ◌==◌, arith, refl, sym, true, false, cond, Bool, List, [], ◌∷◌, Option, Some, None, length, take, drop, ltb}
 use Rattle.std.specs.List.{slice_split, position, position_or_len}
 use Rattle.std.proofs.lemmas.List.{take_all, length-drop}
 use Rattle.std.proofs.lemmas.Bool.{ltb-false, ltb-true, le-ltb, lt-ltb, false_from_ne_true}
@@ -26,6 +26,12 @@ pub cut_some : (p : ℕ → Bool) (xs : List ℕ) (i : ℕ) → position p xs �
 cut_some p xs i e =
     let h = is_some_of (ltb (position_or_len p xs) (length xs)) (position_or_len p xs) i e in
     rw (← h.1) (slice_split_first p xs 0 (ltb-true _ _ h.0))
+
+-- the first byte that passes is one of the text
+pub cut_inside : (p : ℕ → Bool) (xs : List ℕ) (i : ℕ) → position p xs ≡ Some i → i < length xs
+cut_inside p xs i e =
+    let h = is_some_of (ltb (position_or_len p xs) (length xs)) (position_or_len p xs) i e in
+    omega (arith, ltb-true _ _ h.0, h.1)
 
 -- all that stands behind a place
 pub rest_is : (xs : List ℕ) (i : ℕ) → take (length xs - i) (drop i xs) ≡ drop i xs

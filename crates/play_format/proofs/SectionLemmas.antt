@@ -28,7 +28,7 @@ use Rattle.play_format.specs.Making.{tri_of, app_step_of, base_step_of}
 use Rattle.play_format.specs.Spelling.{tri_entry, app_lines, base_lines, AreAppNumbered, app_entries, AreBaseNumbered, base_entries}
 use Rattle.play_format.specs.Written.{AreTriangles, IsAppStep, IsBaseStep}
 use Rattle.play_format.specs.Plays.{app_fits, base_fits, opened, open_after}
-use Rattle.play_format.specs.Sections.{Passes, LineRead, IsAt, TrianglesRead, AppStepRead, AppRead, AppSection, IsInBase, place_of, BaseStepRead, BaseRead, BaseSection, is_buffer}
+use Rattle.play_format.specs.Sections.{Passes, LineRead, IsAt, TriangleRead, TrianglesRead, AppStepRead, AppRead, AppSection, IsInBase, place_of, BaseStepRead, BaseRead, BaseSection, is_buffer}
 use Rattle.play_format.proofs.BackLemmas.{tri_back}
 use Rattle.play_format.proofs.EntryLemmas.{both}
 use Rattle.play_format.proofs.MadeLemmas.{AppBack, app_back, app_none, no_triangle, no_number, few_announced, BaseBack, base_back, base_some, stands_in_base}
@@ -78,30 +78,33 @@ written_more [] t h k = k
 written_more (x ∷ ts) t h k = (h.0, written_more ts t h.1 k)
 
 -- a triangle line more
-tri_more : (a b d : Stand) (ts : List Tri) (t : Tri) (c : Command) (zs : List ℤ) → AreTriangles (t ∷ []) → tri_entry t ≡ (c, zs) → c ≡ command.Triangle
-    → TrianglesSoFar a b ts → 0 < b.spot.due → LineRead b d c zs → TrianglesSoFar a d (ts ++ t ∷ [])
+pub triangle_more : (a b d : Stand) (ts : List Tri) (t : Tri) → TrianglesSoFar a b ts → 0 < b.spot.due → TriangleRead b d t → TrianglesSoFar a d (ts ++ t ∷ [])
 unfolding next_spot
-tri_more a b d ts t c zs colours entry is h lt r =
-    let spot : d.spot ≡ next_spot b.spot command.Triangle zs = r.spot ∙ ap (λ (e : Command). next_spot b.spot e zs) is in
+triangle_more a b d ts t h lt r =
+    let spot : d.spot ≡ next_spot b.spot command.Triangle (tri_entry t).1 = r.read.spot in
     let due : d.spot.due ≡ b.spot.due - 1 = ap (λ (s : Spot). s.due) spot in
-    let more : map tri_entry ts ++ (c, zs) ∷ [] ≡ map tri_entry (ts ++ t ∷ []) = ap (λ (e : Entry). map tri_entry ts ++ e ∷ []) (sym entry) ∙ sym (map_push tri_entry ts t) in
+    let more : map tri_entry ts ++ tri_entry t ∷ [] ≡ map tri_entry (ts ++ t ∷ []) = sym (map_push tri_entry ts t) in
     record {
-      told = h.told ∙ ap (with_front (map tri_entry ts)) r.told ∙ front_front (map tri_entry ts) ((c, zs) ∷ []) (unread d.spot d.line d.text) ∙ ap (λ (es : List Entry). with_front es (unread d.spot d.line d.text)) more;
+      told = h.told ∙ ap (with_front (map tri_entry ts)) r.read.told ∙ front_front (map tri_entry ts) (tri_entry t ∷ []) (unread d.spot d.line d.text) ∙ ap (λ (es : List Entry). with_front es (unread d.spot d.line d.text)) more;
       count = omega (arith, length-append ts (t ∷ []), h.count, due, lt);
-      line = omega (arith, length-append ts (t ∷ []), h.line, r.line);
+      line = omega (arith, length-append ts (t ∷ []), h.line, r.read.line);
       version = ap (λ (s : Spot). s.version) spot ∙ h.version;
       channels = ap (λ (s : Spot). s.channels) spot ∙ h.channels;
       place = ap (λ (s : Spot). s.place) spot ∙ h.place;
-      written = written_more ts t h.written colours;
-      not_longer = omega (arith, h.not_longer, r.shorter);
+      written = written_more ts t h.written r.written;
+      not_longer = omega (arith, h.not_longer, r.read.shorter);
     }
 
-pub triangle_more : (a b d : Stand) (ts : List Tri) (c : Command) (zs : List ℤ) → TrianglesSoFar a b ts → 0 < b.spot.due → LineRead b d c zs → TrianglesSoFar a d (ts ++ tri_of zs ∷ [])
-triangle_more a b d ts c zs h lt r =
-    let is : c ≡ command.Triangle = due_line b.spot c lt r.fits.stands in
-    let within : AreWithin (limits_of 0 command.Triangle) zs = subst (λ (e : Command). AreWithin (limits_of b.spot.channels e) zs) is r.fits.within in
-    let entry : tri_entry (tri_of zs) ≡ (c, zs) = ap (λ (ys : List ℤ). (command.Triangle, ys)) (tri_back zs within) ∙ ap (λ (e : Command). (e, zs)) (sym is) in
-    tri_more a b d ts (tri_of zs) c zs (record { rows = refl }, tt) entry is h lt r
+-- the triangle of a line that was read where one is due
+pub triangle_read : (a b : Stand) (c : Command) (zs : List ℤ) → 0 < a.spot.due → LineRead a b c zs → TriangleRead a b (tri_of zs)
+triangle_read a b c zs lt r =
+    let is : c ≡ command.Triangle = due_line a.spot c lt r.fits.stands in
+    let within : AreWithin (limits_of 0 command.Triangle) zs = subst (λ (e : Command). AreWithin (limits_of a.spot.channels e) zs) is r.fits.within in
+    let line : LineRead a b command.Triangle zs = subst (λ (e : Command). LineRead a b e zs) is r in
+    record {
+      read = subst (λ (ys : List ℤ). LineRead a b command.Triangle ys) (sym (tri_back zs within)) line;
+      written = (record { rows = refl }, tt);
+    }
 
 -- all triangle lines that were due
 pub triangles_done : (a b : Stand) (ts : List Tri) → TrianglesSoFar a b ts → b.spot.due ≤ 0 → TrianglesRead a b ts

@@ -31,7 +31,7 @@ use Rattle.play_format.specs.Sections.{LineRead, IsAt, TrianglesRead, StartRead,
 use Rattle.play_format.specs.Reads.{HasReading, first_refusal}
 use Rattle.play_format.proofs.EntryLemmas.{bind_ok, fits_of, channels_within}
 use Rattle.play_format.proofs.ReaderLemmas.{unread_end, unread_line, unread_more, line_read}
-use Rattle.play_format.proofs.SectionLemmas.{TrianglesSoFar, no_triangles, triangle_more, triangles_done, AppSoFar, no_steps, app_step_read, app_section_read, app_more, app_ends, app_stops, BaseSoFar, no_base_steps, base_step_read, base_no_step, base_more, base_stops, closed_end}
+use Rattle.play_format.proofs.SectionLemmas.{TrianglesSoFar, no_triangles, triangle_more, triangle_read, triangles_done, AppSoFar, no_steps, app_step_read, app_section_read, app_more, app_ends, app_stops, BaseSoFar, no_base_steps, base_step_read, base_no_step, base_more, base_stops, closed_end}
 use Rattle.play_format.proofs.HeaderLemmas.{no_end, at_behind, size_read, lens_read, back_read, app_read, channels_read, not_channels, header_read, one_piece, too_long, first_read}
 use Rattle.play_format.proofs.LawLemmas.{some_channels, few_channels}
 use Rattle.play_format.proofs.PlayLemmas.{read_app, read_both}
@@ -166,7 +166,7 @@ triangles_from zero a b ts es e h l = record { after = b; triangles = ts; more =
 triangles_from (suc n) a b ts [] e h l = let yes = left_none b l in let no = due_ends b.spot n e in absurd cc
 triangles_from (suc n) a b ts (x ∷ es) e h l =
     let t = take_line b x es l in
-    let more = triangle_more a b t.after ts x.0 x.1 h (omega (arith, e)) t.line in
+    let more = triangle_more a b t.after ts (tri_of x.1) h (omega (arith, e)) (triangle_read b t.after x.0 x.1 (omega (arith, e)) t.line) in
     let due : t.after.spot.due ≡ n = omega (arith, e, h.count, more.count, length-append ts (tri_of x.1 ∷ [])) in
     let r = triangles_from n a t.after (ts ++ tri_of x.1 ∷ []) es due more t.left in
     record { after = r.after; triangles = r.triangles; more = r.more; read = r.read; left = r.left; fewer = omega (arith, r.fewer) }

@@ -11,6 +11,7 @@ pub mod Reads
 pub mod Messages
 -- States of the reader and the writer, of which no public clause speaks.
 pub mod Rests
+pub mod Early
 pub mod Making
 pub mod Texts
 pub mod Sections

@@ -48,6 +48,11 @@ pub record IsAt (p : Place) (a : Stand) : Type 0 where
   pub place : a.spot.place ≡ p
   pub settled : a.spot.due ≡ 0
 
+-- a triangle line was read
+pub record TriangleRead (a b : Stand) (t : Tri) : Type 0 where
+  pub read : LineRead a b command.Triangle (tri_entry t).1
+  pub written : AreTriangles (t ∷ [])
+
 -- all triangle lines that were due
 pub record TrianglesRead (a b : Stand) (ts : List Tri) : Type 0 where
   pub passes : Passes a b (map tri_entry ts)

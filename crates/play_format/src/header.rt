@@ -5,6 +5,7 @@ ghost use Rattle.play_format.specs.Outcomes.{Refuses};
 ghost use Rattle.play_format.specs.Places.{may_end, start};
 ghost use Rattle.play_format.specs.Grammar.{reading, with_version, judged_version};
 ghost use Rattle.play_format.specs.Rests.{unread};
+ghost use Rattle.play_format.specs.Early.{IsEnd};
 ghost use Rattle.play_format.specs.Sections.{stand_of, unread_by, LineRead, Passes, IsAt, IsSize, StartRead, HeaderRead};
 ghost use Rattle.play_format.specs.declared.commands.Command.TheVariants as command;
 ghost use Rattle.play_format.specs.declared.places.Place.TheVariants as place;
@@ -106,7 +107,7 @@ pub fn header(reader: &mut Reader, numbers: &mut Vec<i32>) -> Result<(Lens, [u8;
 /// Reads the first line of a text: the version, and what is left behind it.
 pub fn version(text: &[u8]) -> Result<(Version, &[u8]), ParseError>
     ensures { MatchResult result
-        (λ r. reading text.now ≡ with_version r.0 (unread (start r.0) 2 r.1.now))
+        (λ r. (reading text.now ≡ with_version r.0 (unread (start r.0) 2 r.1.now)) × IsEnd text.now r.1.now)
         (λ e. Refuses e (reading text.now)) }
 {
     if text.len() > MAX_PLAY_BYTES {

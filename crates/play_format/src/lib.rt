@@ -2,6 +2,7 @@
 #![tactic(auto)]
 
 mod commands;
+mod early;
 mod edits;
 mod header;
 mod making;
@@ -16,7 +17,7 @@ mod sections;
 mod spelling;
 mod words;
 
-pub use parser::{one_reading, parse};
+pub use parser::{one_reading, parse, parse_beside};
 pub use play::Play;
 pub use refusal::{ParseError, Refusal, Why};
 pub use spelling::append_edit;

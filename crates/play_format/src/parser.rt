@@ -1,10 +1,13 @@
 //! Reading a play.
 ghost use Rattle.std.specs.Prelude.{◌≡◌, ℕ, List, None, IfOk, IfErr, MatchResult};
+ghost use Rattle.std.specs.List.{All};
+ghost use Rattle.play_format.specs.Early.{IsEarly};
 ghost use Rattle.play_format.specs.Outcomes.{Refuses, ReadAs};
 ghost use Rattle.play_format.specs.Grammar.{reading};
 ghost use Rattle.play_format.specs.Reads.{Reads, HasReading, first_refusal, Gives, IsRefusal};
 ghost use Rattle.play_format.specs.Plays.{Script};
 
+use crate::early::{Early, early_lines};
 use crate::header::{header, version};
 use crate::places::Spot;
 use crate::play::Play;
@@ -12,9 +15,11 @@ use crate::reader::Reader;
 use crate::refusal::ParseError;
 use crate::sections::{app_section, base_section};
 use std::alloc::Global;
+use std::thread::Threads;
 
-/// Reads a play line by line.
-fn read_play(alloc: Global, bytes: &[u8]) -> Result<Play, ParseError>
+/// Reads a play line by line, but for the triangle lines that were read before.
+fn read_play(alloc: Global, bytes: &[u8], early: &[Vec<Early>]) -> Result<Play, ParseError>
+    requires { All (λ part. All (IsEarly bytes.now) part.items) early.now }
     ensures { MatchResult result (λ p. ReadAs bytes.now p) (λ e. Refuses e (reading bytes.now)) }
 {
     let (version, rest) = version(bytes)?;
@@ -22,6 +27,9 @@ fn read_play(alloc: Global, bytes: &[u8]) -> Result<Play, ParseError>
         rest,
         line: 2,
         spot: Spot::start(version),
+        text: bytes,
+        early,
+        passed: 0,
     };
     let mut numbers = Vec::new(alloc);
     let mut corners = Vec::new(alloc);
@@ -45,7 +53,24 @@ pub fn parse(alloc: Global, bytes: &[u8]) -> Result<Play, ParseError>
     // A text is refused only where it spells no play, by its first wrong line.
     ensures refused { IfErr result (λ e. IsRefusal e bytes.now) }
 {
-    read_play(alloc, bytes)
+    read_play(alloc, bytes, &[])
+}
+
+/// Reads a play as `parse` does, the triangle lines of a long one in a thread for each processor.
+pub fn parse_beside<R: Threads + Sync>(
+    rt: &R,
+    alloc: Global,
+    bytes: &[u8],
+) -> Result<Play, ParseError>
+    // What is read is spelled so.
+    ensures found { IfOk result (λ p. Reads bytes.now p) }
+    // A text that spells a play is read as that play, unless memory runs out.
+    ensures only { (p : Script) → Reads bytes.now p → Gives result p }
+    // A text is refused only where it spells no play, by its first wrong line.
+    ensures refused { IfErr result (λ e. IsRefusal e bytes.now) }
+{
+    let early = early_lines(rt, alloc, bytes);
+    read_play(alloc, bytes, early.as_slice())
 }
 
 /// A text spells at most one play, and it spells one exactly where it has no wrong line.

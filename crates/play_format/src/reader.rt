@@ -1,15 +1,19 @@
 //! The lines of a play, one after the other.
-ghost use Rattle.std.specs.Prelude.{◌≡◌, ◌+◌, ◌<◌, ◌≤◌, [], ◌∷◌, length, Ok, IfOk, IfSome, IfNone, IsTrue, OnOk, MatchResult, MatchOption};
+ghost use Rattle.std.specs.Prelude.{◌≡◌, ◌+◌, ◌<◌, ◌≤◌, ◌^◌, [], ◌∷◌, length, Ok, IfOk, IfSome, IfNone, IsTrue, OnOk, MatchResult, MatchOption};
 ghost use Rattle.play_format.specs.Outcomes.{Refuses};
 ghost use Rattle.play_format.specs.Places.{may_end, next_spot, Fits};
 ghost use Rattle.play_format.specs.Grammar.{entry_at, line_at, end_at};
 ghost use Rattle.play_format.specs.Rests.{IsSound, with_front};
+ghost use Rattle.play_format.specs.Early.{IsEarly, IsEnd};
+ghost use Rattle.std.specs.List.{All};
 
 use crate::commands::Command;
+use crate::early::Early;
 use crate::places::Spot;
 use crate::reading::read_line;
 use crate::refusal::{ParseError, Refusal, Why};
 use crate::words::cut;
+use pf_model::Tri;
 
 /// The most lines of a play.
 const MAX_LINES: u32 = 262_144;
@@ -25,8 +29,15 @@ pub struct Reader<'a> {
     /// The number of its first line.
     pub line: u32,
     pub spot: Spot,
+    /// The whole text.
+    pub text: &'a [u8],
+    /// The triangle lines that were read before their turn, in parts, and how many of the first part were passed.
+    pub early: &'a [Vec<Early>],
+    pub passed: usize,
     ghost sound: { IsSound spot },
     ghost few: { line ≤ 262145 },
+    ghost end: { IsEnd text.now rest.now },
+    ghost lines: { All (λ part. All (IsEarly text.now) part.items) early.now },
 }
 
 fn refused<T>(line: u32, why: Why) -> Result<T, ParseError>
@@ -36,7 +47,7 @@ fn refused<T>(line: u32, why: Why) -> Result<T, ParseError>
 }
 
 impl Reader<'_> {
-    ghost use Rattle.play_format.specs.Sections.{unread_by};
+    ghost use Rattle.play_format.specs.Sections.{unread_by, stand_of, TriangleRead};
 
     /// Reads the next line, with its numbers in place of what `numbers` holds; None where the play ends.
     pub fn next(&mut self, numbers: &mut Vec<i32>) -> Result<Option<Command>, ParseError>
@@ -65,6 +76,44 @@ impl Reader<'_> {
         self.rest = rest;
         self.line += 1;
         Ok(Some(command))
+    }
+
+    /// The triangle of the next line, where that was read before its turn.
+    pub fn early_triangle(&mut self) -> Option<Tri>
+        requires { 0 < self.old.spot.due }
+        ensures { MatchOption result
+            (stand_of self.new ≡ stand_of self.old)
+            (λ tri. TriangleRead (stand_of self.old) (stand_of self.new) tri) }
+    {
+        if self.line > MAX_LINES {
+            return None;
+        }
+        let early = self.next_early()?;
+        if early.at != self.rest.len() {
+            return None;
+        }
+        self.passed += 1;
+        self.rest = &self.text[self.text.len() - early.behind..];
+        self.spot = self.spot.next(Command::Triangle, &[]);
+        self.line += 1;
+        Some(early.tri)
+    }
+
+    /// The next of the triangle lines that were read before their turn.
+    fn next_early(&mut self) -> Option<Early>
+        ensures stays { stand_of self.new ≡ stand_of self.old }
+        ensures early { IfSome result (λ e. IsEarly self.new.text.now e) }
+        ensures passed { IfSome result (λ _. self.new.passed < 2 ^ 63) }
+    {
+        while !self.early.is_empty() {
+            let part = &self.early[0];
+            if self.passed < part.len() {
+                return Some(part[self.passed]);
+            }
+            self.early = &self.early[1..];
+            self.passed = 0;
+        }
+        None
     }
 
     /// The command of a line, with its numbers in place of what `numbers` holds.

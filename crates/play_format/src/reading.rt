@@ -70,7 +70,7 @@ fn words_in(channels: u8, command: Command) -> usize
 }
 
 /// Reads as many numbers as there are limits, in place of what `numbers` holds, and returns what is left of the line.
-fn read_numbers<'a>(
+pub fn read_numbers<'a>(
     numbers: &mut Vec<i32>,
     rest: Option<&'a [u8]>,
     limits: &[Limits],

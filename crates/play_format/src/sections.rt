@@ -1,7 +1,7 @@
 //! The two sections of a play, step by step.
-ghost use Rattle.std.specs.Prelude.{◌≡◌, ◌+◌, ◌≤◌, Bool, MatchResult, length};
+ghost use Rattle.std.specs.Prelude.{◌≡◌, ◌+◌, ◌<◌, ◌≤◌, Bool, MatchResult, length};
 ghost use Rattle.play_format.specs.Outcomes.{Refuses};
-ghost use Rattle.play_format.specs.Sections.{stand_of, unread_by, TrianglesRead, IsAt, IsInBase, AppTurn, AppSection, BaseTurn, BaseSection};
+ghost use Rattle.play_format.specs.Sections.{stand_of, unread_by, TriangleRead, TrianglesRead, IsAt, IsInBase, AppTurn, AppSection, BaseTurn, BaseSection};
 ghost use Rattle.play_format.specs.declared.places.Place.TheVariants as place;
 
 use crate::making::{app_step_of, base_step_of, tri_of};
@@ -21,6 +21,22 @@ pub enum Turn<T> {
     End,
 }
 
+/// The triangle of the next line, where one is due, which was read before its turn or is read now.
+fn triangle(reader: &mut Reader, corners: &mut Vec<i32>) -> Result<Tri, ParseError>
+    requires { 0 < reader.old.spot.due }
+    ensures { MatchResult result
+        (λ tri. TriangleRead (stand_of reader.old) (stand_of reader.new) tri)
+        (λ e. Refuses e (unread_by reader.old)) }
+{
+    if let Some(tri) = reader.early_triangle() {
+        return Ok(tri);
+    }
+    match reader.next(corners)? {
+        Some(_) => Ok(tri_of(corners)),
+        None => unreachable!(),
+    }
+}
+
 /// Reads the triangle lines that are due. `corners` is room for the numbers of one.
 fn triangles(
     alloc: Global,
@@ -32,11 +48,9 @@ fn triangles(
         (λ e. Refuses e (unread_by reader.old)) }
 {
     let mut tris = Vec::new(alloc);
+    tris.reserve_exact(reader.spot.due as usize)?;
     while reader.spot.due > 0 {
-        match reader.next(corners)? {
-            Some(_) => tris.push(tri_of(corners))?,
-            None => unreachable!(),
-        }
+        tris.push(triangle(reader, corners)?)?;
     }
     Ok(tris)
 }

@@ -2,6 +2,7 @@
 ghost use Rattle.std.specs.Prelude.{◌≡◌, ◌+◌, ◌<◌, ◌^◌, ◌==◌, [], ◌∷◌, length, count_by, MatchOption, IfSome};
 ghost use Rattle.std.specs.List.{slice_split, position};
 ghost use Rattle.play_format.specs.Words.{words};
+ghost use Rattle.play_format.specs.Early.{IsEnd};
 ghost use Rattle.play_format.specs.Rests.{left_words};
 
 use memchr::memchr;
@@ -12,6 +13,7 @@ pub fn cut(text: &[u8], byte: u8) -> Option<(&[u8], &[u8])>
         (slice_split (λ b. b == byte) text.now ≡ text.now ∷ [])
         (λ x. slice_split (λ b. b == byte) text.now ≡ x.0.now ∷ slice_split (λ b. b == byte) x.1.now) }
     ensures shorter { IfSome result (λ x. length x.0.now + length x.1.now + 1 ≡ length text.now) }
+    ensures end { IfSome result (λ x. IsEnd text.now x.1.now) }
 {
     match place_of(text, byte) {
         None => None,

@@ -1,5 +1,6 @@
 //! Texts that are no plays.
-use play_format::{ParseError, Refusal, Why, parse};
+use pf_model::{AppStep, Edit, Kind, Tri};
+use play_format::{ParseError, Play, Refusal, Why, parse, parse_beside};
 use std::alloc::{AllocError, Global};
 use std::process::Abort;
 use std::test::Fail;
@@ -199,5 +200,60 @@ fn other_refusals(rt: HostRuntime) -> Result<(), Fail> {
             "{rest}"
         );
     }
+    Ok(())
+}
+
+/// A play of 180 KB with 4,000 triangles, each of which has its number for its first coordinate. The last word of the last
+/// triangle is `colour`.
+fn long_text(alloc: Global, colour: &str) -> Result<String, AllocError> {
+    let mut text = String::new(alloc);
+    text.push_str(FIRST)?;
+    text.push_str("geode 1 0 4000\n")?;
+    for k in 0..4_000 {
+        let last = if k == 3_999 { colour } else { "90" };
+        let line = format!(in alloc;
+            "t {k} 1000 -1000 10 20 30 2000 3000 4000 40 50 60 5 6 7 70 80 {last}\n"
+        )?;
+        text.push_str(line.as_str())?;
+    }
+    Ok(text)
+}
+
+/// The triangles that a play makes first.
+fn first_triangles(play: &Play) -> &[Tri] {
+    match play.app().first() {
+        Some(line) => match &line.step {
+            AppStep::Edit(
+                Edit::Make {
+                    kind: Kind::Geode { geom, .. },
+                    ..
+                },
+            ) => geom.as_slice(),
+            _ => &[],
+        },
+        None => &[],
+    }
+}
+
+#[test]
+fn triangles_read_beside_each_other(rt: HostRuntime) -> Result<(), Fail> {
+    let alloc = rt.alloc();
+    let text = long_text(alloc, "90")?;
+    let play = parse_beside(&rt, alloc, text.as_bytes())?;
+    let triangles = first_triangles(&play);
+    assert_eq!(rt; triangles.len(), 4_000);
+    for (k, triangle) in triangles.iter().enumerate() {
+        assert_eq!(rt; usize::try_from(triangle.v[0].x).ok(), Some(k));
+    }
+    let text = long_text(alloc, "256")?;
+    let refused = match parse_beside(&rt, alloc, text.as_bytes()) {
+        Err(ParseError::Refused(refusal)) => Some(refusal),
+        _ => None,
+    };
+    let last = Refusal {
+        line: 4_006,
+        why: Why::Range,
+    };
+    assert_eq!(rt; refused, Some(last));
     Ok(())
 }

@@ -16,7 +16,7 @@ pub returns-in_default : goal.returns-in_default
 returns-in_default c = one_piece c.args.text.now c.if-text-gt-MAX_PLAY_BYTES.false c.in_default.ensures.parts ∙ ap (λ (why : Why). refusal why) (sym c.unended.ensures)
 
 pub returns-in-Ok : goal.returns-in-Ok
-returns-in-Ok c = first_read c.args.text.now c.in-Some.line.now c.in-Some.rest.now _ c.if-text-gt-MAX_PLAY_BYTES.false c.in-Some.ensures.parts (sym c.in-Ok.ensures)
+returns-in-Ok c = (first_read c.args.text.now c.in-Some.line.now c.in-Some.rest.now _ c.if-text-gt-MAX_PLAY_BYTES.false c.in-Some.ensures.parts (sym c.in-Ok.ensures), c.in-Some.ensures.end)
 
 pub returns-in-Err : goal.returns-in-Err
 returns-in-Err c = first_read c.args.text.now c.in-Some.line.now c.in-Some.rest.now _ c.if-text-gt-MAX_PLAY_BYTES.false c.in-Some.ensures.parts (sym c.in-Err.ensures)

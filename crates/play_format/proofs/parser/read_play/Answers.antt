@@ -19,7 +19,7 @@ returns-then-not-more c =
     let d = stand c.app_section.new.reader.spot c.app_section.new.reader.line c.app_section.new.reader.rest.now in
     let head : HeaderRead (stand (start c.in_ok-version.version) 2 c.in_ok-version.rest.now) b c.in_ok-lens.lens c.in_ok-lens.back = rw (← c.start.ensures) c.in_ok-lens.ensures in
     let section : AppSection b d c.in_ok-app.app.items false = rw c.if-not-more.true at c.in_ok-app.ensures in
-    rw (c.new-then-not-more.ensures, c.new.ensures.items) (read_app c.args.bytes.now c.in_ok-version.rest.now c.in_ok-version.version b d c.in_ok-lens.lens c.in_ok-lens.back c.in_ok-app.app.items c.in_ok-version.ensures head section)
+    rw (c.new-then-not-more.ensures, c.new.ensures.items) (read_app c.args.bytes.now c.in_ok-version.rest.now c.in_ok-version.version b d c.in_ok-lens.lens c.in_ok-lens.back c.in_ok-app.app.items c.in_ok-version.ensures.0 head section)
 
 pub new-requires-2 : goal.new-requires-2
 new-requires-2 c =
@@ -37,4 +37,4 @@ returns c =
     let head : HeaderRead (stand (start c.in_ok-version.version) 2 c.in_ok-version.rest.now) b c.in_ok-lens.lens c.in_ok-lens.back = rw (← c.start.ensures) c.in_ok-lens.ensures in
     let e = stand c.base_section.new.reader.spot c.base_section.new.reader.line c.base_section.new.reader.rest.now in
     let section : AppSection b d c.in_ok-app.app.items true = rw c.if-not-more.false at c.in_ok-app.ensures in
-    rw c.new-2.ensures (read_both c.args.bytes.now c.in_ok-version.rest.now c.in_ok-version.version b d e c.in_ok-lens.lens c.in_ok-lens.back c.in_ok-app.app.items c.in_ok-dbase.dbase.items c.in_ok-version.ensures head section c.in_ok-dbase.ensures)
+    rw c.new-2.ensures (read_both c.args.bytes.now c.in_ok-version.rest.now c.in_ok-version.version b d e c.in_ok-lens.lens c.in_ok-lens.back c.in_ok-app.app.items c.in_ok-dbase.dbase.items c.in_ok-version.ensures.0 head section c.in_ok-dbase.ensures)
