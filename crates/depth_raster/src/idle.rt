@@ -2,15 +2,15 @@
 
 use std::sync::atomic::{AtomicU64, Ordering};
 
-/// How many processors have nothing to do while others are at work for the same picture: they have not begun yet, or have ended
-/// their part. Who takes one makes a thread for it. The picture is the same however many there are.
+/// How many processors have ended their part while others are at work for the same picture. Who takes one makes a thread for it.
+/// The picture is the same however many there are.
 #[derive(Drop)]
 pub(crate) struct Idle(AtomicU64);
 
 impl Idle {
-    /// So many to begin with.
-    pub(crate) fn new(count: u64) -> Idle {
-        Idle(AtomicU64::new(count))
+    /// None yet.
+    pub(crate) fn new() -> Idle {
+        Idle(AtomicU64::new(0))
     }
 
     /// One more.
@@ -18,18 +18,26 @@ impl Idle {
         self.0.fetch_add(1, Ordering::SeqCst);
     }
 
-    /// Takes one, and answers how many there were; 0 where none could be had.
-    pub(crate) fn take(&self) -> u64 {
+    /// Takes one, and answers whether there was one to be had.
+    pub(crate) fn take(&self) -> bool {
         let count = self.0.load(Ordering::SeqCst);
-        if count == 0 {
-            return 0;
+        count != 0 && self.leave(count, count - 1)
+    }
+
+    /// Takes all, and answers how many; 0 where none could be had.
+    pub(crate) fn take_all(&self) -> u64 {
+        let count = self.0.load(Ordering::SeqCst);
+        if count != 0 && self.leave(count, 0) {
+            count
+        } else {
+            0
         }
-        match self
-            .0
-            .compare_exchange(count, count - 1, Ordering::SeqCst, Ordering::SeqCst)
-        {
-            Ok(_) => count,
-            Err(_) => 0,
-        }
+    }
+
+    /// Leaves so many, and answers whether there still were as many as this.
+    fn leave(&self, count: u64, rest: u64) -> bool {
+        self.0
+            .compare_exchange(count, rest, Ordering::SeqCst, Ordering::SeqCst)
+            .is_ok()
     }
 }

@@ -194,7 +194,7 @@ pub(crate) fn flush<R: Threads + Sync>(
 {
     let parts = begin_go(rt, batch, lens, 0);
     let go = batch.go(lens, back, false);
-    draw_strips(rt, &Idle::new(0), parts, &go, strips, &mut []);
+    draw_strips(rt, &Idle::new(), parts, &go, strips, &mut []);
     end_go(batch);
 }
 
@@ -248,7 +248,7 @@ fn draw_into<R: Threads + Sync>(
     ensures pixels { (px py : ℕ) → px < go.now.lens.now.w → py < go.now.lens.now.h
         → pixel image.new px py ≡ colour_at strips.new px py }
 {
-    let idle = Idle::new(0);
+    let idle = Idle::new();
     let mut write = |bytes: &mut [u8]|
         requires { IsSync R.row × IsReady go.now × All (IsStripOf go.now.lens.now) strips.now × AreStacked strips.now
             × (go.now.is_last ≡ true → AreRowsOf go.now.lens.now.w strips.now bytes.now) }

@@ -174,7 +174,8 @@ fn prepare_behind<R: Threads + Sync>(
     let (_, open) = slots.split_at_mut(count);
     prepare(
         rt,
-        &Idle::new(others_to_prepare(rt, waiting.len())),
+        &Idle::new(),
+        others_to_prepare(rt, waiting.len()),
         waiting,
         fresh,
         open,

@@ -113,12 +113,13 @@ fn about_dividend(ready: &Option<tri_cover::Face>) -> f64 {
     }
 }
 
-/// Prepares the pieces of triangles of a list that wait, and their slots, a few after the others. A processor that has nothing to do
-/// gets its share of those that are left.
+/// Prepares the pieces of triangles of a list that wait, and their slots. So many other processors that have nothing to do get their
+/// shares first. The rest is prepared a few after the others; who has nothing to do meanwhile gets its share of those that are left.
 #[cycle(preparing)]
 pub(crate) fn prepare<R: Threads + Sync>(
     rt: &R,
     idle: &Idle,
+    others: u64,
     waiting: &[Waiting],
     pieces: &mut [Piece],
     slots: &mut [Slot],
@@ -136,10 +137,10 @@ pub(crate) fn prepare<R: Threads + Sync>(
         idle.give();
         return;
     }
-    let others = if is_more_to_prepare(waiting.len()) {
-        idle.take()
+    let others = if others == 0 && is_more_to_prepare(waiting.len()) {
+        idle.take_all()
     } else {
-        0
+        others
     };
     let count = next_pieces(waiting.len(), others);
     let (first, later) = waiting.split_at(count);
@@ -148,7 +149,7 @@ pub(crate) fn prepare<R: Threads + Sync>(
     prepare_both(
         rt,
         idle,
-        0 < others,
+        others,
         first,
         later,
         front,
@@ -160,14 +161,15 @@ pub(crate) fn prepare<R: Threads + Sync>(
     );
 }
 
-/// Prepares some pieces and their slots, in a thread of their own or before the others, and the others.
+/// Prepares some pieces and their slots, and those that come later: the first ones in a thread for one of so many other processors,
+/// or before the later ones where there are none.
 #[cycle(preparing)]
 fn prepare_both<R: Threads + Sync>(
     rt: &R,
     idle: &Idle,
-    beside: bool,
+    others: u64,
     first: &[Waiting],
-    others: &[Waiting],
+    later: &[Waiting],
     front: &mut [Piece],
     rest: &mut [Piece],
     front_slots: &mut [Slot],
@@ -176,35 +178,36 @@ fn prepare_both<R: Threads + Sync>(
     lens: &Lens,
 )
     requires some_first { 0 < length first.now }
-    requires some_others { 0 < length others.now }
+    requires some_later { 0 < length later.now }
     requires front_count { length first.now ≡ length front.old }
-    requires rest_count { length others.now ≡ length rest.old }
+    requires rest_count { length later.now ≡ length rest.old }
     requires front_slots { length first.now ≡ length front_slots.old }
-    requires rest_slots { length others.now ≡ length rest_slots.old }
+    requires rest_slots { length later.now ≡ length rest_slots.old }
     requires front { AreThere list.now first.now }
-    requires rest { AreThere list.now others.now }
+    requires rest { AreThere list.now later.now }
     ensures front { ArePrepared list.now lens.now first.now front.new }
-    ensures rest { ArePrepared list.now lens.now others.now rest.new }
+    ensures rest { ArePrepared list.now lens.now later.now rest.new }
     ensures front_slots { AreTaken front.new front_slots.old front_slots.new }
     ensures rest_slots { AreTaken rest.new rest_slots.old rest_slots.new }
 {
-    if !beside {
+    if others == 0 {
         prepare_in_turn(first, front, front_slots, list, lens);
-        prepare(rt, idle, others, rest, rest_slots, list, lens);
+        prepare(rt, idle, 0, later, rest, rest_slots, list, lens);
         return;
     }
+    let more = others - 1;
     let mut one = ||
         requires { IsSync R.row × AreThere list.now first.now × (length first.now ≡ length front.now)
             × (length first.now ≡ length front_slots.now) }
         ensures { ArePrepared list.entry.now lens.entry.now first.entry.now front.exit.now
             × AreTaken front.exit.now front_slots.entry.now front_slots.exit.now }
-    { prepare(rt, idle, first, front, front_slots, list, lens) };
+    { prepare(rt, idle, 0, first, front, front_slots, list, lens) };
     let mut all = ||
-        requires { IsSync R.row × AreThere list.now others.now × (length others.now ≡ length rest.now)
-            × (length others.now ≡ length rest_slots.now) }
-        ensures { ArePrepared list.entry.now lens.entry.now others.entry.now rest.exit.now
+        requires { IsSync R.row × AreThere list.now later.now × (length later.now ≡ length rest.now)
+            × (length later.now ≡ length rest_slots.now) }
+        ensures { ArePrepared list.entry.now lens.entry.now later.entry.now rest.exit.now
             × AreTaken rest.exit.now rest_slots.entry.now rest_slots.exit.now }
-    { prepare(rt, idle, others, rest, rest_slots, list, lens) };
+    { prepare(rt, idle, more, later, rest, rest_slots, list, lens) };
     join_mut(rt, &mut one, &mut all);
 }
 

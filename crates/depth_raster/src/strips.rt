@@ -20,7 +20,7 @@ use crate::shown::show_last;
 use crate::slots::{Slot, sort};
 use crate::strip::Strip;
 use crate::tile::Tile;
-use crate::work::{Layer, end_of_part, is_much_left, work_of_tiles};
+use crate::work::{Layer, end_of_part, end_of_share, is_much_left, work_of_tiles};
 use fx_math::Lens;
 use std::thread::{Threads, join_mut};
 
@@ -135,25 +135,21 @@ fn draw_in_turn<R: Threads + Sync>(
         idle.give();
         return;
     }
-    let beside = is_much_left(strips) && 0 < idle.take();
+    let beside = is_much_left(strips) && idle.take();
     let count = next_strips(strips, beside);
     let (upper, lower) = strips.split_at_mut(count);
     let (above, below) = bytes.split_at_mut(go.bytes_of(count));
     draw_both(rt, idle, beside, go, upper, lower, above, below);
 }
 
-/// How many of some strips are drawn next: half of the work beside the other half, or else one strip.
+/// How many of some strips are drawn next: about half of the work beside the other half, or else one strip.
 fn next_strips(strips: &[Strip], beside: bool) -> usize
     requires { 1 < length strips.now }
     ensures some { 0 < result }
     ensures rest { result < length strips.now }
     ensures one { beside ≡ false → result < 2 }
 {
-    if beside {
-        end_of_part(strips, 2, Layer::Opaque)
-    } else {
-        1
-    }
+    if beside { end_of_share(strips) } else { 1 }
 }
 
 /// Draws a go in some strips, in a thread of their own or, where it is one, before the others, and in the others.

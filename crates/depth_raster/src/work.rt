@@ -1,7 +1,7 @@
 //! How much work it is to draw pieces, and how it is divided among threads. The picture is the same whatever these answer.
 //!
-//! A unit of work is a pixel that is drawn, or of a piece's box where that is not known. One processor does some three million
-//! of the latter in a millisecond, in pictures of towns, where most of them are never looked at.
+//! A unit of work is a pixel that is drawn or painted, some eight nanoseconds; or one of a piece's box where that is not known. One
+//! processor does some three million of the latter in a millisecond, in pictures of towns, where most of them are never looked at.
 
 ghost use Rattle.std.specs.Prelude.{◌<◌, length};
 
@@ -19,26 +19,26 @@ const MUCH_WORK: u64 = 2_621_440;
 /// The parts in which pieces are drawn at most.
 const MOST_PARTS: usize = 4;
 
-/// The work, in pixels that are drawn, that the caller does before a thread that it makes begins: about a tenth of a millisecond.
-const LATE_WORK: u64 = 24_576;
+/// The work, in pixels that are drawn, that who makes a thread does before that begins: about a twentieth of a millisecond.
+const LATE_WORK: u64 = 6_144;
 
 /// The work, in pixels that are drawn, from which on strips are divided again for a processor that has nothing to do.
-const MUCH_LEFT: u64 = 2 * LATE_WORK;
+const MUCH_LEFT: u64 = 3 * LATE_WORK;
 
 /// The work of a piece besides that of its pixels.
 const PIECE_WORK: u64 = 128;
 
 /// The work of a piece in a tile besides that of its pixels there.
-const TILE_WORK: u64 = 48;
+const TILE_WORK: u64 = 12;
 
 /// The work of a slot in a strip besides that of its piece: it is sorted and looked at.
-const SLOT_WORK: u64 = 12;
+const SLOT_WORK: u64 = 5;
 
 /// The work, in pixels of boxes, of a pixel that is put into the image.
 const SHOWN_WORK: u64 = 6;
 
 /// The work of a strip besides that of its pieces.
-const STRIP_WORK: u64 = 1024;
+const STRIP_WORK: u64 = 64;
 
 /// The number of pieces from which on it is worth some threads to prepare them: about a millisecond.
 const MANY_PIECES: usize = 4096;
@@ -99,10 +99,13 @@ pub(crate) fn parts_of<R: Threads>(rt: &R, work: u64) -> usize {
     if work < MUCH_WORK { 1 } else { processors(rt) }
 }
 
-/// About how much work the pieces of slots are, whatever lies before them.
+/// About how much work the pieces of slots are, whatever lies before them; where it is much, no more than that is counted.
 pub(crate) fn work_of_slots(slots: &[Slot]) -> u64 {
     let mut work: u64 = 0;
     for slot in slots {
+        if MUCH_WORK <= work {
+            return work;
+        }
         work = work.saturating_add(work_of_box(slot.left, slot.right, slot.top, slot.bottom));
     }
     work
@@ -187,17 +190,9 @@ pub(crate) fn work_of_tiles(tiles: &[Tile], slots: usize) -> u64 {
     work
 }
 
-/// About how much work it is to paint a tile: a pixel takes twice as long as one that is looked at for a piece, unless its mark is
-/// owed.
+/// About how much work it is to paint a tile.
 fn work_to_paint(tile: &Tile) -> u64 {
-    if tile.blank {
-        return 0;
-    }
-    let area = area_of(&tile.block);
-    match tile.owed {
-        Some(_) => area,
-        None => area.saturating_mul(2),
-    }
+    if tile.blank { 0 } else { area_of(&tile.block) }
 }
 
 /// About how much work it is to draw pieces of glass in a band.
@@ -214,8 +209,8 @@ fn area_of(block: &Block) -> u64 {
     u64::from(block.width) * u64::from(block.rows)
 }
 
-/// Where the first of so many parts of strips ends, so that all parts take about as long, by what the last drawing of each strip
-/// was. The last part is drawn by the caller, which begins at once.
+/// Where the first of so many parts of strips ends, so that all parts are about as much work, by what the last drawing of each strip
+/// was.
 pub(crate) fn end_of_part(strips: &[Strip], parts: usize, layer: Layer) -> usize
     requires { 1 < length strips.now }
     ensures some { 0 < result }
@@ -225,7 +220,26 @@ pub(crate) fn end_of_part(strips: &[Strip], parts: usize, layer: Layer) -> usize
         return strips.len() / 2;
     }
     let all = work_of_strips(strips, layer);
-    let work = (all - LATE_WORK.min(all / 16)) / parts as u64;
+    end_of_work(strips, all / parts as u64, layer)
+}
+
+/// Where the part ends that a new thread draws of strips of opaque pieces, so that it ends when the caller does, which goes on at
+/// once with the others.
+pub(crate) fn end_of_share(strips: &[Strip]) -> usize
+    requires { 1 < length strips.now }
+    ensures some { 0 < result }
+    ensures rest { result < length strips.now }
+{
+    let all = work_of_strips(strips, Layer::Opaque);
+    end_of_work(strips, all.saturating_sub(LATE_WORK) / 2, Layer::Opaque)
+}
+
+/// Where the first strips end that are about so much work.
+fn end_of_work(strips: &[Strip], work: u64, layer: Layer) -> usize
+    requires { 1 < length strips.now }
+    ensures some { 0 < result }
+    ensures rest { result < length strips.now }
+{
     let mut before: u64 = 0;
     for i in 1..strips.len() {
         before = before.saturating_add(work_of_strip(&strips[i - 1], layer));

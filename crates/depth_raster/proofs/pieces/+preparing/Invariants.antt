@@ -5,10 +5,10 @@ abbrev pub decreases-prepare : goal.decreases-prepare
 decreases-prepare g l = 4 * length l.waiting.now
 
 abbrev pub decreases-prepare_both : goal.decreases-prepare_both
-decreases-prepare_both g l = 4 * (length l.first.now + length l.others.now) - 1
+decreases-prepare_both g l = 4 * (length l.first.now + length l.later.now) - 1
 
 abbrev pub decreases-prepare_both-one : goal.decreases-prepare_both-one
 decreases-prepare_both-one g l = 4 * length l.first.now + 1
 
 abbrev pub decreases-prepare_both-all : goal.decreases-prepare_both-all
-decreases-prepare_both-all g l = 4 * length l.others.now + 1
+decreases-prepare_both-all g l = 4 * length l.later.now + 1
