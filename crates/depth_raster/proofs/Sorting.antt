@@ -4,7 +4,7 @@ use Rattle.std.specs.Prelude.{option_and_then}
 use Rattle.std.specs.List.{All, slice_get}
 use Rattle.std.specs.List.Sorted.{IsPermutation}
 use Rattle.std.proofs.lemmas.Bool.{cases_eq, cases_lt}
-use Rattle.std.proofs.lemmas.List.{take_more, take_all, get_or_default, get_or_append_left, get_or-append-add}
+use Rattle.std.proofs.lemmas.List.{length-take, take_more, take_all, get_or_default, get_or-take, get_or_append_left, get_or-append-add}
 use Rattle.std.proofs.lemmas.List.Elements.{All-nil, All-push}
 use Rattle.std.proofs.lemmas.List.Sorted.{All-permutation}
 use Rattle.std.proofs.lemmas.List.Sums.{fold-append}
@@ -80,6 +80,9 @@ numbered_more ss s are index k e l = ⊎_elim
     let at : k ≡ length ss + 0 = omega (arith, later, l, length-append ss (s ∷ [])) in
     ap (λ (m : ℕ). (get_or (ss ++ s ∷ []) m e).index) at ∙ ap (λ (t : Slot). t.index) (get_or-append-add ss (s ∷ []) 0 e) ∙ index ∙ omega (arith, at))
     (cases_lt k (length ss))
+
+pub numbered_first : (ss : List Slot) (n : ℕ) → AreNumbered ss → AreNumbered (take n ss)
+numbered_first ss n are k e l = let within = length-take n ss in ap (λ (t : Slot). t.index) (get_or-take n ss k e (omega (arith, l, within))) ∙ are k e (omega (arith, l, within))
 
 pub slotted_more : (ps : List Piece) (ss : List Slot) (p : Piece) (s : Slot) → AreSlotted ps ss → length ss < length ps → s.index ≡ length ss → ((d : Piece) → get_or ps (length ss) d ≡ p) → IsSlotFor p s → AreSlotted ps (ss ++ s ∷ [])
 slotted_more ps ss p s are room index is slot = record {

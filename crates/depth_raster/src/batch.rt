@@ -2,7 +2,7 @@
 ghost use Rattle.std.specs.Prelude.{◌≡◌, List, ◌+◌, ◌≤◌, ◌<◌, true, [], ◌∷◌, ◌++◌, All, length, nat_le, take, IfOk};
 ghost use Rattle.std.specs.Vec.{vec_capacity};
 ghost use Rattle.depth_raster.specs.Pieces.{AreRanked};
-ghost use Rattle.depth_raster.specs.Slots.{AreSlotted};
+ghost use Rattle.depth_raster.specs.Slots.{AreNumbered, AreSlotted};
 
 use crate::faces::Face;
 use crate::goes::Go;
@@ -16,7 +16,8 @@ use std::alloc::Global;
 use std::thread::Threads;
 
 /// Pieces and their slots, and triangles that wait to become pieces, with room for as many as are drawn together. The first ones
-/// of a picture are drawn over nothing. So many of the slots are those of the first pieces, in their order.
+/// of a picture are drawn over nothing. So many of the slots are those of the first pieces, in their order, and so many have their
+/// places as indices: those of one picture do for the next one.
 #[derive(Drop)]
 pub(crate) struct Batch {
     pub(crate) is_first: bool,
@@ -24,12 +25,14 @@ pub(crate) struct Batch {
     pub(crate) waiting: Vec<Waiting>,
     pub(crate) slots: Vec<Slot>,
     slotted: usize,
+    numbered: usize,
     ghost few: { length pieces ≤ 16384 },
     ghost few_waiting: { length waiting.items ≤ 16384 },
     ghost ranked: { AreRanked pieces },
     ghost waiting_room: { 16384 ≤ vec_capacity waiting },
     ghost slots_room: { 16384 ≤ vec_capacity slots },
     ghost slotted_first: { AreSlotted pieces (take slotted slots.items) },
+    ghost numbered_first: { AreNumbered (take numbered slots.items) },
 }
 
 impl Batch {
@@ -55,6 +58,7 @@ impl Batch {
             waiting,
             slots,
             slotted: 0,
+            numbered: 0,
         })
     }
 
@@ -125,10 +129,11 @@ impl Batch {
         ensures none { self.new.waiting.items ≡ [] }
         ensures pieces { AreAppended list.now lens.now self.old.waiting.items self.old.pieces self.new.pieces }
     {
-        self.complete_slots();
+        self.number_slots();
         self.pieces
             .prepare(rt, &self.waiting, &mut self.slots, list, lens);
         self.slotted = self.slots.len();
+        self.numbered = self.slots.len();
         self.waiting.clear();
     }
 
@@ -142,7 +147,25 @@ impl Batch {
         self.pieces.make_ready(rt, lens);
     }
 
-    /// Sees to it that all pieces have slots.
+    /// Sees to it that all pieces have slots. Others may wait behind these, whose places are their indices.
+    fn number_slots(&mut self)
+        requires { All (λ p. IsLeast p.face p.least) self.old.pieces }
+        ensures first { self.new.is_first ≡ self.old.is_first }
+        ensures pieces { self.new.pieces ≡ self.old.pieces }
+        ensures waiting { self.new.waiting.items ≡ self.old.waiting.items }
+        ensures count { length self.new.pieces ≤ length self.new.slots.items }
+        ensures numbered { AreNumbered self.new.slots.items }
+        ensures slotted { AreSlotted self.new.pieces (take (length self.new.pieces) self.new.slots.items) }
+    {
+        if self.pieces.len() > 0 {
+            self.complete_slots();
+            return;
+        }
+        self.slotted = 0;
+        self.slots.truncate(self.numbered);
+    }
+
+    /// Sees to it that all pieces have slots, and there are no others.
     pub(crate) fn complete_slots(&mut self)
         requires { All (λ p. IsLeast p.face p.least) self.old.pieces }
         ensures first { self.new.is_first ≡ self.old.is_first }
@@ -154,6 +177,7 @@ impl Batch {
         self.slots.truncate(self.slotted);
         complete(&mut self.slots, self.pieces.as_slice());
         self.slotted = self.slots.len();
+        self.numbered = self.slots.len();
     }
 
     /// Sorts the slots by the least depths of their pieces, where the strips are drawn in one part. Where there are several, each
@@ -167,6 +191,7 @@ impl Batch {
     {
         if parts < 2 {
             self.slotted = 0;
+            self.numbered = 0;
             sort(&mut self.slots);
         }
     }

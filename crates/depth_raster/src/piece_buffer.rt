@@ -81,7 +81,8 @@ impl PieceBuffer {
         self.count += 1;
     }
 
-    /// Takes the pieces of triangles of a list that wait, prepared for a lens, as the last ones, and appends their slots.
+    /// Takes the pieces of triangles of a list that wait, prepared for a lens, as the last ones, and sees to it that all pieces have
+    /// slots and there are no others. The first slots are those of the earlier pieces.
     pub(crate) fn prepare<R: Threads + Sync>(
         &mut self,
         rt: &R,
@@ -93,14 +94,16 @@ impl PieceBuffer {
         requires few { length self.old + length waiting.now ≤ 16384 }
         requires listed { AreThere list.now waiting.now }
         requires room { 16384 ≤ vec_capacity slots.old }
-        requires count { length slots.old.items ≡ length self.old }
-        requires slotted { AreSlotted self.old slots.old.items }
+        requires count { length self.old ≤ length slots.old.items }
+        requires numbered { AreNumbered slots.old.items }
+        requires slotted { AreSlotted self.old (take (length self.old) slots.old.items) }
         ensures pieces { AreAppended list.now lens.now waiting.now self.old self.new }
         ensures room { 16384 ≤ vec_capacity slots.new }
         ensures slotted { AreSlotted self.new slots.new.items }
     {
-        fill_up(&mut self.written, self.count + waiting.len());
-        wait(slots, waiting.len());
+        let count = self.count + waiting.len();
+        fill_up(&mut self.written, count);
+        wait(slots, count);
         prepare_behind(
             rt,
             &mut self.written,
@@ -110,7 +113,7 @@ impl PieceBuffer {
             list,
             lens,
         );
-        self.count += waiting.len();
+        self.count = count;
     }
 
     /// Makes the pieces, whose triangles have come to the eye, ready for a lens.

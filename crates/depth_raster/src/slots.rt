@@ -1,5 +1,5 @@
 //! The order in which pieces are drawn.
-ghost use Rattle.std.specs.Prelude.{◌≡◌, ◌+◌, ◌≤◌, List, All, length, take};
+ghost use Rattle.std.specs.Prelude.{◌≡◌, ℕ, ◌≤◌, List, All, length, take};
 ghost use Rattle.std.specs.Vec.{vec_capacity};
 ghost use Rattle.fx_math.specs.declared.lenses.Lens.{Lens};
 ghost use Rattle.depth_raster.specs.Pieces.{IsLeast};
@@ -53,19 +53,19 @@ impl Slot {
     }
 }
 
-/// Appends slots for so many more pieces, which they have still to take.
-pub(crate) fn wait(slots: &mut Vec<Slot>, more: usize)
-    requires few { length slots.old.items + more ≤ 16384 }
+/// Sees to it that there are just so many slots. Those that it appends have still to take their pieces.
+pub(crate) fn wait(slots: &mut Vec<Slot>, count: usize)
+    requires few { count ≤ 16384 }
     requires room { 16384 ≤ vec_capacity slots.old }
     requires numbered { AreNumbered slots.old.items }
     ensures room { 16384 ≤ vec_capacity slots.new }
-    ensures count { length slots.new.items ≡ length slots.old.items + more }
+    ensures count { length slots.new.items ≡ count }
     ensures numbered { AreNumbered slots.new.items }
-    ensures first { take (length slots.old.items) slots.new.items ≡ slots.old.items }
+    ensures first { (n : ℕ) → n ≤ length slots.old.items → n ≤ count → take n slots.new.items ≡ take n slots.old.items }
 {
-    for i in 0..more {
-        let slot = Slot::waiting(slots.len() as u32);
-        slots.push_reserved(slot);
+    slots.truncate(count);
+    for index in slots.len()..count {
+        slots.push_reserved(Slot::waiting(index as u32));
     }
 }
 
