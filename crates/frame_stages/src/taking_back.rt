@@ -72,26 +72,14 @@ impl Model for Flight {
         (vec_capacity f.home) (vec_len f.stats) (vec_capacity f.stats) };
 }
 
-/// Whether a draw list has an item, and so a joint.
-fn has_item(list: &DrawList) -> bool
-    ensures { result ≡ true → 0 < length list.now.joints.lists }
-{
-    match list.item(0) {
-        Some(_) => true,
-        None => false,
-    }
-}
-
-/// Clears a draw list without items, so that it has a joint.
+/// Clears a draw list, so that it has a joint, and a frame's room is not asked for behind what was drawn.
 fn settle_list(list: &mut DrawList)
     ensures { 0 < length list.new.joints.lists }
 {
-    if !has_item(list) {
-        list.clear(&View::home());
-    }
+    list.clear(&View::home());
 }
 
-/// Clears the draw lists without items, so that each has a joint.
+/// Clears draw lists, so that each has a joint.
 fn settle_all(lists: &mut [DrawList])
     ensures first { HaveFirst lists.new }
     ensures many { length lists.new ≡ length lists.old }
@@ -101,7 +89,7 @@ fn settle_all(lists: &mut [DrawList])
     }
 }
 
-/// Clears the draw lists of a load that have no items, so that each has a joint.
+/// Clears the draw lists of a load, so that each has a joint.
 fn settle(alloc: Global, load: &mut Load)
     ensures first { HaveFirst load.new.lists }
     ensures many { length load.new.lists ≡ length load.old.lists }
