@@ -9,6 +9,7 @@ use crate::goes::Go;
 use crate::piece_buffer::{PieceBuffer, ROOM};
 use crate::slots::{Slot, complete, sort};
 use crate::waiting::Waiting;
+use crate::work::{Processors, others_to_prepare, parts_to_make_ready};
 use draw_list::DrawList;
 use fx_math::Lens;
 use pf_io::NoMemory;
@@ -16,14 +17,15 @@ use std::alloc::Global;
 use std::thread::Threads;
 
 /// Pieces and their slots, and triangles that wait to become pieces, with room for as many as are drawn together. The first ones
-/// of a picture are drawn over nothing. So many of the slots are those of the first pieces, in their order, and so many have their
-/// places as indices: those of one picture do for the next one.
+/// of a picture are drawn over nothing. The first `slotted` slots are those of the first pieces, in their order, and the first
+/// `numbered` have their places as indices: those of one picture do for the next one.
 #[derive(Drop)]
 pub(crate) struct Batch {
     pub(crate) is_first: bool,
     pub(crate) pieces: PieceBuffer,
     pub(crate) waiting: Vec<Waiting>,
     pub(crate) slots: Vec<Slot>,
+    pub(crate) processors: Processors,
     slotted: usize,
     numbered: usize,
     ghost few: { length pieces ≤ 16384 },
@@ -57,6 +59,7 @@ impl Batch {
             pieces,
             waiting,
             slots,
+            processors: Processors::uncounted(),
             slotted: 0,
             numbered: 0,
         })
@@ -130,8 +133,9 @@ impl Batch {
         ensures pieces { AreAppended list.now lens.now self.old.waiting.items self.old.pieces self.new.pieces }
     {
         self.number_slots();
+        let others = others_to_prepare(rt, &mut self.processors, self.waiting.len());
         self.pieces
-            .prepare(rt, &self.waiting, &mut self.slots, list, lens);
+            .prepare(rt, others, &self.waiting, &mut self.slots, list, lens);
         self.slotted = self.slots.len();
         self.numbered = self.slots.len();
         self.waiting.clear();
@@ -144,7 +148,8 @@ impl Batch {
         ensures ready { All (IsPieceOf lens.now) self.new.pieces }
     {
         self.slotted = 0;
-        self.pieces.make_ready(rt, lens);
+        let parts = parts_to_make_ready(rt, &mut self.processors, self.pieces.len());
+        self.pieces.make_ready(rt, parts, lens);
     }
 
     /// Sees to it that all pieces have slots. Others may wait behind these, whose places are their indices.

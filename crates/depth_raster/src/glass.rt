@@ -134,12 +134,8 @@ pub(crate) fn flush<R: Threads + Sync>(rt: &R, strips: &mut [Strip], batch: &mut
         return;
     }
     batch.make_ready(rt, lens);
-    glaze_strips(
-        rt,
-        parts_of(rt, work_of_pieces(batch.pieces.as_slice())),
-        lens,
-        batch.pieces.as_slice(),
-        strips,
-    );
+    let work = work_of_pieces(batch.pieces.as_slice());
+    let parts = parts_of(rt, &mut batch.processors, work);
+    glaze_strips(rt, parts, lens, batch.pieces.as_slice(), strips);
     batch.clear();
 }

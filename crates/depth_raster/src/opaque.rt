@@ -267,7 +267,8 @@ fn begin_go<R: Threads>(rt: &R, batch: &mut Batch, lens: &Lens, besides: u64) ->
     ensures slots { AreSlotsOf lens.now batch.new.pieces batch.new.slots.items }
 {
     batch.complete_slots();
-    let parts = parts_of(rt, work_of_slots(&batch.slots).saturating_add(besides));
+    let work = work_of_slots(&batch.slots).saturating_add(besides);
+    let parts = parts_of(rt, &mut batch.processors, work);
     batch.sort_slots(parts);
     parts
 }

@@ -10,7 +10,6 @@ use crate::idle::Idle;
 use crate::pieces::{Piece, make_ready, prepare};
 use crate::slots::{Slot, wait};
 use crate::waiting::Waiting;
-use crate::work::others_to_prepare;
 use draw_list::DrawList;
 use fx_math::Lens;
 use pf_io::NoMemory;
@@ -82,10 +81,11 @@ impl PieceBuffer {
     }
 
     /// Takes the pieces of triangles of a list that wait, prepared for a lens, as the last ones, and sees to it that all pieces have
-    /// slots and there are no others. The first slots are those of the earlier pieces.
+    /// slots and there are no others. The first slots are those of the earlier pieces. So many other processors prepare pieces too.
     pub(crate) fn prepare<R: Threads + Sync>(
         &mut self,
         rt: &R,
+        others: u8,
         waiting: &[Waiting],
         slots: &mut Vec<Slot>,
         list: &DrawList,
@@ -106,6 +106,7 @@ impl PieceBuffer {
         wait(slots, count);
         prepare_behind(
             rt,
+            others,
             &mut self.written,
             slots,
             self.count,
@@ -116,12 +117,12 @@ impl PieceBuffer {
         self.count = count;
     }
 
-    /// Makes the pieces, whose triangles have come to the eye, ready for a lens.
-    pub(crate) fn make_ready<R: Threads + Sync>(&mut self, rt: &R, lens: &Lens)
+    /// Makes the pieces, whose triangles have come to the eye, ready for a lens, in so many parts side by side.
+    pub(crate) fn make_ready<R: Threads + Sync>(&mut self, rt: &R, parts: usize, lens: &Lens)
         ensures count { length self.new ≡ length self.old }
         ensures ready { AreMadeReady lens.now self.old self.new }
     {
-        make_ready_first(rt, &mut self.written, self.count, lens);
+        make_ready_first(rt, parts, &mut self.written, self.count, lens);
     }
 }
 
@@ -156,6 +157,7 @@ fn fill_up(written: &mut Vec<Piece>, count: usize)
 /// Prepares the pieces of triangles of a list behind the first so many, and their slots.
 fn prepare_behind<R: Threads + Sync>(
     rt: &R,
+    others: u8,
     written: &mut [Piece],
     slots: &mut [Slot],
     count: usize,
@@ -178,7 +180,7 @@ fn prepare_behind<R: Threads + Sync>(
     prepare(
         rt,
         &Idle::new(),
-        others_to_prepare(rt, waiting.len()),
+        u64::from(others),
         waiting,
         fresh,
         open,
@@ -187,11 +189,17 @@ fn prepare_behind<R: Threads + Sync>(
     );
 }
 
-/// Makes the first so many pieces ready for a lens.
-fn make_ready_first<R: Threads + Sync>(rt: &R, written: &mut [Piece], count: usize, lens: &Lens)
+/// Makes the first so many pieces ready for a lens, in so many parts side by side.
+fn make_ready_first<R: Threads + Sync>(
+    rt: &R,
+    parts: usize,
+    written: &mut [Piece],
+    count: usize,
+    lens: &Lens,
+)
     requires { count ≤ length written.old }
     ensures { AreMadeReady lens.now (take count written.old) (take count written.new) }
 {
     let (pieces, _) = written.split_at_mut(count);
-    make_ready(rt, pieces, lens);
+    make_ready(rt, parts, pieces, lens);
 }

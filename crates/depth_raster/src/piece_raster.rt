@@ -16,6 +16,7 @@ use crate::batch::Batch;
 use crate::raster::new_strips;
 use crate::shown::show;
 use crate::strip::Strip;
+use crate::work::parts_of_picture;
 use crate::{glass, opaque};
 use draw_list::DrawList;
 use fx_math::Lens;
@@ -283,7 +284,8 @@ fn draw_rest<R: Threads + Sync>(
 {
     if glazing {
         glass::flush(rt, strips, batch, lens);
-        show(rt, image, strips, lens);
+        let parts = parts_of_picture(rt, &mut batch.processors, lens);
+        show(rt, parts, image, strips, lens);
     } else {
         opaque::finish(rt, strips, batch, lens, back, image);
     }

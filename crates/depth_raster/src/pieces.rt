@@ -15,7 +15,7 @@ use crate::recent::Recent;
 use crate::slots::Slot;
 use crate::small::is_small;
 use crate::waiting::Waiting;
-use crate::work::{FEW_PIECES, are_many, is_more_to_prepare, next_pieces, processors};
+use crate::work::{FEW_PIECES, is_more_to_prepare, next_pieces};
 use draw_list::DrawList;
 use edge_values::about;
 use fx_math::{Lens, Vec3};
@@ -233,25 +233,26 @@ fn prepare_in_turn(
     }
 }
 
-/// Makes pieces ready for a lens: many of them in some threads, where there are processors for them.
-pub(crate) fn make_ready<R: Threads + Sync>(rt: &R, pieces: &mut [Piece], lens: &Lens)
+/// Makes pieces ready for a lens, in so many parts side by side.
+pub(crate) fn make_ready<R: Threads + Sync>(rt: &R, parts: usize, pieces: &mut [Piece], lens: &Lens)
     ensures { AreMadeReady lens.now pieces.old pieces.new }
 {
-    if are_many(pieces.len()) {
-        make_ready_beside(rt, pieces, lens);
-    } else {
+    if parts < 2 {
         make_ready_in_turn(pieces, lens);
+    } else {
+        make_ready_beside(rt, parts, pieces, lens);
     }
 }
 
-/// Makes pieces ready for a lens, in a thread for each processor.
-fn make_ready_beside<R: Threads + Sync>(rt: &R, pieces: &mut [Piece], lens: &Lens)
+/// Makes pieces ready for a lens, in so many threads.
+fn make_ready_beside<R: Threads + Sync>(rt: &R, parts: usize, pieces: &mut [Piece], lens: &Lens)
+    requires { 0 < parts }
     ensures { AreMadeReady lens.now pieces.old pieces.new }
 {
     for_each_mut(
         rt,
         pieces,
-        processors(rt),
+        parts,
         &|_i: usize, piece: &mut Piece|
             ensures { IsMadeReady lens.entry.now piece.entry.now piece.exit.now }
         { piece.make_ready(lens) },

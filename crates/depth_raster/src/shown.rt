@@ -10,13 +10,19 @@ use crate::blocks::Block;
 use crate::strip::Strip;
 use crate::strips::ROWS;
 use crate::tile::Tile;
-use crate::work::{parts_of_picture, strips_of_part};
+use crate::work::strips_of_part;
 use fx_math::Lens;
 use ppm_out::Image;
 use std::thread::{Threads, join_mut};
 
-/// Puts the colours of the tiles of all strips into an image, in parts side by side where it is large.
-pub(crate) fn show<R: Threads + Sync>(rt: &R, image: &mut Image, strips: &[Strip], lens: &Lens)
+/// Puts the colours of the tiles of all strips into an image, in so many parts side by side.
+pub(crate) fn show<R: Threads + Sync>(
+    rt: &R,
+    parts: usize,
+    image: &mut Image,
+    strips: &[Strip],
+    lens: &Lens,
+)
     requires width { image.old.width ≡ lens.now.w }
     requires height { image.old.height ≡ lens.now.h }
     requires strips { AreStrips lens.now strips.now }
@@ -24,7 +30,6 @@ pub(crate) fn show<R: Threads + Sync>(rt: &R, image: &mut Image, strips: &[Strip
     ensures height { image.new.height ≡ image.old.height }
     ensures pixels { (px py : ℕ) → px < lens.now.w → py < lens.now.h → pixel image.new px py ≡ colour_at strips.now px py }
 {
-    let parts = parts_of_picture(rt, lens);
     let width = image.width();
     image.edit(
         &mut |bytes: &mut [u8]|

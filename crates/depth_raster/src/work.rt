@@ -54,6 +54,43 @@ const SOME_PIECES: usize = 1024;
 /// a millisecond for so many.
 const MANY_PIXELS: u32 = 196_608;
 
+/// How many processors goes are divided among: the caller's and so many others, at most `MOST_PARTS` in all. They are counted once,
+/// for the first go that is worth it, since the system's files are read for that, which takes as long as to draw some triangles.
+#[derive(Clone, Copy)]
+pub(crate) struct Processors {
+    others: Option<u8>,
+}
+
+impl Processors {
+    /// Not counted yet.
+    pub(crate) fn uncounted() -> Processors {
+        Processors { others: None }
+    }
+
+    /// How many there are besides the caller's; the most where it cannot be told.
+    fn others<R: Threads>(&mut self, rt: &R) -> u8 {
+        if let Some(others) = self.others {
+            return others;
+        }
+        let others = counted_others(rt);
+        self.others = Some(others);
+        others
+    }
+
+    /// How many there are.
+    fn count<R: Threads>(&mut self, rt: &R) -> usize {
+        usize::from(self.others(rt)) + 1
+    }
+}
+
+/// How many processors there are besides the caller's, at most one less than `MOST_PARTS`; so many too where it cannot be told.
+fn counted_others<R: Threads>(rt: &R) -> u8 {
+    match available_parallelism(rt) {
+        Ok(count) => (count.get().min(MOST_PARTS) - 1) as u8,
+        Err(_) => (MOST_PARTS - 1) as u8,
+    }
+}
+
 /// What is drawn: opaque pieces, or the glass over them.
 #[derive(Clone, Copy)]
 pub(crate) enum Layer {
@@ -62,16 +99,33 @@ pub(crate) enum Layer {
 }
 
 /// Whether to prepare so many pieces is worth some threads.
-pub(crate) fn are_many(count: usize) -> bool {
+fn are_many(count: usize) -> bool {
     MANY_PIECES <= count
 }
 
 /// How many other processors prepare pieces too, where there are so many pieces.
-pub(crate) fn others_to_prepare<R: Threads>(rt: &R, count: usize) -> u64 {
+pub(crate) fn others_to_prepare<R: Threads>(
+    rt: &R,
+    processors: &mut Processors,
+    count: usize,
+) -> u8 {
     if are_many(count) {
-        processors(rt) as u64 - 1
+        processors.others(rt)
     } else {
         0
+    }
+}
+
+/// By how many processors so many pieces are made ready.
+pub(crate) fn parts_to_make_ready<R: Threads>(
+    rt: &R,
+    processors: &mut Processors,
+    count: usize,
+) -> usize {
+    if are_many(count) {
+        processors.count(rt)
+    } else {
+        1
     }
 }
 
@@ -95,8 +149,12 @@ pub(crate) fn next_pieces(count: usize, others: u64) -> usize
 }
 
 /// In how many parts pieces are drawn side by side: as many as there are processors, where it is much work, and else one.
-pub(crate) fn parts_of<R: Threads>(rt: &R, work: u64) -> usize {
-    if work < MUCH_WORK { 1 } else { processors(rt) }
+pub(crate) fn parts_of<R: Threads>(rt: &R, processors: &mut Processors, work: u64) -> usize {
+    if work < MUCH_WORK {
+        1
+    } else {
+        processors.count(rt)
+    }
 }
 
 /// About how much work the pieces of slots are, whatever lies before them; where it is much, no more than that is counted.
@@ -140,11 +198,15 @@ pub(crate) fn work_to_show(width: u16, height: u16) -> u64 {
 
 /// In how many parts side by side the tiles of a lens's picture are put into the image: as many as there are processors, where
 /// it is large, and else one.
-pub(crate) fn parts_of_picture<R: Threads>(rt: &R, lens: &Lens) -> usize {
+pub(crate) fn parts_of_picture<R: Threads>(
+    rt: &R,
+    processors: &mut Processors,
+    lens: &Lens,
+) -> usize {
     if u32::from(lens.w) * u32::from(lens.h) < MANY_PIXELS {
         1
     } else {
-        processors(rt)
+        processors.count(rt)
     }
 }
 
@@ -155,16 +217,6 @@ pub(crate) fn strips_of_part(count: usize, parts: usize) -> usize
     ensures rest { result < count }
 {
     (count / parts.max(2)).max(1)
-}
-
-/// How many processors a go is divided among, at most `MOST_PARTS`; so many too where it cannot be told how many there are.
-pub(crate) fn processors<R: Threads>(rt: &R) -> usize
-    ensures { 0 < result }
-{
-    match available_parallelism(rt) {
-        Ok(count) => count.get().min(MOST_PARTS),
-        Err(_) => MOST_PARTS,
-    }
 }
 
 /// About how much work a piece is in a block over whose marks it is drawn.
