@@ -28,6 +28,7 @@ use Rattle.play_format.specs.Making.{tri_of, app_step_of, base_step_of}
 use Rattle.play_format.specs.Spelling.{tri_entry, app_lines, base_lines, AreAppNumbered, app_entries, AreBaseNumbered, base_entries}
 use Rattle.play_format.specs.Written.{AreTriangles, IsAppStep, IsBaseStep}
 use Rattle.play_format.specs.Plays.{app_fits, base_fits, opened, open_after}
+use Rattle.play_format.specs.Early.{TrianglesSoFar}
 use Rattle.play_format.specs.Sections.{Passes, LineRead, IsAt, TriangleRead, TrianglesRead, AppStepRead, AppRead, AppSection, IsInBase, place_of, BaseStepRead, BaseRead, BaseSection, is_buffer}
 use Rattle.play_format.proofs.BackLemmas.{tri_back}
 use Rattle.play_format.proofs.EntryLemmas.{both}
@@ -42,17 +43,7 @@ pub front_nil : (r : Result (List Entry) Refusal) → with_front [] r ≡ r
 front_nil (Ok es) = refl
 front_nil (Err e) = refl
 
--- the triangle lines so far
-pub record TrianglesSoFar (a b : Stand) (ts : List Tri) : Type 0 where
-  pub told : unread a.spot a.line a.text ≡ with_front (map tri_entry ts) (unread b.spot b.line b.text)
-  pub count : length ts + b.spot.due ≡ a.spot.due
-  pub line : b.line ≡ a.line + length ts
-  pub version : b.spot.version ≡ a.spot.version
-  pub channels : b.spot.channels ≡ a.spot.channels
-  pub place : b.spot.place ≡ a.spot.place
-  pub written : AreTriangles ts
-  pub not_longer : length b.text ≤ length a.text
-
+-- no triangle lines
 pub no_triangles : (a : Stand) → TrianglesSoFar a a []
 no_triangles a = record {
   told = sym (front_nil (unread a.spot a.line a.text));

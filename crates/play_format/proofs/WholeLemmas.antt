@@ -27,11 +27,12 @@ use Rattle.play_format.specs.Grammar.{◌>>=◌, entry_at, line_at, judged_versi
 use Rattle.play_format.specs.Commands.{Entry}
 use Rattle.play_format.specs.Making.{u16_at, u8_at, tri_of, app_step_of, base_step_of}
 use Rattle.play_format.specs.Plays.{Script}
+use Rattle.play_format.specs.Early.{TrianglesSoFar}
 use Rattle.play_format.specs.Sections.{LineRead, IsAt, TrianglesRead, StartRead, HeaderRead, AppSection, BaseSection}
 use Rattle.play_format.specs.Reads.{HasReading, first_refusal}
 use Rattle.play_format.proofs.EntryLemmas.{bind_ok, fits_of, channels_within}
 use Rattle.play_format.proofs.ReaderLemmas.{unread_end, unread_line, unread_more, line_read}
-use Rattle.play_format.proofs.SectionLemmas.{TrianglesSoFar, no_triangles, triangle_more, triangle_read, triangles_done, AppSoFar, no_steps, app_step_read, app_section_read, app_more, app_ends, app_stops, BaseSoFar, no_base_steps, base_step_read, base_no_step, base_more, base_stops, closed_end}
+use Rattle.play_format.proofs.SectionLemmas.{no_triangles, triangle_more, triangle_read, triangles_done, AppSoFar, no_steps, app_step_read, app_section_read, app_more, app_ends, app_stops, BaseSoFar, no_base_steps, base_step_read, base_no_step, base_more, base_stops, closed_end}
 use Rattle.play_format.proofs.HeaderLemmas.{no_end, at_behind, size_read, lens_read, back_read, app_read, channels_read, not_channels, header_read, one_piece, too_long, first_read}
 use Rattle.play_format.proofs.LawLemmas.{some_channels, few_channels}
 use Rattle.play_format.proofs.PlayLemmas.{read_app, read_both}

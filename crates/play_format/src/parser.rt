@@ -18,8 +18,8 @@ use std::alloc::Global;
 use std::thread::Threads;
 
 /// Reads a play line by line, but for the triangle lines that were read before.
-fn read_play(alloc: Global, bytes: &[u8], early: &[Vec<Early>]) -> Result<Play, ParseError>
-    requires { All (λ part. All (IsEarly bytes.now) part.items) early.now }
+fn read_play(alloc: Global, bytes: &[u8], early: Vec<Early>) -> Result<Play, ParseError>
+    requires { All (IsEarly bytes.now) early.items }
     ensures { MatchResult result (λ p. ReadAs bytes.now p) (λ e. Refuses e (reading bytes.now)) }
 {
     let (version, rest) = version(bytes)?;
@@ -29,7 +29,6 @@ fn read_play(alloc: Global, bytes: &[u8], early: &[Vec<Early>]) -> Result<Play, 
         spot: Spot::start(version),
         text: bytes,
         early,
-        passed: 0,
     };
     let mut numbers = Vec::new(alloc);
     let mut corners = Vec::new(alloc);
@@ -53,7 +52,7 @@ pub fn parse(alloc: Global, bytes: &[u8]) -> Result<Play, ParseError>
     // A text is refused only where it spells no play, by its first wrong line.
     ensures refused { IfErr result (λ e. IsRefusal e bytes.now) }
 {
-    read_play(alloc, bytes, &[])
+    read_play(alloc, bytes, Vec::new(alloc))
 }
 
 /// Reads a play as `parse` does, the triangle lines of a long one in a thread for each processor.
@@ -70,7 +69,7 @@ pub fn parse_beside<R: Threads + Sync>(
     ensures refused { IfErr result (λ e. IsRefusal e bytes.now) }
 {
     let early = early_lines(rt, alloc, bytes);
-    read_play(alloc, bytes, early.as_slice())
+    read_play(alloc, bytes, early)
 }
 
 /// A text spells at most one play, and it spells one exactly where it has no wrong line.

@@ -6,6 +6,7 @@ ghost use Rattle.play_format.specs.Grammar.{entry_at, line_at, end_at};
 ghost use Rattle.play_format.specs.Rests.{IsSound, with_front};
 ghost use Rattle.play_format.specs.Early.{IsEarly, IsEnd};
 ghost use Rattle.std.specs.List.{All};
+ghost use Rattle.std.proofs.Props.{props};
 
 use crate::commands::Command;
 use crate::early::Early;
@@ -31,13 +32,12 @@ pub struct Reader<'a> {
     pub spot: Spot,
     /// The whole text.
     pub text: &'a [u8],
-    /// The triangle lines that were read before their turn, in parts, and how many of the first part were passed.
-    pub early: &'a [Vec<Early>],
-    pub passed: usize,
+    /// The triangle lines that were read before their turn, the last ones first.
+    pub early: Vec<Early>,
     ghost sound: { IsSound spot },
     ghost few: { line ≤ 262145 },
     ghost end: { IsEnd text.now rest.now },
-    ghost lines: { All (λ part. All (IsEarly text.now) part.items) early.now },
+    ghost lines: { All (IsEarly text.now) early.items } by { Prim.hlevel props },
 }
 
 fn refused<T>(line: u32, why: Why) -> Result<T, ParseError>
@@ -47,7 +47,7 @@ fn refused<T>(line: u32, why: Why) -> Result<T, ParseError>
 }
 
 impl Reader<'_> {
-    ghost use Rattle.play_format.specs.Sections.{unread_by, stand_of, TriangleRead};
+    ghost use Rattle.play_format.specs.Sections.{unread_by, stand_of, TrianglesRead};
 
     /// Reads the next line, with its numbers in place of what `numbers` holds; None where the play ends.
     pub fn next(&mut self, numbers: &mut Vec<i32>) -> Result<Option<Command>, ParseError>
@@ -78,40 +78,41 @@ impl Reader<'_> {
         Ok(Some(command))
     }
 
-    /// The triangle of the next line, where that was read before its turn.
-    pub fn early_triangle(&mut self) -> Option<Tri>
+    /// The triangles of all lines that are due, where these were read before their turn.
+    pub fn early_triangles(&mut self) -> Option<Vec<Tri>>
         requires { 0 < self.old.spot.due }
         ensures { MatchOption result
             (stand_of self.new ≡ stand_of self.old)
-            (λ tri. TriangleRead (stand_of self.old) (stand_of self.new) tri) }
+            (λ ts. TrianglesRead (stand_of self.old) (stand_of self.new) ts.items) }
     {
-        if self.line > MAX_LINES {
-            return None;
-        }
         let early = self.next_early()?;
-        if early.at != self.rest.len() {
+        let count = early.tris.len();
+        if count != self.spot.due as usize || count > MAX_LINES.saturating_sub(self.line) as usize {
             return None;
         }
-        self.passed += 1;
         self.rest = &self.text[self.text.len() - early.behind..];
-        self.spot = self.spot.next(Command::Triangle, &[]);
-        self.line += 1;
-        Some(early.tri)
+        self.spot = Spot {
+            due: 0,
+            ..self.spot
+        };
+        self.line += count as u32;
+        Some(early.tris)
     }
 
-    /// The next of the triangle lines that were read before their turn.
+    /// The triangle lines that stand here, where they were read before their turn.
     fn next_early(&mut self) -> Option<Early>
         ensures stays { stand_of self.new ≡ stand_of self.old }
         ensures early { IfSome result (λ e. IsEarly self.new.text.now e) }
-        ensures passed { IfSome result (λ _. self.new.passed < 2 ^ 63) }
+        ensures at { IfSome result (λ e. e.at ≡ length self.new.rest.now) }
     {
-        while !self.early.is_empty() {
-            let part = &self.early[0];
-            if self.passed < part.len() {
-                return Some(part[self.passed]);
+        while let Some(early) = self.early.pop() {
+            if early.at == self.rest.len() {
+                return Some(early);
             }
-            self.early = &self.early[1..];
-            self.passed = 0;
+            if early.at < self.rest.len() {
+                self.early.push_reserved(early);
+                return None;
+            }
         }
         None
     }

@@ -21,24 +21,21 @@ pub enum Turn<T> {
     End,
 }
 
-/// The triangle of the next line, where one is due, which was read before its turn or is read now.
+/// The triangle of the next line, where one is due. `corners` is room for its numbers.
 fn triangle(reader: &mut Reader, corners: &mut Vec<i32>) -> Result<Tri, ParseError>
     requires { 0 < reader.old.spot.due }
     ensures { MatchResult result
         (λ tri. TriangleRead (stand_of reader.old) (stand_of reader.new) tri)
         (λ e. Refuses e (unread_by reader.old)) }
 {
-    if let Some(tri) = reader.early_triangle() {
-        return Ok(tri);
-    }
     match reader.next(corners)? {
         Some(_) => Ok(tri_of(corners)),
         None => unreachable!(),
     }
 }
 
-/// Reads the triangle lines that are due. `corners` is room for the numbers of one.
-fn triangles(
+/// Reads the triangle lines that are due one after the other.
+fn triangles_in_turn(
     alloc: Global,
     reader: &mut Reader,
     corners: &mut Vec<i32>,
@@ -53,6 +50,24 @@ fn triangles(
         tris.push(triangle(reader, corners)?)?;
     }
     Ok(tris)
+}
+
+/// The triangles of the lines that are due, which were read before their turn or are read now.
+fn triangles(
+    alloc: Global,
+    reader: &mut Reader,
+    corners: &mut Vec<i32>,
+) -> Result<Vec<Tri>, ParseError>
+    ensures { MatchResult result
+        (λ ts. TrianglesRead (stand_of reader.old) (stand_of reader.new) ts.items)
+        (λ e. Refuses e (unread_by reader.old)) }
+{
+    if reader.spot.due > 0 {
+        if let Some(tris) = reader.early_triangles() {
+            return Ok(tris);
+        }
+    }
+    triangles_in_turn(alloc, reader, corners)
 }
 
 /// Reads what comes next in the section of the application.

@@ -1,12 +1,7 @@
-use Rattle.std.proofs.Common.{sym, subst}
-use Rattle.std.specs.List.{All}
-use Rattle.std.proofs.lemmas.List.Elements.{All-nil}
+use Rattle.std.specs.Prelude.{is_ok}
 use Rattle.play_format.specs.Early.{IsEarly}
+use Rattle.play_format.proofs.EarlyLemmas.{all_of_both}
 use Rattle.play_format.proofs.early.+parts.Goals as goal
 
-pub returns-then-others-eq0 : goal.returns-then-others-eq0
-returns-then-others-eq0 g t c =
-    c.with_first.ensures c.args.text.now (subst (All (λ part. All (IsEarly c.args.text.now) part.items)) (sym c.new.ensures.items) (All-nil (λ part. All (IsEarly c.args.text.now) part.items))) c.lines_of_part.ensures
-
 pub returns : goal.returns
-returns g t c = c.with_first-2.ensures c.args.text.now c.join-first.ensures.second c.join-first.ensures.first
+returns g t c = rw c.append.ensures.items (all_of_both (IsEarly c.args.text.now) (is_ok c.append.result) c.join-first.result.1.items c.join-first.result.0.items c.join-first.ensures.second c.join-first.ensures.first)

@@ -6,7 +6,7 @@ use Rattle.play_format.proofs.early.lines_of_part.Given as goal
 abbrev pub invariant-loop-rest : goal.invariant-loop-rest
 invariant-loop-rest l = record {
   end : IsEnd l.text l.rest;
-  read : All (IsEarly l.text) l.lines.items;
+  read : All (IsEarly l.text) l.all.items;
 }
 
 abbrev pub decreases-loop-rest : goal.decreases-loop-rest

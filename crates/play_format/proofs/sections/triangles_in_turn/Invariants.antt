@@ -1,7 +1,7 @@
 use Rattle.std.proofs.Common.{length}
 use Rattle.play_format.specs.Rests.{stand}
-use Rattle.play_format.proofs.SectionLemmas.{TrianglesSoFar}
-use Rattle.play_format.proofs.sections.triangles.Given as goal
+use Rattle.play_format.specs.Early.{TrianglesSoFar}
+use Rattle.play_format.proofs.sections.triangles_in_turn.Given as goal
 
 abbrev pub invariant-loop-reader : goal.invariant-loop-reader
 invariant-loop-reader l = TrianglesSoFar (stand l.fn.reader.spot l.fn.reader.line l.fn.reader.rest.now) (stand l.reader.spot l.reader.line l.reader.rest.now) l.tris.items

@@ -1,5 +1,5 @@
 use Rattle.play_format.proofs.SectionLemmas.{no_triangles, triangle_more}
-use Rattle.play_format.proofs.sections.triangles.Goals as goal
+use Rattle.play_format.proofs.sections.triangles_in_turn.Goals as goal
 use Rattle.play_format.specs.Rests.{stand}
 
 pub loop-reader-init : goal.loop-reader-init
