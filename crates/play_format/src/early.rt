@@ -20,6 +20,9 @@ const PART_LEN: usize = 65_536;
 /// In how many parts a text is divided at most.
 const MOST_PARTS: usize = 64;
 
+/// The most triangles of a geode, and so of a list of lines that is worth keeping.
+const MOST_TRIANGLES: usize = 4_096;
+
 /// Triangle lines, one after the other, that were read before their turn.
 #[derive(Debug, Drop)]
 pub struct Early {
@@ -62,8 +65,8 @@ fn lines_from(text: &[u8], place: usize) -> &[u8]
     }
 }
 
-/// Reads triangle lines as long as one comes after the other and there is memory for them, in place of what `tris` holds, and
-/// answers what is left behind them.
+/// Reads triangle lines, at most as many as a geode may have, as long as one comes after the other and there is memory for them,
+/// in place of what `tris` holds, and answers what is left behind them.
 fn lines_in_a_row<'a>(numbers: &mut Vec<i32>, tris: &mut Vec<Tri>, rest: &'a [u8]) -> &'a [u8]
     ensures end { IsEnd rest.now result.now }
     ensures lines { AreLines rest.now result.now tris.new.items }
@@ -71,6 +74,9 @@ fn lines_in_a_row<'a>(numbers: &mut Vec<i32>, tris: &mut Vec<Tri>, rest: &'a [u8
     tris.clear();
     let mut left = rest;
     while let Some((line, behind)) = cut(left, b'\n') {
+        if tris.len() >= MOST_TRIANGLES {
+            return left;
+        }
         if !is_triangle_line(numbers, line) {
             return left;
         }
