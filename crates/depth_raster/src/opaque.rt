@@ -19,7 +19,7 @@ use crate::goes::Go;
 use crate::idle::Idle;
 use crate::strip::Strip;
 use crate::strips::draw_strips;
-use crate::work::{parts_of, work_of_slots, work_to_show};
+use crate::work::{is_long, parts_of, work_of_slots, work_to_show};
 use draw_list::{DrawList, Item};
 use fx_math::Lens;
 use ppm_out::Image;
@@ -194,7 +194,8 @@ pub(crate) fn flush<R: Threads + Sync>(
 {
     let parts = begin_go(rt, batch, lens, 0);
     let go = batch.go(lens, back, false);
-    draw_strips(rt, &Idle::new(), parts, &go, strips, &mut []);
+    let idle = Idle::new(is_long(strips, parts));
+    draw_strips(rt, &idle, parts, &go, strips, &mut []);
     end_go(batch);
 }
 
@@ -248,7 +249,7 @@ fn draw_into<R: Threads + Sync>(
     ensures pixels { (px py : ℕ) → px < go.now.lens.now.w → py < go.now.lens.now.h
         → pixel image.new px py ≡ colour_at strips.new px py }
 {
-    let idle = Idle::new();
+    let idle = Idle::new(is_long(strips, parts));
     let mut write = |bytes: &mut [u8]|
         requires { IsSync R.row × IsReady go.now × All (IsStripOf go.now.lens.now) strips.now × AreStacked strips.now
             × (go.now.is_last ≡ true → AreRowsOf go.now.lens.now.w strips.now bytes.now) }

@@ -46,7 +46,7 @@ pub(crate) fn draw_strips<R: Threads + Sync>(
     ensures shown { go.now.is_last ≡ true → ShowsStrips go.now.lens.now.w strips.new bytes.new }
 {
     if parts < 2 || strips.len() < 2 {
-        draw_part(rt, idle, go, strips, bytes);
+        draw_part(rt, idle, idle.is_long(), go, strips, bytes);
         return;
     }
     let count = end_of_part(strips, parts, Layer::Opaque);
@@ -84,7 +84,7 @@ fn draw_parts<R: Threads + Sync>(
             × (go.now.is_last ≡ true → AreRowsOf go.now.lens.now.w upper.now above.now) }
         ensures { StripsRelate (IsDrawnIn go.entry.now) upper.entry.now upper.exit.now
             × (go.entry.now.is_last ≡ true → ShowsStrips go.entry.now.lens.now.w upper.exit.now above.exit.now) }
-    { draw_part(rt, idle, go, upper, above) };
+    { draw_part(rt, idle, false, go, upper, above) };
     let mut rest = ||
         requires { IsSync R.row × IsReady go.now × All (IsStripOf go.now.lens.now) lower.now × AreStacked lower.now
             × (go.now.is_last ≡ true → AreRowsOf go.now.lens.now.w lower.now below.now) }
@@ -94,10 +94,11 @@ fn draw_parts<R: Threads + Sync>(
     join_mut(rt, &mut first, &mut rest);
 }
 
-/// Draws a go in the strips of a part. They get their slots first.
+/// Draws a go in the strips of a part, in a thread of its own where it is to be drawn aside. They get their slots first.
 fn draw_part<R: Threads + Sync>(
     rt: &R,
     idle: &Idle,
+    aside: bool,
     go: &Go<'_>,
     strips: &mut [Strip],
     bytes: &mut [u8],
@@ -110,7 +111,38 @@ fn draw_part<R: Threads + Sync>(
     ensures shown { go.now.is_last ≡ true → ShowsStrips go.now.lens.now.w strips.new bytes.new }
 {
     share_out(strips, go.slots);
-    draw_in_turn(rt, idle, go, strips, bytes);
+    draw_rest(rt, idle, aside, go, strips, bytes);
+}
+
+/// Draws a go in strips that have their slots: aside, in a thread of its own for which this one waits, or else in turn.
+#[cycle(turns)]
+fn draw_rest<R: Threads + Sync>(
+    rt: &R,
+    idle: &Idle,
+    aside: bool,
+    go: &Go<'_>,
+    strips: &mut [Strip],
+    bytes: &mut [u8],
+)
+    requires go { IsReady go.now }
+    requires strips { All (IsStripOf go.now.lens.now) strips.old }
+    requires slots { All (HasSlotsFor go.now.lens.now go.now.pieces.now) strips.old }
+    requires rows { go.now.is_last ≡ true → AreRowsOf go.now.lens.now.w strips.old bytes.old }
+    ensures drawn { StripsRelate (IsDrawnIn go.now) strips.old strips.new }
+    ensures shown { go.now.is_last ≡ true → ShowsStrips go.now.lens.now.w strips.new bytes.new }
+{
+    if !aside {
+        draw_in_turn(rt, idle, go, strips, bytes);
+        return;
+    }
+    let mut all = ||
+        requires { IsSync R.row × IsReady go.now × All (IsStripOf go.now.lens.now) strips.now
+            × All (HasSlotsFor go.now.lens.now go.now.pieces.now) strips.now
+            × (go.now.is_last ≡ true → AreRowsOf go.now.lens.now.w strips.now bytes.now) }
+        ensures { StripsRelate (IsDrawnIn go.entry.now) strips.entry.now strips.exit.now
+            × (go.entry.now.is_last ≡ true → ShowsStrips go.entry.now.lens.now.w strips.exit.now bytes.exit.now) }
+    { draw_in_turn(rt, idle, go, strips, bytes) };
+    join_mut(rt, &mut all, &mut || {});
 }
 
 /// Draws a go in strips that have their slots, one after the other. Where a processor has nothing to do meanwhile, it gets some of
@@ -184,6 +216,7 @@ fn draw_both<R: Threads + Sync>(
         draw_in_turn(rt, idle, go, lower, below);
         return;
     }
+    let aside = idle.is_long();
     let mut first = ||
         requires { IsSync R.row × IsReady go.now × All (IsStripOf go.now.lens.now) upper.now
             × All (HasSlotsFor go.now.lens.now go.now.pieces.now) upper.now
@@ -197,7 +230,7 @@ fn draw_both<R: Threads + Sync>(
             × (go.now.is_last ≡ true → AreRowsOf go.now.lens.now.w lower.now below.now) }
         ensures { StripsRelate (IsDrawnIn go.entry.now) lower.entry.now lower.exit.now
             × (go.entry.now.is_last ≡ true → ShowsStrips go.entry.now.lens.now.w lower.exit.now below.exit.now) }
-    { draw_in_turn(rt, idle, go, lower, below) };
+    { draw_rest(rt, idle, aside, go, lower, below) };
     join_mut(rt, &mut first, &mut rest);
 }
 

@@ -25,6 +25,10 @@ const LATE_WORK: u64 = 6_144;
 /// The work, in pixels that are drawn, from which on strips are divided again for a processor that has nothing to do.
 const MUCH_LEFT: u64 = 3 * LATE_WORK;
 
+/// The work, in pixels that are drawn, from which on a go in several parts is long: about sixteen milliseconds, beside which a
+/// thread more costs little.
+const LONG_WORK: u64 = 2_000_000;
+
 /// The work of a piece besides that of its pixels.
 const PIECE_WORK: u64 = 128;
 
@@ -305,6 +309,11 @@ fn end_of_work(strips: &[Strip], work: u64, layer: Layer) -> usize
 /// Whether some strips, of opaque pieces, are worth dividing once more.
 pub(crate) fn is_much_left(strips: &[Strip]) -> bool {
     MUCH_LEFT <= work_of_strips(strips, Layer::Opaque)
+}
+
+/// Whether it is long to draw opaque pieces in strips, in so many parts side by side, by what the last drawing of each strip was.
+pub(crate) fn is_long(strips: &[Strip], parts: usize) -> bool {
+    1 < parts && LONG_WORK <= work_of_strips(strips, Layer::Opaque)
 }
 
 fn work_of_strips(strips: &[Strip], layer: Layer) -> u64 {
