@@ -124,8 +124,9 @@ fn draw_all<R: Threads + Sync>(
 pub(crate) fn new_strips(alloc: Global, lens: &Lens) -> Result<Vec<Strip>, NoMemory>
     ensures { IfOk result (λ strips. AreStrips lens.now strips.items) }
 {
-    let mut strips = Vec::new(alloc);
-    for i in 0..lens.h.div_ceil(ROWS) {
+    let count = lens.h.div_ceil(ROWS);
+    let mut strips = Vec::with_capacity(alloc, count as usize)?;
+    for i in 0..count {
         strips.push(new_strip(alloc, band_at(lens, i))?)?;
     }
     Ok(strips)
@@ -166,8 +167,9 @@ fn new_strip(alloc: Global, band: Block) -> Result<Strip, NoMemory>
 fn new_tiles(alloc: Global, band: &Block) -> Result<Vec<Tile>, NoMemory>
     ensures { IfOk result (λ tiles. AreTilesOf band.now tiles.items) }
 {
-    let mut tiles = Vec::new(alloc);
-    for j in 0..band.width.div_ceil(COLUMNS) {
+    let count = band.width.div_ceil(COLUMNS);
+    let mut tiles = Vec::with_capacity(alloc, count as usize)?;
+    for j in 0..count {
         tiles.push(Tile::new(alloc, tile_block(band, j))?)?;
     }
     Ok(tiles)

@@ -25,9 +25,9 @@ const LATE_WORK: u64 = 6_144;
 /// The work, in pixels that are drawn, from which on strips are divided again for a processor that has nothing to do.
 const MUCH_LEFT: u64 = 3 * LATE_WORK;
 
-/// The work, in pixels that are drawn, from which on a go in several parts is long: about sixteen milliseconds, beside which a
+/// The work, in pixels that are drawn, from which on a go in several parts is long: about eight milliseconds, beside which a
 /// thread more costs little.
-const LONG_WORK: u64 = 2_000_000;
+const LONG_WORK: u64 = 1_000_000;
 
 /// The work of a piece besides that of its pixels.
 const PIECE_WORK: u64 = 128;
