@@ -106,7 +106,7 @@ drawn_at lens back ps first before after are long each px py column row =
       drawn = h.drawn;
     }
 
-pub flushed_seen : (lens : Lens) (back : List ℕ) (ps : List Piece) (first : Bool) (before after : List Strip) → AreStrips lens before → length after ≡ length before → StripsRelate (IsDrawnFrom lens back ps first) before after → (px py : ℕ) → px < lens.w → py < lens.h → seen_at after px py ≡ drawn_with lens first before ps px py
+flushed_seen : (lens : Lens) (back : List ℕ) (ps : List Piece) (first : Bool) (before after : List Strip) → AreStrips lens before → length after ≡ length before → StripsRelate (IsDrawnFrom lens back ps first) before after → (px py : ℕ) → px < lens.w → py < lens.h → seen_at after px py ≡ drawn_with lens first before ps px py
 flushed_seen lens back ps first before after are long each px py column row =
     let at = drawn_at lens back ps first before after are long each px py column row in
     let q = px % 16 in
@@ -117,22 +117,38 @@ flushed_seen lens back ps first before after are long each px py column row =
     ∙ ap (λ (x : ℕ). fold nearer (seen_from first before px py) (fragments_by lens x (at.start.block.first + r) ps)) at.left
     ∙ ap (λ (y : ℕ). fold nearer (seen_from first before px py) (fragments_by lens px y ps)) at.top
 
-pub flushed_open : (lens : Lens) (back : List ℕ) (ps : List Piece) (first : Bool) (before after : List Strip) → AreStrips lens before → length after ≡ length before → StripsRelate (IsDrawnFrom lens back ps first) before after → AreStrips lens after
+flushed_open : (lens : Lens) (back : List ℕ) (ps : List Piece) (first : Bool) (before after : List Strip) → AreStrips lens before → length after ≡ length before → StripsRelate (IsDrawnFrom lens back ps first) before after → AreStrips lens after
 flushed_open lens back ps first before after are long each = strips_kept (IsDrawnFrom lens back ps first) lens before after (λ s t h. drawn_block lens back ps first s t h) are long each
 
-pub flushed_blank : (lens : Lens) (back : List ℕ) (ps : List Piece) (first : Bool) (before after : List Strip) → AreStrips lens before → length after ≡ length before → StripsRelate (IsDrawnFrom lens back ps first) before after → (px py : ℕ) → px < lens.w → py < lens.h → seen_at after px py ≡ None → colour_at after px py ≡ back
+flushed_blank : (lens : Lens) (back : List ℕ) (ps : List Piece) (first : Bool) (before after : List Strip) → AreStrips lens before → length after ≡ length before → StripsRelate (IsDrawnFrom lens back ps first) before after → (px py : ℕ) → px < lens.w → py < lens.h → seen_at after px py ≡ None → colour_at after px py ≡ back
 flushed_blank lens back ps first before after are long each px py column row none =
     let at = drawn_at lens back ps first before after are long each px py column row in
     colour_is after px py at.new at.is
     ∙ at.drawn.blank (px % 16) (py % 16) at.at at.unranked (sym (seen_is after px py at.new at.is) ∙ none)
 
 -- the strips of a go, by what it is made of
-pub go_drawn : (go : Go) (lens : Lens) (back : List ℕ) (ps : List Piece) (first : Bool) (before after : List Strip) → go.lens.now ≡ lens → go.back ≡ back → go.pieces.now ≡ ps → go.is_first ≡ first → StripsRelate (IsDrawnIn go) before after → StripsRelate (IsDrawnFrom lens back ps first) before after
+go_drawn : (go : Go) (lens : Lens) (back : List ℕ) (ps : List Piece) (first : Bool) (before after : List Strip) → go.lens.now ≡ lens → go.back ≡ back → go.pieces.now ≡ ps → go.is_first ≡ first → StripsRelate (IsDrawnIn go) before after → StripsRelate (IsDrawnFrom lens back ps first) before after
 go_drawn go lens back ps first before after l b p f each =
     subst (λ (x : Lens). StripsRelate (IsDrawnFrom x back ps first) before after) l
     (subst (λ (x : List ℕ). StripsRelate (IsDrawnFrom go.lens.now x ps first) before after) b
     (subst (λ (x : List Piece). StripsRelate (IsDrawnFrom go.lens.now go.back x first) before after) p
     (subst (λ (x : Bool). StripsRelate (IsDrawnFrom go.lens.now go.back go.pieces.now x) before after) f each)))
+
+-- what a go leaves
+pub record IsFlushed (lens : Lens) (back : List ℕ) (ps : List Piece) (first : Bool) (before after : List Strip) : Type 0 where
+  pub sound : AreStrips lens after
+  pub seen : (px py : ℕ) → px < lens.w → py < lens.h → seen_at after px py ≡ drawn_with lens first before ps px py
+  pub blank : (px py : ℕ) → px < lens.w → py < lens.h → seen_at after px py ≡ None → colour_at after px py ≡ back
+
+pub go_flushed : (go : Go) (lens : Lens) (back : List ℕ) (ps : List Piece) (first : Bool) (before after : List Strip) → go.lens.now ≡ lens → go.back ≡ back → go.pieces.now ≡ ps → go.is_first ≡ first
+    → AreStrips lens before → length after ≡ length before → StripsRelate (IsDrawnIn go) before after → IsFlushed lens back ps first before after
+go_flushed go lens back ps first before after l b p f are long each =
+    let drawn = go_drawn go lens back ps first before after l b p f each in
+    record {
+      sound = flushed_open lens back ps first before after are long drawn;
+      seen = flushed_seen lens back ps first before after are long drawn;
+      blank = flushed_blank lens back ps first before after are long drawn;
+    }
 
 -- before the first drawing nothing is seen, and afterwards the marks count
 pub first_seen : (lens : Lens) (first : Bool) (strips : List Strip) (ps : List Piece) (px py : ℕ) → first ≡ true → ps ≡ [] → drawn_with lens first strips ps px py ≡ None

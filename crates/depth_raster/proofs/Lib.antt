@@ -14,7 +14,7 @@ pub mod Foremost
 pub mod Following
 pub mod GlassInOrder
 pub mod Glazed
-pub mod Halves
+pub mod Handed
 pub mod InPieces
 pub mod Items
 pub mod Later
@@ -34,7 +34,6 @@ pub mod PanesLeft
 pub mod PixelTiles
 pub mod Prepared
 pub mod Readied
-pub mod Rows
 pub mod Settling
 pub mod Shared
 pub mod Skipped

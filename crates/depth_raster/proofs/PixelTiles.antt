@@ -15,12 +15,12 @@ use Rattle.depth_raster.specs.declared.strip.Strip.{Strip}
 use Rattle.depth_raster.specs.declared.tile.Tile.{Tile}
 
 -- ---- elements
-record IsFound {X : Type 0} (xs : List X) (i : ℕ) : Type 0 where
-  item : X
-  is : slice_get xs i ≡ Some item
-  at : get_or xs i item ≡ item
+pub record IsFound {X : Type 0} (xs : List X) (i : ℕ) : Type 0 where
+  pub item : X
+  pub is : slice_get xs i ≡ Some item
+  pub at : get_or xs i item ≡ item
 
-found : {X : Type 0} (xs : List X) (i : ℕ) → i < length xs → IsFound xs i
+pub found : {X : Type 0} (xs : List X) (i : ℕ) → i < length xs → IsFound xs i
 found [] i l = absurd (omega (arith, l))
 found (x ∷ xs) zero l = record { item = x; is = refl; at = refl }
 found (x ∷ xs) (suc i) l = let rest = found xs i (omega (arith, l)) in record { item = rest.item; is = rest.is; at = rest.at }

@@ -11,8 +11,7 @@ use Rattle.std.proofs.lemmas.List.Sums.{length-filter, count_by-le-length}
 use Rattle.fx_math.specs.declared.lenses.Lens.{Lens}
 use Rattle.depth_raster.specs.Blocks.{IsBlockOf}
 use Rattle.depth_raster.specs.Pieces.{IsPieceOf, pieces_over}
-use Rattle.depth_raster.specs.Shares.{meets, LieFrom, AreStacked, HasSlots, Gains, EachGains, HasShare, AreShared, AreSlotsFor, HasSlotsFor}
-use Rattle.depth_raster.specs.Shown.{AreRowsOf}
+use Rattle.depth_raster.specs.Shares.{meets, AreStacked, HasSlots, Gains, EachGains, HasShare, AreShared, AreSlotsFor, HasSlotsFor}
 use Rattle.depth_raster.specs.Slots.{slot_over, slots_over, IsSlotOf, AreSlotsOf}
 use Rattle.depth_raster.specs.Strips.{tile_block, AreTilesOf, TilesRelate, IsStripOf, StripRelates, StripsRelate, AreStrips}
 use Rattle.depth_raster.specs.declared.blocks.Block.{Block}
@@ -22,7 +21,6 @@ use Rattle.depth_raster.specs.declared.strip.Strip.{Strip}
 use Rattle.depth_raster.specs.declared.slots.Slot.{Slot}
 use Rattle.depth_raster.specs.declared.tile.Tile.{Tile}
 use Rattle.depth_raster.proofs.Drawn.{AreOver}
-use Rattle.depth_raster.proofs.Rows.{rows_kept}
 use Rattle.depth_raster.proofs.Skipped.{mark_missed}
 use Rattle.depth_raster.proofs.Slotted.{slot_is, slot_none, ready_piece}
 
@@ -39,8 +37,7 @@ pub slots_then : (xs ys : List Slot) (a b c : Strip) → HasSlots xs a b → Has
 slots_then xs ys a b c h k = record {
   band = k.band ∙ h.band;
   tiles = k.tiles ∙ h.tiles;
-  opaque_work = k.opaque_work ∙ h.opaque_work;
-  glass_work = k.glass_work ∙ h.glass_work;
+  rows = k.rows ∙ h.rows;
   slots = k.slots;
 }
 
@@ -81,12 +78,11 @@ not_reached_above b s above = grind (arith, nat_tests)
 not_reached_below : (b : Block) (s : Slot) → s.bottom ≤ b.first → meets b s ≡ false
 not_reached_below b s below = grind (arith, nat_tests)
 
-gained_not : (s : Slot) (t : Strip) → meets t.band s ≡ false → Gains s t t
+pub gained_not : (s : Slot) (t : Strip) → meets t.band s ≡ false → Gains s t t
 gained_not s t misses = record {
   band = refl;
   tiles = refl;
-  opaque_work = refl;
-  glass_work = refl;
+  rows = refl;
   slots = sym (ap (λ (b : Bool). t.slots.items ++ cond b (s ∷ []) []) misses ∙ append-nil t.slots.items);
 }
 
@@ -97,40 +93,43 @@ strip_begins bottom n i count below = let bound : (bottom ≤ div_ceil bottom 16
 strip_passed : (bottom i : ℕ) → div_ceil bottom 16 ≤ i → bottom ≤ 16 * i
 strip_passed bottom i l = let bound : (bottom ≤ div_ceil bottom 16 * 16) × (div_ceil bottom 16 * 16 < bottom + 16) = div_ceil_times bottom 16 (omega arith) in omega (arith, bound.0, l)
 
-pub gained : (s : Slot) (first i n : ℕ) (before after : Strip) → before.band.first ≡ first + 16 * i → (s.top - first) / 16 ≤ i → n ≡ div_ceil (s.bottom - first) 16 → i < n → HasSlots (before.slots.items ++ s ∷ []) before after → Gains s before after
-gained s first i n before after at from count below has =
+pub gained : (s : Slot) (i n : ℕ) (before after : Strip) → before.band.first ≡ 16 * i → s.top / 16 ≤ i → n ≡ div_ceil s.bottom 16 → i < n → HasSlots (before.slots.items ++ s ∷ []) before after → Gains s before after
+gained s i n before after at from count below has =
     subst (λ (b : Bool). HasSlots (before.slots.items ++ cond b (s ∷ []) []) before after)
-    (sym (reached before.band s (omega (arith, at, from)) (omega (arith, at, strip_begins (s.bottom - first) n i count below)))) has
+    (sym (reached before.band s (omega (arith, at, from)) (omega (arith, at, strip_begins s.bottom n i count below)))) has
 
-pub gains_none : (s : Slot) (first : ℕ) (before : List Strip) (n : ℕ) → LieFrom first before → n ≡ (s.top - first) / 16 → GainsSoFar s before before n
-gains_none s first before n lie is = record {
+pub gains_none : (s : Slot) (before : List Strip) (n : ℕ) → AreStacked before → n ≡ s.top / 16 → GainsSoFar s before before n
+gains_none s before n lie is = record {
   done = λ i d l in_list. gained_not s (get_or before i d) (not_reached_above (get_or before i d).band s (omega (arith, l, is, lie i d in_list)));
   ahead = λ i d l. refl;
 }
 
-pub gains_all : (s : Slot) (first : ℕ) (before after : List Strip) (n : ℕ) → LieFrom first before → GainsSoFar s before after n → ((i : ℕ) → n ≤ i → i < length before → div_ceil (s.bottom - first) 16 ≤ i) → EachGains s before after
-gains_all s first before after n lie so_far rest i d in_list = ⊎_elim
+pub gains_all : (s : Slot) (before after : List Strip) (n : ℕ) → AreStacked before → GainsSoFar s before after n → ((i : ℕ) → n ≤ i → i < length before → div_ceil s.bottom 16 ≤ i) → EachGains s before after
+gains_all s before after n lie so_far rest i d in_list = ⊎_elim
     (λ below. so_far.done i d below in_list)
     (λ beyond.
-    let passed = strip_passed (s.bottom - first) i (rest i beyond in_list) in
+    let passed = strip_passed s.bottom i (rest i beyond in_list) in
     subst (λ (t : Strip). Gains s (get_or before i d) t) (sym (so_far.ahead i d beyond))
     (gained_not s (get_or before i d) (not_reached_below (get_or before i d).band s (omega (arith, passed, lie i d in_list)))))
     (cases_lt i n)
 
 -- ---- slot after slot
-pub shared_lie : (first : ℕ) (ss : List Slot) (before after : List Strip) → length after ≡ length before → AreShared ss before after → LieFrom first before → LieFrom first after
-shared_lie first ss before after long shared lie i d below =
+pub shared_lie : (ss : List Slot) (before after : List Strip) → length after ≡ length before → AreShared ss before after → AreStacked before → AreStacked after
+shared_lie ss before after long shared lie i d below =
     let in_list : i < length before = omega (arith, below, long) in ap (λ (b : Block). b.first) (shared i d in_list).band ∙ lie i d in_list
+
+pub share_more : (ss : List Slot) (n : ℕ) (e : Slot) (first before after : Strip) → n < length ss → HasShare (take n ss) first before → Gains (get_or ss n e) before after → HasShare (take (n + 1) ss) first after
+share_more ss n e first before after below had gains =
+    let s = get_or ss n e in
+    let b = first.band in
+    let has = subst (λ (c : Block). HasSlots (before.slots.items ++ cond (meets c s) (s ∷ []) []) before after) had.band gains in
+    let more = ap (λ (xs : List Slot). xs ++ cond (meets b s) (s ∷ []) []) had.slots ∙ sym (filter_more (meets b) ss n e below) in
+    subst (λ (xs : List Slot). HasSlots xs first after) more
+    (slots_then (filter (meets b) (take n ss)) (before.slots.items ++ cond (meets b s) (s ∷ []) []) first before after had has)
 
 pub shared_more : (ss : List Slot) (n : ℕ) (e : Slot) (first before after : List Strip) → n < length ss → length before ≡ length first → AreShared (take n ss) first before → EachGains (get_or ss n e) before after → AreShared (take (n + 1) ss) first after
 shared_more ss n e first before after below long so_far gains i d in_list =
-    let s = get_or ss n e in
-    let b = (get_or first i d).band in
-    let had = so_far i d in_list in
-    let has = subst (λ (c : Block). HasSlots ((get_or before i d).slots.items ++ cond (meets c s) (s ∷ []) []) (get_or before i d) (get_or after i d)) had.band (gains i d (omega (arith, in_list, long))) in
-    let more = ap (λ (xs : List Slot). xs ++ cond (meets b s) (s ∷ []) []) had.slots ∙ sym (filter_more (meets b) ss n e below) in
-    subst (λ (xs : List Slot). HasSlots xs (get_or first i d) (get_or after i d)) more
-    (slots_then (filter (meets b) (take n ss)) ((get_or before i d).slots.items ++ cond (meets b s) (s ∷ []) []) (get_or first i d) (get_or before i d) (get_or after i d) had has)
+    share_more ss n e (get_or first i d) (get_or before i d) (get_or after i d) below (so_far i d in_list) (gains i d (omega (arith, in_list, long)))
 
 pub slots_few : (b : Block) (n : ℕ) (ss xs : List Slot) → n < length ss → length ss ≤ 16384 → xs ≡ filter (meets b) (take n ss) → length xs < 16384
 slots_few b n ss xs below few is =
@@ -172,7 +171,7 @@ share_over lens ps b px py ready column row at (s ∷ ss) all m =
     (λ n. share_over lens ps b px py ready column row at ss (All-tail (IsSlotOf ps) s ss all) n)
     (λ misses. slot_unmet lens ps s b px py m ready (All-head (IsSlotOf ps) s ss all) column row at misses)
 
-share_for : (lens : Lens) (ps : List Piece) (ss : List Slot) (before after : Strip) → All (IsPieceOf lens) ps → AreSlotsOf lens ps ss → IsStripOf lens before → HasShare ss before after → HasSlotsFor lens ps after
+pub share_for : (lens : Lens) (ps : List Piece) (ss : List Slot) (before after : Strip) → All (IsPieceOf lens) ps → AreSlotsOf lens ps ss → IsStripOf lens before → HasShare ss before after → HasSlotsFor lens ps after
 share_for lens ps ss before after ready are strip has = record {
   rows = subst (λ (ts : List Slot). All (IsSlotOf ps) ts) (sym has.slots) (All-filter (meets before.band) (IsSlotOf ps) ss are.rows);
   over = λ px r m column row.
@@ -192,7 +191,7 @@ shared_slots lens ps ss before after ready are strips long shared i d below =
     share_for lens ps ss (get_or before i d) (get_or after i d) ready are (strips i d in_list) (shared i d in_list)
 
 -- ---- strips with their slots are the same strips
-shared_strip : (lens : Lens) (ss : List Slot) (before after : Strip) → IsStripOf lens before → HasShare ss before after → IsStripOf lens after
+pub shared_strip : (lens : Lens) (ss : List Slot) (before after : Strip) → IsStripOf lens before → HasShare ss before after → IsStripOf lens after
 shared_strip lens ss before after strip has = record {
   band = subst (λ (b : Block). IsBlockOf lens b) (sym has.band) strip.band;
   begins = omega (arith, strip.begins, ap (λ (b : Block). b.first) has.band);
@@ -206,7 +205,7 @@ shared_strips lens ss before after strips long shared i d below =
     shared_strip lens ss (get_or before i d) (get_or after i d) (strips i d in_list) (shared i d in_list)
 
 -- what holds of the tiles from there on holds of them from before
-shared_before : (P : Tile → Tile → Type 0) (ss : List Slot) (a b c : Strip) → HasSlots ss a b → StripRelates P b c → StripRelates P a c
+pub shared_before : (P : Tile → Tile → Type 0) (ss : List Slot) (a b c : Strip) → HasSlots ss a b → StripRelates P b c → StripRelates P a c
 shared_before P ss a b c has h = record {
   band = h.band ∙ has.band;
   count = h.count ∙ ap (λ (ts : List Tile). length ts) has.tiles;
@@ -219,25 +218,7 @@ shared_relate P ss before shared after long are each i d below =
 
 -- ---- strips one below the other
 pub picture_lies : (lens : Lens) (strips : List Strip) → AreStrips lens strips → AreStacked strips
-picture_lies lens strips are d i e below =
-    ap (λ (b : Block). b.first) (are.bands i e below) ∙ omega (arith, ap (λ (b : Block). b.first) (are.bands 0 d (omega (arith, below))))
-
-lie_cut : (first : ℕ) (xs ys : List Strip) → LieFrom first (xs ++ ys) → LieFrom first xs × LieFrom (first + 16 * length xs) ys
-lie_cut first xs ys lie = (
-  λ i d below. ap (λ (s : Strip). s.band.first) (sym (get_or_append_left xs ys d i below)) ∙ lie i d (omega (arith, below, length-append xs ys)),
-  λ i d below. ap (λ (s : Strip). s.band.first) (sym (get_or-append-add xs ys i d)) ∙ lie (length xs + i) d (omega (arith, below, length-append xs ys)) ∙ omega arith,
-)
-
--- they are stacked, wherever they begin
-lie_stacked : (first : ℕ) (strips : List Strip) → LieFrom first strips → AreStacked strips
-lie_stacked first strips lie d i e below = lie i e below ∙ omega (arith, lie 0 d (omega (arith, below)))
-
-pub stacked_front : (xs ys : List Strip) → AreStacked (xs ++ ys) → AreStacked xs
-stacked_front xs ys stacked d = let first = (get_or (xs ++ ys) 0 d).band.first in lie_stacked first xs (lie_cut first xs ys (stacked d)).0 d
-
-pub stacked_rear : (xs ys : List Strip) → AreStacked (xs ++ ys) → AreStacked ys
-stacked_rear xs ys stacked d =
-    let first = (get_or (xs ++ ys) 0 d).band.first in lie_stacked (first + 16 * length xs) ys (lie_cut first xs ys (stacked d)).1 d
+picture_lies lens strips are i d below = ap (λ (b : Block). b.first) (are.bands i d below)
 
 -- the tiles of a band
 pub tile_over : (lens : Lens) (ps : List Piece) (b : Block) (ss : List Slot) (j : ℕ) (t : Tile) → AreSlotsFor lens ps b ss → t.block ≡ tile_block b j → IsBlockOf lens t.block → AreOver lens ps ss t
@@ -246,13 +227,3 @@ tile_over lens ps b ss j t slots is within q r at m =
     let row : r < b.rows = omega (arith, at.row, ap (λ (c : Block). c.rows) is) in
     subst (λ (y : ℕ). slots_over lens ps ss (t.block.left + q) (y + r) m ≡ pieces_over lens ps (t.block.left + q) (y + r) m) (sym first)
     (slots.over (t.block.left + q) r m (omega (arith, at.column, within.columns)) row)
-
--- and they have the same rows
-pub shared_rows : (ss : List Slot) (width : ℕ) (before after : List Strip) (bytes : List ℕ) → AreRowsOf width before bytes → length after ≡ length before → AreShared ss before after → AreRowsOf width after bytes
-shared_rows ss width before after bytes rows long shared =
-    rows_kept (λ (s t : Tile). t ≡ s) width before after bytes (λ s t same. ap (λ (u : Tile). u.block) same) rows long
-    (λ i d below. let has = shared i d below in record {
-      band = has.band;
-      count = ap (λ (ts : List Tile). length ts) has.tiles;
-      tiles = λ j e in_band. ap (λ (ts : List Tile). get_or ts j e) has.tiles;
-    })

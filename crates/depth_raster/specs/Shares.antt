@@ -14,20 +14,15 @@ use Rattle.depth_raster.specs.declared.strip.Strip.{Strip}
 abbrev pub meets : Block → Slot → Bool
 meets b s = nat_lt s.top (b.first + 16) && nat_lt b.first s.bottom
 
--- the strips lie one below the other, from this row on
-abbrev pub LieFrom : (first : ℕ) → List Strip → Type 0
-LieFrom first strips = (i : ℕ) (d : Strip) → i < length strips → (slice_index_or strips i d).band.first ≡ first + 16 * i
-
--- they do, wherever they begin
+-- the strips lie one below the other, from the first row on
 abbrev pub AreStacked : List Strip → Type 0
-AreStacked strips = (d : Strip) → LieFrom (slice_index_or strips 0 d).band.first strips
+AreStacked strips = (i : ℕ) (d : Strip) → i < length strips → (slice_index_or strips i d).band.first ≡ 16 * i
 
 -- the strip has these slots now; all else stays
 pub record HasSlots (ss : List Slot) (before after : Strip) : Type 0 where
   pub band : after.band ≡ before.band
   pub tiles : after.tiles.items ≡ before.tiles.items
-  pub opaque_work : after.opaque_work ≡ before.opaque_work
-  pub glass_work : after.glass_work ≡ before.glass_work
+  pub rows : after.rows.items ≡ before.rows.items
   pub slots : after.slots.items ≡ ss
 
 -- the strip has the slot besides, where the slot reaches its rows

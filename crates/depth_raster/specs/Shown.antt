@@ -3,8 +3,6 @@ use Rattle.std.specs.Prelude.{◌≡◌, ℕ, ◌+◌, ◌*◌, ◌<◌, ◌≤�
 use Rattle.std.specs.Option.{option_map_or}
 use Rattle.ppm_out.specs.Pixmap.{pixel_in}
 use Rattle.depth_raster.specs.Blocks.{colour_in}
-use Rattle.depth_raster.specs.Canvas.{colour_at}
-use Rattle.depth_raster.specs.Strips.{AreBands}
 use Rattle.depth_raster.specs.declared.blocks.Block.{Block}
 use Rattle.depth_raster.specs.declared.strip.Strip.{Strip}
 use Rattle.depth_raster.specs.declared.tile.Tile.{Tile}
@@ -31,16 +29,11 @@ abbrev pub ShowsTiles : (band : Block) → List Tile → (bytes : List ℕ) → 
 ShowsTiles band tiles bytes =
     (px r : ℕ) → px < band.width → r < band.rows → pixel_in bytes band.width px r ≡ tile_colour tiles px r
 
--- how many rows strips have
-abbrev pub height_of : List Strip → ℕ
-height_of [] = 0
-height_of (s ∷ strips) = s.band.rows + height_of strips
+-- the rows of a strip have the colours of its tiles
+abbrev pub ShowsItself : Strip → Type 0
+ShowsItself s = ShowsTiles s.band s.tiles.items s.rows.items
 
--- the bytes are those of the rows of strips, which are so wide
-abbrev pub AreRowsOf : (width : ℕ) → List Strip → (bytes : List ℕ) → Type 0
-AreRowsOf width strips bytes = AreBands width strips × (length bytes ≡ 3 * (height_of strips * width))
-
--- each pixel of the strips, whose rows are so wide, has the colour of its tile
-abbrev pub ShowsStrips : (width : ℕ) → List Strip → (bytes : List ℕ) → Type 0
-ShowsStrips width strips bytes =
-    (px r : ℕ) → px < width → r < height_of strips → pixel_in bytes width px r ≡ colour_at strips px r
+-- a strip is the same but for its rows
+pub record IsSeenAs (before after : Strip) : Type 0 where
+  pub band : after.band ≡ before.band
+  pub tiles : after.tiles.items ≡ before.tiles.items

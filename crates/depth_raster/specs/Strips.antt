@@ -51,10 +51,3 @@ pub record AreStrips (lens : Lens) (strips : List Strip) : Type 0 where
   pub count : length strips ≡ div_ceil lens.h 16
   pub bands : (i : ℕ) (d : Strip) → i < length strips → (slice_index_or strips i d).band ≡ band_at lens i
   pub tiles : (i : ℕ) (d : Strip) → i < length strips → AreTilesOf (band_at lens i) (slice_index_or strips i d).tiles.items
-
--- strips so wide, one below the other, each of sixteen rows, the last one perhaps of fewer
-pub record AreBands (width : ℕ) (strips : List Strip) : Type 0 where
-  pub widths : (i : ℕ) (d : Strip) → i < length strips → (slice_index_or strips i d).band.width ≡ width
-  pub full : (i : ℕ) (d : Strip) → i + 1 < length strips → (slice_index_or strips i d).band.rows ≡ 16
-  pub most : (i : ℕ) (d : Strip) → i < length strips → (slice_index_or strips i d).band.rows ≤ 16
-  pub tiles : (i : ℕ) (d : Strip) → i < length strips → IsTiled (slice_index_or strips i d)

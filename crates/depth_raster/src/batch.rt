@@ -9,7 +9,7 @@ use crate::goes::Go;
 use crate::piece_buffer::{PieceBuffer, ROOM};
 use crate::slots::{Slot, complete, sort};
 use crate::waiting::Waiting;
-use crate::work::{Processors, others_to_prepare, parts_to_make_ready};
+use crate::work::{Processors, others_to_prepare, processors_to_make_ready};
 use draw_list::DrawList;
 use fx_math::Lens;
 use pf_io::NoMemory;
@@ -148,7 +148,7 @@ impl Batch {
         ensures ready { All (IsPieceOf lens.now) self.new.pieces }
     {
         self.slotted = 0;
-        let parts = parts_to_make_ready(rt, &mut self.processors, self.pieces.len());
+        let parts = processors_to_make_ready(rt, &mut self.processors, self.pieces.len());
         self.pieces.make_ready(rt, parts, lens);
     }
 
@@ -185,16 +185,16 @@ impl Batch {
         self.numbered = self.slots.len();
     }
 
-    /// Sorts the slots by the least depths of their pieces, where the strips are drawn in one part. Where there are several, each
-    /// sorts the slots of its strips.
-    pub(crate) fn sort_slots(&mut self, parts: usize)
+    /// Sorts the slots by the least depths of their pieces, where one processor draws the strips. Where there are several, who draws a
+    /// strip sorts its slots.
+    pub(crate) fn sort_slots(&mut self, processors: usize)
         ensures first { self.new.is_first ≡ self.old.is_first }
         ensures pieces { self.new.pieces ≡ self.old.pieces }
         ensures count { length self.new.slots.items ≡ length self.old.slots.items }
         ensures slots { (lens : Lens) (ps : List Piece) → AreSlotsOf lens ps self.old.slots.items
             → AreSlotsOf lens ps self.new.slots.items }
     {
-        if parts < 2 {
+        if processors < 2 {
             self.slotted = 0;
             self.numbered = 0;
             sort(&mut self.slots);

@@ -15,7 +15,7 @@ use crate::glass_strips::glaze_strips;
 use crate::panes::next_pane;
 use crate::recent::Recent;
 use crate::strip::Strip;
-use crate::work::{parts_of, work_of_pieces};
+use crate::work::{processors_for, work_of_pieces};
 use draw_list::{DrawList, Item};
 use fx_math::Lens;
 use std::thread::Threads;
@@ -23,14 +23,14 @@ use std::thread::Threads;
 /// Draws the glass of a list, from far to near.
 pub(crate) fn draw_glass<R: Threads + Sync>(
     rt: &R,
-    strips: &mut [Strip],
+    strips: &mut Vec<Strip>,
     batch: &mut Batch,
     lens: &Lens,
     list: &DrawList,
 )
-    requires sound { AreStrips lens.now strips.old }
-    ensures sound { AreStrips lens.now strips.new }
-    ensures glass { Glazes lens.now strips.old batch.old.pieces strips.new batch.new.pieces
+    requires sound { AreStrips lens.now strips.old.items }
+    ensures sound { AreStrips lens.now strips.new.items }
+    ensures glass { Glazes lens.now strips.old.items batch.old.pieces strips.new.items batch.new.pieces
         (glass_glazed lens.now (sorted is_drawn_before (filter is_glass (instances_in list.now)))) }
 {
     let mut last = None;
@@ -47,15 +47,15 @@ pub(crate) fn draw_glass<R: Threads + Sync>(
 /// Draws the item of a number, which is glass.
 fn draw_pane<R: Threads + Sync>(
     rt: &R,
-    strips: &mut [Strip],
+    strips: &mut Vec<Strip>,
     batch: &mut Batch,
     lens: &Lens,
     list: &DrawList,
     number: usize,
 )
-    requires sound { AreStrips lens.now strips.old }
-    ensures sound { AreStrips lens.now strips.new }
-    ensures glass { Glazes lens.now strips.old batch.old.pieces strips.new batch.new.pieces
+    requires sound { AreStrips lens.now strips.old.items }
+    ensures sound { AreStrips lens.now strips.new.items }
+    ensures glass { Glazes lens.now strips.old.items batch.old.pieces strips.new.items batch.new.pieces
         (glass_glazed lens.now (option_to_list (slice_get (instances_in list.now) number))) }
 {
     match list.item(number) {
@@ -67,16 +67,16 @@ fn draw_pane<R: Threads + Sync>(
 /// Draws the triangles of an item of glass.
 fn draw_item<R: Threads + Sync>(
     rt: &R,
-    strips: &mut [Strip],
+    strips: &mut Vec<Strip>,
     batch: &mut Batch,
     lens: &Lens,
     list: &DrawList,
     item: &Item,
 )
-    requires sound { AreStrips lens.now strips.old }
+    requires sound { AreStrips lens.now strips.old.items }
     requires joint { item.now.joint < length list.now.joints.lists }
-    ensures sound { AreStrips lens.now strips.new }
-    ensures glass { Glazes lens.now strips.old batch.old.pieces strips.new batch.new.pieces
+    ensures sound { AreStrips lens.now strips.new.items }
+    ensures glass { Glazes lens.now strips.old.items batch.old.pieces strips.new.items batch.new.pieces
         (instance_glazed lens.now (instance_of_item list.now.joints.lists list.now.kept.tris item.now)) }
 {
     let mut recent = Recent::new(item.joint);
@@ -95,14 +95,14 @@ fn draw_item<R: Threads + Sync>(
 /// before.
 fn draw_face<R: Threads + Sync>(
     rt: &R,
-    strips: &mut [Strip],
+    strips: &mut Vec<Strip>,
     batch: &mut Batch,
     lens: &Lens,
     face: Face,
 )
-    requires sound { AreStrips lens.now strips.old }
-    ensures sound { AreStrips lens.now strips.new }
-    ensures glass { Glazes lens.now strips.old batch.old.pieces strips.new batch.new.pieces
+    requires sound { AreStrips lens.now strips.old.items }
+    ensures sound { AreStrips lens.now strips.new.items }
+    ensures glass { Glazes lens.now strips.old.items batch.old.pieces strips.new.items batch.new.pieces
         (face_glazed lens.now face) }
 {
     make_room(rt, strips, batch, lens);
@@ -110,11 +110,11 @@ fn draw_face<R: Threads + Sync>(
 }
 
 /// Draws a full batch.
-fn make_room<R: Threads + Sync>(rt: &R, strips: &mut [Strip], batch: &mut Batch, lens: &Lens)
-    requires sound { AreStrips lens.now strips.old }
-    ensures sound { AreStrips lens.now strips.new }
+fn make_room<R: Threads + Sync>(rt: &R, strips: &mut Vec<Strip>, batch: &mut Batch, lens: &Lens)
+    requires sound { AreStrips lens.now strips.old.items }
+    ensures sound { AreStrips lens.now strips.new.items }
     ensures room { length batch.new.pieces < 16384 }
-    ensures glass { Glazes lens.now strips.old batch.old.pieces strips.new batch.new.pieces
+    ensures glass { Glazes lens.now strips.old.items batch.old.pieces strips.new.items batch.new.pieces
         (λ behind px py under. under) }
 {
     if batch.is_full() {
@@ -123,11 +123,16 @@ fn make_room<R: Threads + Sync>(rt: &R, strips: &mut [Strip], batch: &mut Batch,
 }
 
 /// Draws the pieces of glass of a batch, which has none then.
-pub(crate) fn flush<R: Threads + Sync>(rt: &R, strips: &mut [Strip], batch: &mut Batch, lens: &Lens)
-    requires sound { AreStrips lens.now strips.old }
-    ensures sound { AreStrips lens.now strips.new }
+pub(crate) fn flush<R: Threads + Sync>(
+    rt: &R,
+    strips: &mut Vec<Strip>,
+    batch: &mut Batch,
+    lens: &Lens,
+)
+    requires sound { AreStrips lens.now strips.old.items }
+    ensures sound { AreStrips lens.now strips.new.items }
     ensures empty { batch.new.pieces ≡ [] }
-    ensures glass { Glazes lens.now strips.old batch.old.pieces strips.new []
+    ensures glass { Glazes lens.now strips.old.items batch.old.pieces strips.new.items []
         (λ behind px py under. under) }
 {
     if batch.pieces.len() == 0 {
@@ -135,7 +140,7 @@ pub(crate) fn flush<R: Threads + Sync>(rt: &R, strips: &mut [Strip], batch: &mut
     }
     batch.make_ready(rt, lens);
     let work = work_of_pieces(batch.pieces.as_slice());
-    let parts = parts_of(rt, &mut batch.processors, work);
-    glaze_strips(rt, parts, lens, batch.pieces.as_slice(), strips);
+    let processors = processors_for(rt, &mut batch.processors, work);
+    glaze_strips(rt, processors, lens, batch.pieces.as_slice(), strips);
     batch.clear();
 }

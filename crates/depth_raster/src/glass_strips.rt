@@ -1,6 +1,5 @@
 //! Glass over the strips of a picture.
-ghost use Rattle.std.specs.Prelude.{◌≡◌, ◌<◌, All, length};
-ghost use Rattle.std.specs.Thread.{IsSync};
+ghost use Rattle.std.specs.Prelude.{◌≡◌, All, length};
 ghost use Rattle.depth_raster.specs.Blocks.{IsBlockOf};
 ghost use Rattle.depth_raster.specs.Pieces.{IsPieceOf};
 ghost use Rattle.depth_raster.specs.Strips.{AreTilesOf, TilesRelate, IsStripOf, StripRelates, StripsRelate};
@@ -11,79 +10,33 @@ use crate::blocks::Block;
 use crate::glass_tiles::glaze_tile;
 use crate::pieces::Piece;
 use crate::strip::Strip;
+use crate::strips::claim_strips;
 use crate::tile::Tile;
-use crate::work::{Layer, end_of_part, work_of_panes};
 use fx_math::Lens;
-use std::thread::{Threads, join_mut};
+use std::thread::Threads;
 
-/// Draws pieces of glass in strips as they stand, in so many parts side by side; the strips of a part are drawn one after the
-/// other.
-#[cycle(parts)]
+/// Draws pieces of glass in strips as they stand, which so many processors in all claim one after the other.
 pub(crate) fn glaze_strips<R: Threads + Sync>(
     rt: &R,
-    parts: usize,
+    processors: usize,
     lens: &Lens,
     pieces: &[Piece],
-    strips: &mut [Strip],
+    strips: &mut Vec<Strip>,
 )
-    requires strips { All (IsStripOf lens.now) strips.old }
+    requires strips { All (IsStripOf lens.now) strips.old.items }
     requires pieces { All (IsPieceOf lens.now) pieces.now }
-    ensures { StripsRelate (ColoursFollow (pieces_glazes lens.now pieces.now)) strips.old strips.new }
+    ensures many { length strips.new.items ≡ length strips.old.items }
+    ensures glazed { StripsRelate (ColoursFollow (pieces_glazes lens.now pieces.now)) strips.old.items strips.new.items }
 {
-    if strips.len() < 2 {
-        glaze_last(strips, lens, pieces);
-        return;
-    }
-    let (upper, lower) = strips.split_at_mut(end_of_part(strips, parts, Layer::Glass));
-    glaze_parts(rt, parts, lens, pieces, upper, lower);
-}
-
-/// Draws pieces of glass in the strips of one part, in a thread of its own where there are several, and in those of the others.
-#[cycle(parts)]
-fn glaze_parts<R: Threads + Sync>(
-    rt: &R,
-    parts: usize,
-    lens: &Lens,
-    pieces: &[Piece],
-    upper: &mut [Strip],
-    lower: &mut [Strip],
-)
-    requires some_upper { 0 < length upper.old }
-    requires some_lower { 0 < length lower.old }
-    requires upper { All (IsStripOf lens.now) upper.old }
-    requires lower { All (IsStripOf lens.now) lower.old }
-    requires pieces { All (IsPieceOf lens.now) pieces.now }
-    ensures upper { StripsRelate (ColoursFollow (pieces_glazes lens.now pieces.now)) upper.old upper.new }
-    ensures lower { StripsRelate (ColoursFollow (pieces_glazes lens.now pieces.now)) lower.old lower.new }
-{
-    if parts < 2 {
-        glaze_strips(rt, 1, lens, pieces, upper);
-        glaze_strips(rt, 1, lens, pieces, lower);
-        return;
-    }
-    let others = parts - 1;
-    let mut above = ||
-        requires { IsSync R.row × All (IsStripOf lens.now) upper.now × All (IsPieceOf lens.now) pieces.now }
-        ensures { StripsRelate (ColoursFollow (pieces_glazes lens.entry.now pieces.entry.now)) upper.entry.now upper.exit.now }
-    { glaze_strips(rt, 1, lens, pieces, upper) };
-    let mut below = ||
-        requires { IsSync R.row × All (IsStripOf lens.now) lower.now × All (IsPieceOf lens.now) pieces.now }
-        ensures { StripsRelate (ColoursFollow (pieces_glazes lens.entry.now pieces.entry.now)) lower.entry.now lower.exit.now }
-    { glaze_strips(rt, others, lens, pieces, lower) };
-    join_mut(rt, &mut above, &mut below);
-}
-
-/// Draws pieces of glass in a strip that is not halved any more, or in none.
-fn glaze_last(strips: &mut [Strip], lens: &Lens, pieces: &[Piece])
-    requires few { length strips.old < 2 }
-    requires strips { All (IsStripOf lens.now) strips.old }
-    requires pieces { All (IsPieceOf lens.now) pieces.now }
-    ensures { StripsRelate (ColoursFollow (pieces_glazes lens.now pieces.now)) strips.old strips.new }
-{
-    if strips.is_empty() {
-        return;
-    }
-    glaze_strip(&mut strips[0], lens, pieces);
+    claim_strips(
+        rt,
+        processors,
+        strips,
+        &|_i: usize, strip: &mut Strip|
+            requires { IsStripOf lens.now strip.now × All (IsPieceOf lens.now) pieces.now }
+            ensures { StripRelates (ColoursFollow (pieces_glazes lens.entry.now pieces.entry.now)) strip.entry.now strip.exit.now }
+        { glaze_strip(strip, lens, pieces) },
+    );
 }
 
 /// Draws pieces of glass in a strip.
@@ -94,7 +47,6 @@ fn glaze_strip(strip: &mut Strip, lens: &Lens, pieces: &[Piece])
 {
     let band = strip.band;
     glaze_tiles(&mut strip.tiles, &band, lens, pieces);
-    strip.glass_work = work_of_panes(pieces, &band);
 }
 
 /// Draws pieces of glass over the tiles of a band.

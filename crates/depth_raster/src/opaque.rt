@@ -6,20 +6,16 @@ ghost use Rattle.draw_list.specs.Lists.{instances_in};
 ghost use Rattle.depth_raster.specs.Canvas.{Draws, Gathers, drawn_with, seen_at, colour_at, waiting_over};
 ghost use Rattle.depth_raster.specs.Pieces.{IsPieceOf, IsThere, AreGathered};
 ghost use Rattle.depth_raster.specs.Drawing.{instance_over, opaque_over};
-ghost use Rattle.depth_raster.specs.Goes.{IsReady, IsDrawnIn};
-ghost use Rattle.depth_raster.specs.Shares.{AreStacked};
-ghost use Rattle.depth_raster.specs.Shown.{AreRowsOf, ShowsStrips};
 ghost use Rattle.depth_raster.specs.Slots.{AreSlotsOf};
-ghost use Rattle.depth_raster.specs.Strips.{AreStrips, IsStripOf, StripsRelate};
-ghost use Rattle.ppm_out.specs.Pixmap.{IsPixmap, pixel};
-ghost use Rattle.std.specs.Thread.{IsSync};
+ghost use Rattle.depth_raster.specs.Strips.{AreStrips};
+ghost use Rattle.ppm_out.specs.Pixmap.{pixel};
 
 use crate::batch::Batch;
 use crate::goes::Go;
-use crate::idle::Idle;
+use crate::shown::hand_over;
 use crate::strip::Strip;
 use crate::strips::draw_strips;
-use crate::work::{is_long, parts_of, work_of_slots, work_to_show};
+use crate::work::{processors_for, work_of_slots, work_to_show};
 use draw_list::{DrawList, Item};
 use fx_math::Lens;
 use ppm_out::Image;
@@ -28,18 +24,18 @@ use std::thread::Threads;
 /// Draws the opaque items of a list.
 pub(crate) fn draw_opaque<R: Threads + Sync>(
     rt: &R,
-    strips: &mut [Strip],
+    strips: &mut Vec<Strip>,
     batch: &mut Batch,
     lens: &Lens,
     back: [u8; 3],
     list: &DrawList,
 )
-    requires sound { AreStrips lens.now strips.old }
+    requires sound { AreStrips lens.now strips.old.items }
     requires ready { All (IsPieceOf lens.now) batch.old.pieces }
-    ensures sound { AreStrips lens.now strips.new }
+    ensures sound { AreStrips lens.now strips.new.items }
     ensures ready { All (IsPieceOf lens.now) batch.new.pieces }
-    ensures drawn { Draws lens.now batch.old.is_first strips.old batch.old.pieces
-        batch.new.is_first strips.new batch.new.pieces (opaque_over lens.now (instances_in list.now)) }
+    ensures drawn { Draws lens.now batch.old.is_first strips.old.items batch.old.pieces
+        batch.new.is_first strips.new.items batch.new.pieces (opaque_over lens.now (instances_in list.now)) }
 {
     batch.clear_waiting();
     for number in 0..list.len() {
@@ -51,19 +47,19 @@ pub(crate) fn draw_opaque<R: Threads + Sync>(
 /// Draws the item of a number, where it is opaque.
 fn draw_numbered<R: Threads + Sync>(
     rt: &R,
-    strips: &mut [Strip],
+    strips: &mut Vec<Strip>,
     batch: &mut Batch,
     lens: &Lens,
     back: [u8; 3],
     list: &DrawList,
     number: usize,
 )
-    requires sound { AreStrips lens.now strips.old }
+    requires sound { AreStrips lens.now strips.old.items }
     requires gathered { AreGathered list.now lens.now batch.old.pieces batch.old.waiting.items }
-    ensures sound { AreStrips lens.now strips.new }
+    ensures sound { AreStrips lens.now strips.new.items }
     ensures gathered { AreGathered list.now lens.now batch.new.pieces batch.new.waiting.items }
-    ensures drawn { Gathers list.now lens.now batch.old.is_first strips.old batch.old.pieces batch.old.waiting.items
-        batch.new.is_first strips.new batch.new.pieces batch.new.waiting.items
+    ensures drawn { Gathers list.now lens.now batch.old.is_first strips.old.items batch.old.pieces batch.old.waiting.items
+        batch.new.is_first strips.new.items batch.new.pieces batch.new.waiting.items
         (opaque_over lens.now (option_to_list (slice_get (instances_in list.now) number))) }
 {
     match list.item(number) {
@@ -75,7 +71,7 @@ fn draw_numbered<R: Threads + Sync>(
 /// Draws the item of a number, where it is opaque.
 fn draw_if_opaque<R: Threads + Sync>(
     rt: &R,
-    strips: &mut [Strip],
+    strips: &mut Vec<Strip>,
     batch: &mut Batch,
     lens: &Lens,
     back: [u8; 3],
@@ -83,13 +79,13 @@ fn draw_if_opaque<R: Threads + Sync>(
     number: usize,
     item: &Item,
 )
-    requires sound { AreStrips lens.now strips.old }
+    requires sound { AreStrips lens.now strips.old.items }
     requires gathered { AreGathered list.now lens.now batch.old.pieces batch.old.waiting.items }
     requires item { slice_get list.now.items.items number ≡ Some item.now }
-    ensures sound { AreStrips lens.now strips.new }
+    ensures sound { AreStrips lens.now strips.new.items }
     ensures gathered { AreGathered list.now lens.now batch.new.pieces batch.new.waiting.items }
-    ensures drawn { Gathers list.now lens.now batch.old.is_first strips.old batch.old.pieces batch.old.waiting.items
-        batch.new.is_first strips.new batch.new.pieces batch.new.waiting.items
+    ensures drawn { Gathers list.now lens.now batch.old.is_first strips.old.items batch.old.pieces batch.old.waiting.items
+        batch.new.is_first strips.new.items batch.new.pieces batch.new.waiting.items
         (opaque_over lens.now (instance_of_item list.now.joints.lists list.now.kept.tris item.now ∷ [])) }
 {
     match item.tint {
@@ -101,7 +97,7 @@ fn draw_if_opaque<R: Threads + Sync>(
 /// Draws the triangles of the item of a number.
 fn draw_item<R: Threads + Sync>(
     rt: &R,
-    strips: &mut [Strip],
+    strips: &mut Vec<Strip>,
     batch: &mut Batch,
     lens: &Lens,
     back: [u8; 3],
@@ -109,13 +105,13 @@ fn draw_item<R: Threads + Sync>(
     number: usize,
     item: &Item,
 )
-    requires sound { AreStrips lens.now strips.old }
+    requires sound { AreStrips lens.now strips.old.items }
     requires gathered { AreGathered list.now lens.now batch.old.pieces batch.old.waiting.items }
     requires item { slice_get list.now.items.items number ≡ Some item.now }
-    ensures sound { AreStrips lens.now strips.new }
+    ensures sound { AreStrips lens.now strips.new.items }
     ensures gathered { AreGathered list.now lens.now batch.new.pieces batch.new.waiting.items }
-    ensures drawn { Gathers list.now lens.now batch.old.is_first strips.old batch.old.pieces batch.old.waiting.items
-        batch.new.is_first strips.new batch.new.pieces batch.new.waiting.items
+    ensures drawn { Gathers list.now lens.now batch.old.is_first strips.old.items batch.old.pieces batch.old.waiting.items
+        batch.new.is_first strips.new.items batch.new.pieces batch.new.waiting.items
         (instance_over lens.now (instance_of_item list.now.joints.lists list.now.kept.tris item.now)) }
 {
     for n in 0..item.geom.len {
@@ -130,7 +126,7 @@ fn draw_item<R: Threads + Sync>(
 /// more room, they are drawn before.
 fn draw_tri<R: Threads + Sync>(
     rt: &R,
-    strips: &mut [Strip],
+    strips: &mut Vec<Strip>,
     batch: &mut Batch,
     lens: &Lens,
     back: [u8; 3],
@@ -138,13 +134,13 @@ fn draw_tri<R: Threads + Sync>(
     item: usize,
     number: u32,
 )
-    requires sound { AreStrips lens.now strips.old }
+    requires sound { AreStrips lens.now strips.old.items }
     requires there { IsThere list.now item number }
     requires gathered { AreGathered list.now lens.now batch.old.pieces batch.old.waiting.items }
-    ensures sound { AreStrips lens.now strips.new }
+    ensures sound { AreStrips lens.now strips.new.items }
     ensures gathered { AreGathered list.now lens.now batch.new.pieces batch.new.waiting.items }
-    ensures drawn { Gathers list.now lens.now batch.old.is_first strips.old batch.old.pieces batch.old.waiting.items
-        batch.new.is_first strips.new batch.new.pieces batch.new.waiting.items (waiting_over list.now lens.now item number) }
+    ensures drawn { Gathers list.now lens.now batch.old.is_first strips.old.items batch.old.pieces batch.old.waiting.items
+        batch.new.is_first strips.new.items batch.new.pieces batch.new.waiting.items (waiting_over list.now lens.now item number) }
 {
     make_room(rt, strips, batch, lens, back, list);
     batch.gather(item, number);
@@ -153,19 +149,19 @@ fn draw_tri<R: Threads + Sync>(
 /// Draws a full batch.
 fn make_room<R: Threads + Sync>(
     rt: &R,
-    strips: &mut [Strip],
+    strips: &mut Vec<Strip>,
     batch: &mut Batch,
     lens: &Lens,
     back: [u8; 3],
     list: &DrawList,
 )
-    requires sound { AreStrips lens.now strips.old }
+    requires sound { AreStrips lens.now strips.old.items }
     requires gathered { AreGathered list.now lens.now batch.old.pieces batch.old.waiting.items }
-    ensures sound { AreStrips lens.now strips.new }
+    ensures sound { AreStrips lens.now strips.new.items }
     ensures gathered { AreGathered list.now lens.now batch.new.pieces batch.new.waiting.items }
     ensures room { length batch.new.pieces + length batch.new.waiting.items < 16384 }
-    ensures drawn { Gathers list.now lens.now batch.old.is_first strips.old batch.old.pieces batch.old.waiting.items
-        batch.new.is_first strips.new batch.new.pieces batch.new.waiting.items (λ px py drawn. drawn) }
+    ensures drawn { Gathers list.now lens.now batch.old.is_first strips.old.items batch.old.pieces batch.old.waiting.items
+        batch.new.is_first strips.new.items batch.new.pieces batch.new.waiting.items (λ px py drawn. drawn) }
 {
     if batch.is_full() {
         batch.prepare(rt, list, lens);
@@ -176,26 +172,25 @@ fn make_room<R: Threads + Sync>(
 /// Draws the pieces of a batch, which are ready; it has none then. The first of a picture are drawn over strips that are cleared.
 pub(crate) fn flush<R: Threads + Sync>(
     rt: &R,
-    strips: &mut [Strip],
+    strips: &mut Vec<Strip>,
     batch: &mut Batch,
     lens: &Lens,
     back: [u8; 3],
 )
-    requires sound { AreStrips lens.now strips.old }
+    requires sound { AreStrips lens.now strips.old.items }
     requires ready { All (IsPieceOf lens.now) batch.old.pieces }
-    ensures sound { AreStrips lens.now strips.new }
+    ensures sound { AreStrips lens.now strips.new.items }
     ensures later { batch.new.is_first ≡ false }
     ensures empty { batch.new.pieces ≡ [] }
     ensures none { batch.new.waiting.items ≡ [] }
     ensures drawn { (px py : ℕ) → px < lens.now.w → py < lens.now.h
-        → seen_at strips.new px py ≡ drawn_with lens.now batch.old.is_first strips.old batch.old.pieces px py }
+        → seen_at strips.new.items px py ≡ drawn_with lens.now batch.old.is_first strips.old.items batch.old.pieces px py }
     ensures blank { (px py : ℕ) → px < lens.now.w → py < lens.now.h
-        → seen_at strips.new px py ≡ None → colour_at strips.new px py ≡ back }
+        → seen_at strips.new.items px py ≡ None → colour_at strips.new.items px py ≡ back }
 {
-    let parts = begin_go(rt, batch, lens, 0);
+    let processors = begin_go(rt, batch, lens, 0);
     let go = batch.go(lens, back, false);
-    let idle = Idle::new(is_long(strips, parts));
-    draw_strips(rt, &idle, parts, &go, strips, &mut []);
+    draw_strips(rt, processors, &go, strips);
     end_go(batch);
 }
 
@@ -203,63 +198,34 @@ pub(crate) fn flush<R: Threads + Sync>(
 /// picture into an image of the lens's size. The batch has no pieces then.
 pub(crate) fn finish<R: Threads + Sync>(
     rt: &R,
-    strips: &mut [Strip],
+    strips: &mut Vec<Strip>,
     batch: &mut Batch,
     lens: &Lens,
     back: [u8; 3],
     image: &mut Image,
 )
-    requires sound { AreStrips lens.now strips.old }
+    requires sound { AreStrips lens.now strips.old.items }
     requires ready { All (IsPieceOf lens.now) batch.old.pieces }
     requires width { image.old.width ≡ lens.now.w }
     requires height { image.old.height ≡ lens.now.h }
-    ensures sound { AreStrips lens.now strips.new }
+    ensures sound { AreStrips lens.now strips.new.items }
     ensures empty { batch.new.pieces ≡ [] }
     ensures drawn { (px py : ℕ) → px < lens.now.w → py < lens.now.h
-        → seen_at strips.new px py ≡ drawn_with lens.now batch.old.is_first strips.old batch.old.pieces px py }
+        → seen_at strips.new.items px py ≡ drawn_with lens.now batch.old.is_first strips.old.items batch.old.pieces px py }
     ensures blank { (px py : ℕ) → px < lens.now.w → py < lens.now.h
-        → seen_at strips.new px py ≡ None → colour_at strips.new px py ≡ back }
+        → seen_at strips.new.items px py ≡ None → colour_at strips.new.items px py ≡ back }
     ensures width { image.new.width ≡ image.old.width }
     ensures height { image.new.height ≡ image.old.height }
-    ensures pixels { (px py : ℕ) → px < lens.now.w → py < lens.now.h → pixel image.new px py ≡ colour_at strips.new px py }
+    ensures pixels { (px py : ℕ) → px < lens.now.w → py < lens.now.h → pixel image.new px py ≡ colour_at strips.new.items px py }
 {
-    let parts = begin_go(rt, batch, lens, work_to_show(image.width(), image.height()));
+    let processors = begin_go(rt, batch, lens, work_to_show(image.width(), image.height()));
     let go = batch.go(lens, back, true);
-    draw_into(rt, parts, &go, strips, image);
+    draw_strips(rt, processors, &go, strips);
+    hand_over(strips, image, lens);
     end_go(batch);
 }
 
-/// Draws the last go of a picture in its strips, and puts them into an image of the lens's size.
-fn draw_into<R: Threads + Sync>(
-    rt: &R,
-    parts: usize,
-    go: &Go<'_>,
-    strips: &mut [Strip],
-    image: &mut Image,
-)
-    requires go { IsReady go.now }
-    requires last { go.now.is_last ≡ true }
-    requires sound { AreStrips go.now.lens.now strips.old }
-    requires image { IsPixmap image.old }
-    requires width { image.old.width ≡ go.now.lens.now.w }
-    requires height { image.old.height ≡ go.now.lens.now.h }
-    ensures drawn { StripsRelate (IsDrawnIn go.now) strips.old strips.new }
-    ensures width { image.new.width ≡ image.old.width }
-    ensures height { image.new.height ≡ image.old.height }
-    ensures pixels { (px py : ℕ) → px < go.now.lens.now.w → py < go.now.lens.now.h
-        → pixel image.new px py ≡ colour_at strips.new px py }
-{
-    let idle = Idle::new(is_long(strips, parts));
-    let mut write = |bytes: &mut [u8]|
-        requires { IsSync R.row × IsReady go.now × All (IsStripOf go.now.lens.now) strips.now × AreStacked strips.now
-            × (go.now.is_last ≡ true → AreRowsOf go.now.lens.now.w strips.now bytes.now) }
-        ensures { StripsRelate (IsDrawnIn go.entry.now) strips.entry.now strips.exit.now
-            × (go.entry.now.is_last ≡ true → ShowsStrips go.entry.now.lens.now.w strips.exit.now bytes.exit.now) }
-    { draw_strips(rt, &idle, parts, go, strips, bytes) };
-    image.edit(&mut write);
-}
-
-/// Gets the slots of a batch ready, and answers in how many parts it is drawn, if there is so much work besides.
+/// Gets the slots of a batch ready, and answers by how many processors it is drawn, if there is so much work besides.
 fn begin_go<R: Threads>(rt: &R, batch: &mut Batch, lens: &Lens, besides: u64) -> usize
     requires { All (IsPieceOf lens.now) batch.old.pieces }
     ensures first { batch.new.is_first ≡ batch.old.is_first }
@@ -269,9 +235,9 @@ fn begin_go<R: Threads>(rt: &R, batch: &mut Batch, lens: &Lens, besides: u64) ->
 {
     batch.complete_slots();
     let work = work_of_slots(&batch.slots).saturating_add(besides);
-    let parts = parts_of(rt, &mut batch.processors, work);
-    batch.sort_slots(parts);
-    parts
+    let processors = processors_for(rt, &mut batch.processors, work);
+    batch.sort_slots(processors);
+    processors
 }
 
 /// Leaves a batch without pieces, whose next ones are not the first of a picture.

@@ -28,7 +28,6 @@ use tri_cover::Face;
 pub(crate) fn clear(tile: &mut Tile)
     ensures { IsCleared tile.old tile.new }
 {
-    tile.work = 0;
     if tile.blank {
         return;
     }

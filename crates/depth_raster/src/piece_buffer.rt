@@ -179,7 +179,7 @@ fn prepare_behind<R: Threads + Sync>(
     let (_, open) = slots.split_at_mut(count);
     prepare(
         rt,
-        &Idle::new(false),
+        &Idle::new(),
         u64::from(others),
         waiting,
         fresh,

@@ -16,7 +16,7 @@ use crate::batch::Batch;
 use crate::raster::new_strips;
 use crate::shown::show;
 use crate::strip::Strip;
-use crate::work::parts_of_picture;
+use crate::work::processors_to_show;
 use crate::{glass, opaque};
 use draw_list::DrawList;
 use fx_math::Lens;
@@ -151,25 +151,25 @@ impl PieceRaster {
 fn add_piece<R: Threads + Sync>(
     rt: &R,
     glazing: bool,
-    strips: &mut [Strip],
+    strips: &mut Vec<Strip>,
     batch: &mut Batch,
     lens: &Lens,
     back: [u8; 3],
     list: &DrawList,
 ) -> bool
-    requires sound { AreStrips lens.now strips.old }
+    requires sound { AreStrips lens.now strips.old.items }
     requires ready { glazing ≡ false → All (IsPieceOf lens.now) batch.old.pieces }
-    ensures sound { AreStrips lens.now strips.new }
+    ensures sound { AreStrips lens.now strips.new.items }
     ensures ready { result ≡ false → All (IsPieceOf lens.now) batch.new.pieces }
     ensures drawn { (xs ys : List Instance)
-        → HasDrawn (held lens.now back glazing batch.old.is_first strips.old batch.old.pieces) xs ys
+        → HasDrawn (held lens.now back glazing batch.old.is_first strips.old.items batch.old.pieces) xs ys
         → (glazing ≡ true → filter is_opaque (instances_in list.now) ≡ [])
-        → HasDrawn (held lens.now back result batch.new.is_first strips.new batch.new.pieces)
+        → HasDrawn (held lens.now back result batch.new.is_first strips.new.items batch.new.pieces)
         (xs ++ instances_in list.now) (ys ++ sorted is_drawn_before (filter is_glass (instances_in list.now))) }
     ensures late { (xs ys : List Instance)
-        → HasDrawn (held lens.now back glazing batch.old.is_first strips.old batch.old.pieces) xs ys
+        → HasDrawn (held lens.now back glazing batch.old.is_first strips.old.items batch.old.pieces) xs ys
         → glazing ≡ true
-        → HasDrawn (held lens.now back result batch.new.is_first strips.new batch.new.pieces)
+        → HasDrawn (held lens.now back result batch.new.is_first strips.new.items batch.new.pieces)
         (xs ++ filter is_glass (instances_in list.now))
         (ys ++ sorted is_drawn_before (filter is_glass (instances_in list.now))) }
 {
@@ -184,19 +184,19 @@ fn add_piece<R: Threads + Sync>(
 /// Draws a piece of a draw list before which no glass has come, and answers whether glass has come.
 pub(crate) fn add_ground<R: Threads + Sync>(
     rt: &R,
-    strips: &mut [Strip],
+    strips: &mut Vec<Strip>,
     batch: &mut Batch,
     lens: &Lens,
     back: [u8; 3],
     list: &DrawList,
 ) -> bool
-    requires sound { AreStrips lens.now strips.old }
+    requires sound { AreStrips lens.now strips.old.items }
     requires ready { All (IsPieceOf lens.now) batch.old.pieces }
-    ensures sound { AreStrips lens.now strips.new }
+    ensures sound { AreStrips lens.now strips.new.items }
     ensures ready { result ≡ false → All (IsPieceOf lens.now) batch.new.pieces }
     ensures drawn { (xs ys : List Instance)
-        → HasDrawn (held lens.now back false batch.old.is_first strips.old batch.old.pieces) xs ys
-        → HasDrawn (held lens.now back result batch.new.is_first strips.new batch.new.pieces)
+        → HasDrawn (held lens.now back false batch.old.is_first strips.old.items batch.old.pieces) xs ys
+        → HasDrawn (held lens.now back result batch.new.is_first strips.new.items batch.new.pieces)
         (xs ++ instances_in list.now) (ys ++ sorted is_drawn_before (filter is_glass (instances_in list.now))) }
 {
     opaque::draw_opaque(rt, strips, batch, lens, back, list);
@@ -235,23 +235,23 @@ fn is_glass(list: &DrawList, number: usize) -> bool
 pub(crate) fn end_picture<R: Threads + Sync>(
     rt: &R,
     glazing: bool,
-    strips: &mut [Strip],
+    strips: &mut Vec<Strip>,
     batch: &mut Batch,
     lens: &Lens,
     back: [u8; 3],
     image: &mut Image,
 )
-    requires sound { AreStrips lens.now strips.old }
+    requires sound { AreStrips lens.now strips.old.items }
     requires ready { glazing ≡ false → All (IsPieceOf lens.now) batch.old.pieces }
     requires width { image.old.width ≡ lens.now.w }
     requires height { image.old.height ≡ lens.now.h }
-    ensures strips { AreStrips lens.now strips.new }
+    ensures strips { AreStrips lens.now strips.new.items }
     ensures first { batch.new.is_first ≡ true }
     ensures empty { batch.new.pieces ≡ [] }
     ensures width { image.new.width ≡ image.old.width }
     ensures height { image.new.height ≡ image.old.height }
     ensures pixels { (xs : List Instance)
-        → HasDrawn (held lens.now back glazing batch.old.is_first strips.old batch.old.pieces) xs
+        → HasDrawn (held lens.now back glazing batch.old.is_first strips.old.items batch.old.pieces) xs
         (sorted is_drawn_before (filter is_glass xs))
         → Shows image.new (picture lens.now back xs) }
 {
@@ -263,29 +263,29 @@ pub(crate) fn end_picture<R: Threads + Sync>(
 fn draw_rest<R: Threads + Sync>(
     rt: &R,
     glazing: bool,
-    strips: &mut [Strip],
+    strips: &mut Vec<Strip>,
     batch: &mut Batch,
     lens: &Lens,
     back: [u8; 3],
     image: &mut Image,
 )
-    requires sound { AreStrips lens.now strips.old }
+    requires sound { AreStrips lens.now strips.old.items }
     requires ready { glazing ≡ false → All (IsPieceOf lens.now) batch.old.pieces }
     requires width { image.old.width ≡ lens.now.w }
     requires height { image.old.height ≡ lens.now.h }
-    ensures strips { AreStrips lens.now strips.new }
+    ensures strips { AreStrips lens.now strips.new.items }
     ensures empty { batch.new.pieces ≡ [] }
     ensures width { image.new.width ≡ image.old.width }
     ensures height { image.new.height ≡ image.old.height }
     ensures pixels { (xs : List Instance)
-        → HasDrawn (held lens.now back glazing batch.old.is_first strips.old batch.old.pieces) xs
+        → HasDrawn (held lens.now back glazing batch.old.is_first strips.old.items batch.old.pieces) xs
         (sorted is_drawn_before (filter is_glass xs))
         → Shows image.new (picture lens.now back xs) }
 {
     if glazing {
         glass::flush(rt, strips, batch, lens);
-        let parts = parts_of_picture(rt, &mut batch.processors, lens);
-        show(rt, parts, image, strips, lens);
+        let processors = processors_to_show(rt, &mut batch.processors, lens);
+        show(rt, processors, image, strips, lens);
     } else {
         opaque::finish(rt, strips, batch, lens, back, image);
     }

@@ -98,18 +98,18 @@ impl Raster {
 /// Draws the picture of a list, as a picture in one piece, and puts it into an image.
 fn draw_all<R: Threads + Sync>(
     rt: &R,
-    strips: &mut [Strip],
+    strips: &mut Vec<Strip>,
     batch: &mut Batch,
     lens: &Lens,
     list: &DrawList,
     back: [u8; 3],
     image: &mut Image,
 )
-    requires strips { AreStrips lens.now strips.old }
+    requires strips { AreStrips lens.now strips.old.items }
     requires empty { batch.old.pieces ≡ [] }
     requires width { image.old.width ≡ lens.now.w }
     requires height { image.old.height ≡ lens.now.h }
-    ensures strips { AreStrips lens.now strips.new }
+    ensures strips { AreStrips lens.now strips.new.items }
     ensures empty { batch.new.pieces ≡ [] }
     ensures width { image.new.width ≡ image.old.width }
     ensures height { image.new.height ≡ image.old.height }
@@ -153,13 +153,12 @@ fn new_strip(alloc: Global, band: Block) -> Result<Strip, NoMemory>
     let tiles = new_tiles(alloc, &band)?;
     let mut slots = Vec::new(alloc);
     slots.reserve(ROOM)?;
-    let work = u64::from(band.rows) * u64::from(band.width);
+    let rows = vec![in alloc; 0; 3 * (band.rows as usize * band.width as usize)]?;
     Ok(Strip {
         band,
         tiles,
         slots,
-        opaque_work: work,
-        glass_work: work,
+        rows,
     })
 }
 

@@ -1,118 +1,111 @@
 //! The colours of tiles, put into an image.
-ghost use Rattle.std.specs.Prelude.{◌≡◌, ℕ, ◌+◌, ◌*◌, ◌<◌, ◌≤◌, length};
-ghost use Rattle.std.specs.Thread.{IsSync};
+ghost use Rattle.std.specs.Prelude.{◌≡◌, ◌≢◌, ℕ, ◌+◌, ◌*◌, ◌<◌, ◌≤◌, All, length};
 ghost use Rattle.ppm_out.specs.Pixmap.{pixel};
+ghost use Rattle.ppm_out.specs.Bands.{band_count, band_size, band_of};
 ghost use Rattle.depth_raster.specs.Canvas.{colour_at};
-ghost use Rattle.depth_raster.specs.Shown.{SetsRow, SetsTile, ShowsStrips, ShowsTiles, height_of};
-ghost use Rattle.depth_raster.specs.Strips.{AreTilesOf, AreBands, AreStrips};
+ghost use Rattle.depth_raster.specs.Shown.{SetsRow, SetsTile, ShowsTiles, ShowsItself, IsSeenAs};
+ghost use Rattle.depth_raster.specs.Strips.{AreTilesOf, AreStrips, IsTiled, StripsRelate};
 
 use crate::blocks::Block;
 use crate::strip::Strip;
-use crate::strips::ROWS;
+use crate::strips::claim_strips;
 use crate::tile::Tile;
-use crate::work::strips_of_part;
 use fx_math::Lens;
 use ppm_out::Image;
-use std::thread::{Threads, join_mut};
+use std::thread::Threads;
 
-/// Puts the colours of the tiles of all strips into an image, in so many parts side by side.
+/// Puts the colours of the tiles of all strips into their rows, and these into an image; so many processors in all claim the strips.
 pub(crate) fn show<R: Threads + Sync>(
     rt: &R,
-    parts: usize,
+    processors: usize,
     image: &mut Image,
-    strips: &[Strip],
+    strips: &mut Vec<Strip>,
     lens: &Lens,
 )
     requires width { image.old.width ≡ lens.now.w }
     requires height { image.old.height ≡ lens.now.h }
-    requires strips { AreStrips lens.now strips.now }
+    requires strips { AreStrips lens.now strips.old.items }
+    ensures strips { AreStrips lens.now strips.new.items }
     ensures width { image.new.width ≡ image.old.width }
     ensures height { image.new.height ≡ image.old.height }
-    ensures pixels { (px py : ℕ) → px < lens.now.w → py < lens.now.h → pixel image.new px py ≡ colour_at strips.now px py }
+    ensures pixels { (px py : ℕ) → px < lens.now.w → py < lens.now.h
+        → pixel image.new px py ≡ colour_at strips.old.items px py }
 {
-    let width = image.width();
-    image.edit(
-        &mut |bytes: &mut [u8]|
-            requires { IsSync R.row × AreBands width strips.now × (length bytes.now ≡ 3 * (height_of strips.now * width)) }
-            ensures { ShowsStrips width strips.entry.now bytes.exit.now }
-        { show_strips(rt, parts, strips, bytes, width) },
+    show_strips(rt, processors, strips);
+    hand_over(strips, image, lens);
+}
+
+/// Puts the colours of the tiles of strips into their rows; so many processors in all claim the strips.
+fn show_strips<R: Threads + Sync>(rt: &R, processors: usize, strips: &mut Vec<Strip>)
+    requires { All IsTiled strips.old.items }
+    ensures many { length strips.new.items ≡ length strips.old.items }
+    ensures strips { StripsRelate (λ before after. after ≡ before) strips.old.items strips.new.items }
+    ensures shown { All ShowsItself strips.new.items }
+{
+    claim_strips(
+        rt,
+        processors,
+        strips,
+        &|_i: usize, strip: &mut Strip|
+            requires { IsTiled strip.now }
+            ensures { IsSeenAs strip.entry.now strip.exit.now × ShowsItself strip.exit.now }
+        { show_strip(strip) },
     );
 }
 
-/// Puts the colours of strips into the bytes of their rows, in so many parts side by side; the strips of a part are shown one
-/// after the other.
-#[cycle(parts)]
-fn show_strips<R: Threads + Sync>(
-    rt: &R,
-    parts: usize,
-    strips: &[Strip],
-    bytes: &mut [u8],
-    width: u16,
-)
-    requires strips { AreBands width strips.now }
-    requires bytes { length bytes.old ≡ 3 * (height_of strips.now * width) }
-    ensures { ShowsStrips width strips.now bytes.new }
+/// Exchanges the rows of strips with those of an image, which shows what the strips show then.
+pub(crate) fn hand_over(strips: &mut Vec<Strip>, image: &mut Image, lens: &Lens)
+    requires width { image.old.width ≡ lens.now.w }
+    requires height { image.old.height ≡ lens.now.h }
+    requires strips { AreStrips lens.now strips.old.items }
+    requires shown { All ShowsItself strips.old.items }
+    ensures many { length strips.new.items ≡ length strips.old.items }
+    ensures strips { StripsRelate (λ before after. after ≡ before) strips.old.items strips.new.items }
+    ensures width { image.new.width ≡ image.old.width }
+    ensures height { image.new.height ≡ image.old.height }
+    ensures pixels { (px py : ℕ) → px < lens.now.w → py < lens.now.h
+        → pixel image.new px py ≡ colour_at strips.new.items px py }
 {
-    if strips.len() < 2 {
-        show_last(strips, bytes, width);
-        return;
-    }
-    let count = strips_of_part(strips.len(), parts);
-    let (upper, lower) = strips.split_at(count);
-    let (above, below) = bytes.split_at_mut(3 * ROWS as usize * count * width as usize);
-    show_parts(rt, parts, upper, lower, above, below, width);
+    exchange_rows(strips.as_mut_slice(), image, lens);
 }
 
-/// Puts the colours of the strips of one part into the bytes of its rows, in a thread of its own where there are several, and
-/// those of the others into the bytes of theirs.
-#[cycle(parts)]
-fn show_parts<R: Threads + Sync>(
-    rt: &R,
-    parts: usize,
-    upper: &[Strip],
-    lower: &[Strip],
-    above: &mut [u8],
-    below: &mut [u8],
-    width: u16,
-)
-    requires some_upper { 0 < length upper.now }
-    requires some_lower { 0 < length lower.now }
-    requires upper { AreBands width upper.now }
-    requires lower { AreBands width lower.now }
-    requires above { length above.old ≡ 3 * (height_of upper.now * width) }
-    requires below { length below.old ≡ 3 * (height_of lower.now * width) }
-    ensures upper { ShowsStrips width upper.now above.new }
-    ensures lower { ShowsStrips width lower.now below.new }
+/// Exchanges the rows of one strip after the other with those of an image.
+fn exchange_rows(strips: &mut [Strip], image: &mut Image, lens: &Lens)
+    requires width { image.old.width ≡ lens.now.w }
+    requires height { image.old.height ≡ lens.now.h }
+    requires strips { AreStrips lens.now strips.old }
+    requires shown { All ShowsItself strips.old }
+    ensures strips { StripsRelate (λ before after. after ≡ before) strips.old strips.new }
+    ensures width { image.new.width ≡ image.old.width }
+    ensures height { image.new.height ≡ image.old.height }
+    ensures pixels { (px py : ℕ) → px < lens.now.w → py < lens.now.h → pixel image.new px py ≡ colour_at strips.new px py }
 {
-    if parts < 2 {
-        show_strips(rt, 1, upper, above, width);
-        show_strips(rt, 1, lower, below, width);
-        return;
+    for i in 0..strips.len() {
+        hand_rows(&mut strips[i], image, i);
     }
-    let others = parts - 1;
-    let mut first = ||
-        requires { IsSync R.row × AreBands width upper.now × (length above.now ≡ 3 * (height_of upper.now * width)) }
-        ensures { ShowsStrips width upper.entry.now above.exit.now }
-    { show_strips(rt, 1, upper, above, width) };
-    let mut rest = ||
-        requires { IsSync R.row × AreBands width lower.now × (length below.now ≡ 3 * (height_of lower.now * width)) }
-        ensures { ShowsStrips width lower.entry.now below.exit.now }
-    { show_strips(rt, others, lower, below, width) };
-    join_mut(rt, &mut first, &mut rest);
 }
 
-/// Puts the colours of a strip, or of none, into the bytes of its rows.
-pub(crate) fn show_last(strips: &[Strip], bytes: &mut [u8], width: u16)
-    requires few { length strips.now < 2 }
-    requires strips { AreBands width strips.now }
-    requires bytes { length bytes.old ≡ 3 * (height_of strips.now * width) }
-    ensures { ShowsStrips width strips.now bytes.new }
+/// Exchanges the rows of the strip of a number with those of an image.
+fn hand_rows(strip: &mut Strip, image: &mut Image, i: usize)
+    requires number { i < band_count image.old.height }
+    requires size { length strip.old.rows.items ≡ band_size image.old.width image.old.height i }
+    ensures seen { IsSeenAs strip.old strip.new }
+    ensures width { image.new.width ≡ image.old.width }
+    ensures height { image.new.height ≡ image.old.height }
+    ensures band { band_of image.new i ≡ strip.old.rows.items }
+    ensures others { (j : ℕ) → j < band_count image.old.height → j ≢ i → band_of image.new j ≡ band_of image.old j }
 {
-    if strips.is_empty() {
-        return;
-    }
-    let strip = &strips[0];
-    show_tiles(&strip.tiles, &strip.band, bytes);
+    image.swap_band(i, &mut strip.rows);
+}
+
+/// Puts the colours of the tiles of a strip into its rows.
+pub(crate) fn show_strip(strip: &mut Strip)
+    requires { IsTiled strip.old }
+    ensures seen { IsSeenAs strip.old strip.new }
+    ensures shown { ShowsItself strip.new }
+{
+    let band = strip.band;
+    show_tiles(&strip.tiles, &band, &mut strip.rows);
 }
 
 /// Puts the colours of the tiles of a band into the bytes of its rows.

@@ -14,8 +14,7 @@ use std::alloc::Global;
 
 /// A block of a picture, with a mark and a colour at each of its pixels; no mark has a depth above `top`,
 /// and none comes after `last`, where that is known. In a blank one nothing is drawn, and a plain one has one colour. Where the
-/// first piece covers all of it, its marks are owed: they are written once another piece asks for them. `work` tells about how
-/// much work its pieces were since it was cleared.
+/// first piece covers all of it, its marks are owed: they are written once another piece asks for them.
 #[derive(Drop)]
 pub(crate) struct Tile {
     pub(crate) block: Block,
@@ -26,7 +25,6 @@ pub(crate) struct Tile {
     pub(crate) marks: Vec<Mark>,
     pub(crate) owed: Option<Owed>,
     pub(crate) colours: Vec<[u8; 3]>,
-    pub(crate) work: u64,
     ghost marks_whole: { length marks.items ≡ size_of block },
     ghost colours_whole: { length colours.items ≡ size_of block },
     ghost blanked: { blank ≡ true → All (λ m. m ≡ nothing) marks.items },
@@ -53,7 +51,6 @@ impl Tile {
             marks: vec![in alloc; Mark::nothing(); count]?,
             owed: None,
             colours: vec![in alloc; [0; 3]; count]?,
-            work: 0,
         })
     }
 }

@@ -29,7 +29,6 @@ use crate::pixels::limit;
 use crate::runs::Run;
 use crate::stamps::Stamp;
 use crate::tile::Tile;
-use crate::work::work_within;
 use edge_values::{EdgeValues, NarrowLine, NarrowValues};
 use fx_math::Lens;
 use tri_cover::Face;
@@ -124,7 +123,6 @@ fn draw_paid(tile: &mut Tile, lens: &Lens, piece: &Piece, face: &Face)
     let block = tile.block;
     tile.blank = false;
     tile.last = None;
-    tile.work = tile.work.saturating_add(work_within(piece, &block));
     draw_marks(&mut tile.marks, &block, lens, piece, face);
     tile.top = greatest_within(&tile.marks, &block, tile.top);
 }

@@ -3,46 +3,24 @@
 //! A unit of work is a pixel that is drawn or painted, some eight nanoseconds; or one of a piece's box where that is not known. One
 //! processor does some three million of the latter in a millisecond, in pictures of towns, where most of them are never looked at.
 
-ghost use Rattle.std.specs.Prelude.{◌<◌, length};
+ghost use Rattle.std.specs.Prelude.{◌<◌};
 
-use crate::blocks::Block;
 use crate::pieces::Piece;
 use crate::slots::Slot;
-use crate::strip::Strip;
-use crate::tile::Tile;
 use fx_math::Lens;
 use std::thread::{Threads, available_parallelism};
 
-/// The work, in pixels of boxes, from which on pieces are drawn in parts side by side: about a millisecond.
+/// The work, in pixels of boxes, from which on pieces are drawn by several processors: about a millisecond.
 const MUCH_WORK: u64 = 2_621_440;
 
-/// The parts in which pieces are drawn at most.
-const MOST_PARTS: usize = 4;
-
-/// The work, in pixels that are drawn, that who makes a thread does before that begins: about a twentieth of a millisecond.
-const LATE_WORK: u64 = 6_144;
-
-/// The work, in pixels that are drawn, from which on strips are divided again for a processor that has nothing to do.
-const MUCH_LEFT: u64 = 3 * LATE_WORK;
-
-/// The work, in pixels that are drawn, from which on a go in several parts is long: about eight milliseconds, beside which a
-/// thread more costs little.
-const LONG_WORK: u64 = 1_000_000;
+/// The processors by which pieces are drawn at most.
+const MOST_PROCESSORS: usize = 4;
 
 /// The work of a piece besides that of its pixels.
 const PIECE_WORK: u64 = 128;
 
-/// The work of a piece in a tile besides that of its pixels there.
-const TILE_WORK: u64 = 12;
-
-/// The work of a slot in a strip besides that of its piece: it is sorted and looked at.
-const SLOT_WORK: u64 = 5;
-
 /// The work, in pixels of boxes, of a pixel that is put into the image.
 const SHOWN_WORK: u64 = 6;
-
-/// The work of a strip besides that of its pieces.
-const STRIP_WORK: u64 = 64;
 
 /// The number of pieces from which on it is worth some threads to prepare them: about a millisecond.
 const MANY_PIECES: usize = 4096;
@@ -54,11 +32,11 @@ pub(crate) const FEW_PIECES: usize = 256;
 /// millisecond.
 const SOME_PIECES: usize = 1024;
 
-/// The pixels of a picture from which on its tiles are put into the image in parts side by side: one thread takes almost half
-/// a millisecond for so many.
+/// The pixels of a picture from which on its tiles are put into the image by several processors: one thread takes almost half a
+/// millisecond for so many.
 const MANY_PIXELS: u32 = 196_608;
 
-/// How many processors goes are divided among: the caller's and so many others, at most `MOST_PARTS` in all. They are counted once,
+/// How many processors goes are divided among: the caller's and so many others, at most `MOST_PROCESSORS` in all. They are counted once,
 /// for the first go that is worth it, since the system's files are read for that, which takes as long as to draw some triangles.
 #[derive(Clone, Copy)]
 pub(crate) struct Processors {
@@ -87,19 +65,12 @@ impl Processors {
     }
 }
 
-/// How many processors there are besides the caller's, at most one less than `MOST_PARTS`; so many too where it cannot be told.
+/// How many processors there are besides the caller's, at most one less than `MOST_PROCESSORS`; so many too where it cannot be told.
 fn counted_others<R: Threads>(rt: &R) -> u8 {
     match available_parallelism(rt) {
-        Ok(count) => (count.get().min(MOST_PARTS) - 1) as u8,
-        Err(_) => (MOST_PARTS - 1) as u8,
+        Ok(count) => (count.get().min(MOST_PROCESSORS) - 1) as u8,
+        Err(_) => (MOST_PROCESSORS - 1) as u8,
     }
-}
-
-/// What is drawn: opaque pieces, or the glass over them.
-#[derive(Clone, Copy)]
-pub(crate) enum Layer {
-    Opaque,
-    Glass,
 }
 
 /// Whether to prepare so many pieces is worth some threads.
@@ -121,7 +92,7 @@ pub(crate) fn others_to_prepare<R: Threads>(
 }
 
 /// By how many processors so many pieces are made ready.
-pub(crate) fn parts_to_make_ready<R: Threads>(
+pub(crate) fn processors_to_make_ready<R: Threads>(
     rt: &R,
     processors: &mut Processors,
     count: usize,
@@ -152,8 +123,8 @@ pub(crate) fn next_pieces(count: usize, others: u64) -> usize
     (share as usize).clamp(1, count - 1)
 }
 
-/// In how many parts pieces are drawn side by side: as many as there are processors, where it is much work, and else one.
-pub(crate) fn parts_of<R: Threads>(rt: &R, processors: &mut Processors, work: u64) -> usize {
+/// By how many processors pieces are drawn: as many as there are, where it is much work, and else one.
+pub(crate) fn processors_for<R: Threads>(rt: &R, processors: &mut Processors, work: u64) -> usize {
     if work < MUCH_WORK {
         1
     } else {
@@ -200,9 +171,9 @@ pub(crate) fn work_to_show(width: u16, height: u16) -> u64 {
     SHOWN_WORK * u64::from(width) * u64::from(height)
 }
 
-/// In how many parts side by side the tiles of a lens's picture are put into the image: as many as there are processors, where
-/// it is large, and else one.
-pub(crate) fn parts_of_picture<R: Threads>(
+/// By how many processors the tiles of a lens's picture are put into the image: as many as there are, where it is large, and else
+/// one.
+pub(crate) fn processors_to_show<R: Threads>(
     rt: &R,
     processors: &mut Processors,
     lens: &Lens,
@@ -212,123 +183,4 @@ pub(crate) fn parts_of_picture<R: Threads>(
     } else {
         processors.count(rt)
     }
-}
-
-/// How many of the strips the first part gets, where each strip is as much work; half of them where there is only one part.
-pub(crate) fn strips_of_part(count: usize, parts: usize) -> usize
-    requires { 1 < count }
-    ensures some { 0 < result }
-    ensures rest { result < count }
-{
-    (count / parts.max(2)).max(1)
-}
-
-/// About how much work a piece is in a block over whose marks it is drawn.
-pub(crate) fn work_within(piece: &Piece, block: &Block) -> u64 {
-    let extent = piece.extent;
-    let columns = block
-        .columns_to(extent.right)
-        .saturating_sub(block.columns_from(extent.left));
-    let rows = block
-        .rows_to(extent.bottom)
-        .saturating_sub(block.rows_from(extent.top));
-    TILE_WORK + u64::from(columns) * u64::from(rows)
-}
-
-/// About how much work it was to draw opaque pieces in tiles, over which so many slots were looked at.
-pub(crate) fn work_of_tiles(tiles: &[Tile], slots: usize) -> u64 {
-    let mut work = SLOT_WORK.saturating_mul(slots as u64);
-    for tile in tiles {
-        work = work
-            .saturating_add(tile.work)
-            .saturating_add(work_to_paint(tile));
-    }
-    work
-}
-
-/// About how much work it is to paint a tile.
-fn work_to_paint(tile: &Tile) -> u64 {
-    if tile.blank { 0 } else { area_of(&tile.block) }
-}
-
-/// About how much work it is to draw pieces of glass in a band.
-pub(crate) fn work_of_panes(pieces: &[Piece], band: &Block) -> u64 {
-    let mut work: u64 = 0;
-    for piece in pieces {
-        work = work.saturating_add(work_within(piece, band));
-    }
-    work
-}
-
-/// The number of pixels of a block.
-fn area_of(block: &Block) -> u64 {
-    u64::from(block.width) * u64::from(block.rows)
-}
-
-/// Where the first of so many parts of strips ends, so that all parts are about as much work, by what the last drawing of each strip
-/// was.
-pub(crate) fn end_of_part(strips: &[Strip], parts: usize, layer: Layer) -> usize
-    requires { 1 < length strips.now }
-    ensures some { 0 < result }
-    ensures rest { result < length strips.now }
-{
-    if parts < 2 {
-        return strips.len() / 2;
-    }
-    let all = work_of_strips(strips, layer);
-    end_of_work(strips, all / parts as u64, layer)
-}
-
-/// Where the part ends that a new thread draws of strips of opaque pieces, so that it ends when the caller does, which goes on at
-/// once with the others.
-pub(crate) fn end_of_share(strips: &[Strip]) -> usize
-    requires { 1 < length strips.now }
-    ensures some { 0 < result }
-    ensures rest { result < length strips.now }
-{
-    let all = work_of_strips(strips, Layer::Opaque);
-    end_of_work(strips, all.saturating_sub(LATE_WORK) / 2, Layer::Opaque)
-}
-
-/// Where the first strips end that are about so much work.
-fn end_of_work(strips: &[Strip], work: u64, layer: Layer) -> usize
-    requires { 1 < length strips.now }
-    ensures some { 0 < result }
-    ensures rest { result < length strips.now }
-{
-    let mut before: u64 = 0;
-    for i in 1..strips.len() {
-        before = before.saturating_add(work_of_strip(&strips[i - 1], layer));
-        if work <= before.saturating_add(work_of_strip(&strips[i], layer) / 2) {
-            return i;
-        }
-    }
-    strips.len() - 1
-}
-
-/// Whether some strips, of opaque pieces, are worth dividing once more.
-pub(crate) fn is_much_left(strips: &[Strip]) -> bool {
-    MUCH_LEFT <= work_of_strips(strips, Layer::Opaque)
-}
-
-/// Whether it is long to draw opaque pieces in strips, in so many parts side by side, by what the last drawing of each strip was.
-pub(crate) fn is_long(strips: &[Strip], parts: usize) -> bool {
-    1 < parts && LONG_WORK <= work_of_strips(strips, Layer::Opaque)
-}
-
-fn work_of_strips(strips: &[Strip], layer: Layer) -> u64 {
-    let mut work: u64 = 0;
-    for strip in strips {
-        work = work.saturating_add(work_of_strip(strip, layer));
-    }
-    work
-}
-
-/// About how much work a strip is, by its last drawing: some too where nothing was drawn.
-fn work_of_strip(strip: &Strip, layer: Layer) -> u64 {
-    let work = match layer {
-        Layer::Opaque => strip.opaque_work,
-        Layer::Glass => strip.glass_work,
-    };
-    work.saturating_add(STRIP_WORK)
 }

@@ -15,7 +15,7 @@ use crate::app_turns::{Came, make_sync};
 use draw_list::{DrawList, Stats};
 use frame_link::TakeEnd;
 use fx_math::Lens;
-use pf_io::{NoMemory, Sink, write_all};
+use pf_io::{NoMemory, Sink};
 use pf_model::View;
 use pf_scene::Scene;
 use seat_lock::Desk;
@@ -254,7 +254,7 @@ impl Flight {
             (record { bytes = O.written sink.old; faults = O.faults sink.old; at_fault = O.at_fault sink.old })
             (record { bytes = O.written sink.new; faults = O.faults sink.new; at_fault = O.at_fault sink.new }) }
     {
-        match write_all(sink, load.bytes()) {
+        match load.write_to(sink) {
             Ok(()) => {
                 self.written += 1;
                 self.keep(load);

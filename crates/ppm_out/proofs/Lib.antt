@@ -1,2 +1,6 @@
 mod Places
+mod Joined
+mod Blackness
+mod Sending
+pub mod InBands
 pub mod Pictures

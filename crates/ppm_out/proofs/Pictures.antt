@@ -8,7 +8,7 @@ use Rattle.ppm_out.specs.Pixmap.{Pixmap, IsPixmap, Shows, pixel, place_of}
 use Rattle.ppm_out.specs.Ppm.{ppm_header, pixel_bytes, row_bytes, picture_bytes, ppm_bytes}
 
 -- pieces of k bytes each, one after the other
-pieces : (k a n : ℕ) (piece : ℕ → List ℕ) (bytes : List ℕ)
+pub pieces : (k a n : ℕ) (piece : ℕ → List ℕ) (bytes : List ℕ)
     → ((i : ℕ) → i < n → piece (a + i) ≡ take k (drop (k * i) bytes))
     → flat_map piece (range_with_len a n) ≡ take (k * n) bytes
 pieces k a zero piece bytes each = let none : k * 0 ≡ 0 = grind arith in rw none refl

@@ -1,2 +1,3 @@
 pub mod Pixmap
+pub mod Bands
 pub mod Ppm

@@ -1,36 +1,39 @@
 //! An image of three bytes a pixel.
-ghost use denote.Ref.{MutBor};
-ghost use Rattle.std.specs.Prelude.{◌≡◌, ℕ, ◌+◌, ◌*◌, ◌<◌, ◌≤◌, List, ◌++◌, length, take, drop, slice_index, slice_set, replicate, IfOk};
-ghost use Rattle.std.specs.Fn.{CalledAtMut};
-ghost use Rattle.ppm_out.specs.Pixmap.{Pixmap, IsPixmap, SetsPixel, pixel, place_of};
-ghost use Rattle.ppm_out.specs.Ppm.{ppm_bytes, ppm_size};
+ghost use Rattle.std.specs.Prelude.{◌≡◌, ◌≢◌, ℕ, ◌+◌, ◌*◌, ◌/◌, ◌%◌, ◌<◌, ◌≤◌, List, length, replicate, IfOk};
+ghost use Rattle.ppm_out.specs.Pixmap.{Pixmap, IsPixmap, SetsPixel, pixel, pixel_in, place_of};
+ghost use Rattle.ppm_out.specs.Bands.{band_count, band_size, band_of};
+ghost use Rattle.ppm_out.specs.Ppm.{ppm_header};
 
+use crate::bands::{BAND_ROWS, black_bands, bytes_of, exchange, set_in_band};
 use crate::ppm::header;
 use pf_io::NoMemory;
 use std::alloc::Global;
 use std::marker::Model;
 
-/// An image of 1 to 1,024 pixels in width and in height, each with a red, a green and a blue byte. It is kept as the file of its
-/// picture, a header and then the pixels from `start` on.
+/// An image of 1 to 1,024 pixels in width and in height, each with a red, a green and a blue byte. Its pixels are kept in bands of
+/// `BAND_ROWS` rows from the top, one vector each, so that a band can be taken out, drawn by itself, and put back.
 #[derive(Drop)]
 pub struct Image {
     width: u16,
     height: u16,
-    start: usize,
-    file: Vec<u8>,
+    header: Vec<u8>,
+    bands: Vec<Vec<u8>>,
 }
 
 impl Model for Image {
-    ghost use Rattle.std.specs.Prelude.{◌≡◌, take, drop};
+    ghost use Rattle.std.specs.Prelude.{◌≡◌};
+    ghost use Rattle.std.specs.List.{concat};
     ghost use Rattle.ppm_out.specs.Pixmap.{Pixmap, IsPixmap};
+    ghost use Rattle.ppm_out.specs.Bands.{bytes_of_each, AreBands};
     ghost use Rattle.ppm_out.specs.Ppm.{ppm_header};
 
     ghost Value = { Pixmap };
 
-    ghost view = { λ i. record { width = i.width; height = i.height; bytes = drop i.start i.file.items } };
+    ghost view = { λ i. record { width = i.width; height = i.height; bytes = concat (bytes_of_each i.bands.items) } };
 
-    ghost invariant = { λ i. IsPixmap (record { width = i.width; height = i.height; bytes = drop i.start i.file.items })
-        × (take i.start i.file.items ≡ ppm_header i.width i.height) };
+    ghost invariant = { λ i. IsPixmap (record { width = i.width; height = i.height; bytes = concat (bytes_of_each i.bands.items) })
+        × (i.header.items ≡ ppm_header i.width i.height)
+        × AreBands i.width i.height (bytes_of_each i.bands.items) };
 }
 
 impl Image {
@@ -46,14 +49,12 @@ impl Image {
         ensures whole { IfOk result IsPixmap }
     {
         let header = header(alloc, width, height)?;
-        let start = header.len();
-        let mut file = vec![in alloc; 0; start + 3 * (height as usize * width as usize)]?;
-        write_front(&mut file, &header);
+        let bands = black_bands(alloc, width, height)?;
         Ok(Image {
             width,
             height,
-            start,
-            file,
+            header,
+            bands,
         })
     }
 
@@ -79,9 +80,9 @@ impl Image {
         requires row { py < self.now.height }
         ensures { result ≡ pixel self.now px py }
     {
-        let place = self.start + self.place(px, py);
-        let file = &self.file;
-        [file[place], file[place + 1], file[place + 2]]
+        let place = self.place(px, py);
+        let band = self.band((py / BAND_ROWS) as usize);
+        [band[place], band[place + 1], band[place + 2]]
     }
 
     /// Gives a colour to the pixel in column `px` from the left and row `py` from the top.
@@ -92,70 +93,62 @@ impl Image {
         ensures whole { IsPixmap self.new }
     {
         let place = self.place(px, py);
-        set_behind(&mut self.file, self.start, place, colour);
+        set_in_band(&mut self.bands, (py / BAND_ROWS) as usize, place, colour);
     }
 
-    /// Lends the bytes of all pixels to `write`, which may change them: three a pixel, its red, its green and its blue, the pixels
-    /// of a row from the left and the rows from the top.
-    pub fn edit<F: FnMut(&mut [u8])>(&mut self, write: &mut F)
-        requires { (bytes : MutBor (List ℕ)) → bytes.now ≡ self.old.bytes → F.pre write.old bytes }
+    /// How many bands it has.
+    pub fn bands(&self) -> usize
+        ensures exact { result ≡ band_count self.now.height }
+        ensures whole { IsPixmap self.now }
+    {
+        self.bands.len()
+    }
+
+    /// The bytes of a band: three a pixel, its red, its green and its blue, the pixels of a row from the left and the rows from the
+    /// top.
+    pub fn band(&self, i: usize) -> &[u8]
+        requires { i < band_count self.now.height }
+        ensures exact { result.now ≡ band_of self.now i }
+        ensures count { length result.now ≡ band_size self.now.width self.now.height i }
+        ensures pixels { (px py : ℕ) → px < self.now.width → py < self.now.height → py / 16 ≡ i
+            → pixel self.now px py ≡ pixel_in result.now self.now.width px (py % 16) }
+    {
+        bytes_of(&self.bands, i)
+    }
+
+    /// The header of its picture, as a raw portable pixmap.
+    pub fn header(&self) -> &[u8]
+        ensures exact { result.now ≡ ppm_header self.now.width self.now.height }
+        ensures whole { IsPixmap self.now }
+    {
+        &self.header
+    }
+
+    /// Exchanges the bytes of a band with those handed in, as many.
+    pub fn swap_band(&mut self, i: usize, rows: &mut Vec<u8>)
+        requires within { i < band_count self.old.height }
+        requires size { length rows.old.items ≡ band_size self.old.width self.old.height i }
         ensures width { self.new.width ≡ self.old.width }
         ensures height { self.new.height ≡ self.old.height }
-        ensures bytes { CalledAtMut F.FnMut write.old self.old.bytes tt write.new self.new.bytes }
+        ensures band { band_of self.new i ≡ rows.old.items }
+        ensures others { (j : ℕ) → j < band_count self.old.height → j ≢ i → band_of self.new j ≡ band_of self.old j }
+        ensures back { rows.new.items ≡ band_of self.old i }
+        ensures count { length rows.new.items ≡ length rows.old.items }
+        ensures pixels { (px py : ℕ) → px < self.old.width → py < self.old.height
+            → pixel self.new px py ≡ pixel_in (band_of self.new (py / 16)) self.old.width px (py % 16) }
         ensures whole { IsPixmap self.new }
     {
-        edit_behind(&mut self.file, self.start, write);
+        exchange(&mut self.bands, i, rows);
     }
 
-    /// The bytes of the picture, as a raw portable pixmap.
-    pub fn as_ppm(&self) -> &[u8]
-        ensures bytes { result.now ≡ ppm_bytes self.now }
-        ensures count { length result.now ≡ ppm_size self.now.width self.now.height }
-    {
-        &self.file
-    }
-
-    // Where the bytes of a pixel begin.
+    // Where the bytes of a pixel begin in those of its band.
     fn place(&self, px: u16, py: u16) -> usize
         requires column { px < self.now.width }
         requires row { py < self.now.height }
-        ensures exact { result ≡ place_of self.now.width px py }
-        ensures inside { result + 3 ≤ length self.now.bytes }
+        ensures exact { result ≡ place_of self.now.width px (py % 16) }
+        ensures inside { result + 3 ≤ band_size self.now.width self.now.height (py / 16) }
+        ensures band { py / 16 < band_count self.now.height }
     {
-        3 * (py as usize * self.width as usize + px as usize)
+        3 * ((py % BAND_ROWS) as usize * self.width as usize + px as usize)
     }
-}
-
-// Writes bytes over the first ones.
-fn write_front(bytes: &mut [u8], front: &[u8])
-    requires { length front.now ≤ length bytes.old }
-    ensures { bytes.new ≡ front.now ++ drop (length front.now) bytes.old }
-{
-    bytes[..front.len()].copy_from_slice(front);
-}
-
-// Lends the bytes from a place on.
-fn edit_behind<F: FnMut(&mut [u8])>(bytes: &mut [u8], start: usize, write: &mut F)
-    requires within { start ≤ length bytes.old }
-    requires takes { (behind : MutBor (List ℕ)) → behind.now ≡ drop start bytes.old → F.pre write.old behind }
-    ensures front { take start bytes.new ≡ take start bytes.old }
-    ensures behind { CalledAtMut F.FnMut write.old (drop start bytes.old) tt write.new (drop start bytes.new) }
-{
-    let (_, behind) = bytes.split_at_mut(start);
-    write(behind);
-}
-
-// Writes three bytes at a place, which is counted from another one on.
-fn set_behind(bytes: &mut [u8], start: usize, place: usize, colour: [u8; 3])
-    requires { start + (place + 3) ≤ length bytes.old }
-    ensures front { take start bytes.new ≡ take start bytes.old }
-    ensures behind { drop start bytes.new
-        ≡ slice_set (slice_set (slice_set (drop start bytes.old) place (slice_index colour 0)) (place + 1) (slice_index colour 1))
-        (place + 2) (slice_index colour 2) }
-{
-    let (_, behind) = bytes.split_at_mut(start);
-    let [red, green, blue] = colour;
-    behind[place] = red;
-    behind[place + 1] = green;
-    behind[place + 2] = blue;
 }

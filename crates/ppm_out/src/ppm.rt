@@ -46,7 +46,19 @@ pub fn append_ppm_reserved(out: &mut Vec<u8>, image: &Image)
     ensures shown { (colour : ℕ → ℕ → List ℕ) → Shows image.now colour
         → out.new.items ≡ out.old.items ++ picture_bytes image.now.width image.now.height colour }
 {
-    append_within(out, image.as_ppm());
+    append_within(out, image.header());
+    append_bands(out, image);
+}
+
+// Appends the bytes of all pixels, for which there is room.
+fn append_bands(out: &mut Vec<u8>, image: &Image)
+    requires { vec_len out.old + length image.now.bytes ≤ vec_capacity out.old }
+    ensures items { out.new.items ≡ out.old.items ++ image.now.bytes }
+    ensures room { vec_capacity out.old ≤ vec_capacity out.new }
+{
+    for i in 0..image.bands() {
+        append_within(out, image.band(i));
+    }
 }
 
 // The header of the picture of an image so wide and high.

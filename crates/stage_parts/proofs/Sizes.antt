@@ -1,5 +1,5 @@
 -- How many bytes pictures have.
-use Rattle.std.proofs.Common.{◌≡◌, ℕ, zero, suc, ◌+◌, ◌*◌, ◌<◌, ◌≤◌, ◌==◌, ◌&&◌, Bool, true, false, eqb-true, List, [], ◌∷◌, ◌++◌, take, drop, length, length-append, refl, ap, ◌∙◌, arith, subst, sym}
+use Rattle.std.proofs.Common.{◌≡◌, ℕ, zero, suc, ◌+◌, ◌*◌, ◌<◌, ◌≤◌, ◌==◌, ◌&&◌, Bool, true, false, eqb-true, List, [], ◌∷◌, ◌++◌, take, drop, length, length-append, append-nil, refl, ap, ◌∙◌, arith, subst, sym}
 use Rattle.std.proofs.lemmas.List.{flat_map_more, take_more, drop_more}
 use Rattle.std.proofs.lemmas.Option.{same_Some}
 use Rattle.std.proofs.lemmas.Fmt.{length-decimal-le_succ}
@@ -122,3 +122,9 @@ swapped_bytes (x ∷ images) zero there image new at same is =
     ap (λ w. ppm_size w new.height + bytes_of_all images) width ∙ ap (λ h. ppm_size x.width h + bytes_of_all images) height
 swapped_bytes (x ∷ images) (suc i) there image new at same is =
     ap (λ n. ppm_size x.width x.height + n) (swapped_bytes images i there image new at same is)
+
+-- the bytes of one image alone
+pub only_image : (images : List Pixmap) (image : Pixmap) → length images ≡ 1 → image ≡ slice_index_or images 0 image → ppm_bytes image ≡ flat_map ppm_bytes images
+only_image [] image one is = absurd (omega (arith, one))
+only_image (x ∷ y ∷ rest) image one is = absurd (omega (arith, one))
+only_image (x ∷ []) image one is = ap ppm_bytes is ∙ sym (append-nil (ppm_bytes x))

@@ -1,15 +1,18 @@
 //! What goes round between the stages, frame by frame.
-ghost use Rattle.std.specs.Prelude.{◌≡◌, ◌+◌, ◌≤◌, ◌++◌, true, if◌then◌else◌, List, [], length, slice_index_or, slice_set, IfOk};
+ghost use Rattle.std.specs.Prelude.{◌≡◌, ◌+◌, ◌<◌, ◌≤◌, ◌++◌, true, if◌then◌else◌, List, [], length, take, slice_index_or, slice_set, IfOk, IfErr, OnOk, OnErr};
 ghost use Rattle.std.specs.List.{flat_map, list_all};
 ghost use Rattle.std.specs.Vec.{vec_capacity, vec_len};
+ghost use Rattle.std.specs.Io.KnownBytes.{append_known};
+ghost use Rattle.pf_io.specs.Causes.{HasCause};
+ghost use Rattle.pf_io.specs.Streams.{AppendsFront, MarksFault};
 ghost use Rattle.ppm_out.specs.Pixmap.{Pixmap};
 ghost use Rattle.ppm_out.specs.Ppm.{ppm_bytes};
 ghost use Rattle.stage_parts.specs.Loads.{AreImages, bytes_of_all, is_of_size, have_one_size, can_swap, is_for};
 
 use draw_list::{DrawList, Stats};
 use fx_math::Lens;
-use pf_io::NoMemory;
-use ppm_out::{Image, append_ppm_reserved, ppm_len};
+use pf_io::{NoMemory, Sink, WriteError, write_all};
+use ppm_out::{Image, append_ppm_reserved, ppm_len, write_ppm};
 use std::alloc::Global;
 use std::marker::Model;
 use std::mem;
@@ -279,14 +282,19 @@ impl Load {
         self.stats = stats;
     }
 
-    /// The bytes of the pictures.
-    pub fn bytes(&self) -> &[u8]
-        ensures { result.now ≡ self.now.bytes }
+    /// Writes the bytes of the pictures, or up to a fault, after which the sink gets no more. No byte is copied for that.
+    pub fn write_to<S: Sink>(&self, sink: &mut S) -> Result<(), WriteError>
+        ensures whole { OnOk result (S.written sink.new ≡ append_known (S.written sink.old) self.now.bytes) }
+        ensures cut { IfErr result (λ error. (error.written < length self.now.bytes) ×
+            (S.written sink.new ≡ append_known (S.written sink.old) (take error.written self.now.bytes))) }
+        ensures front { OnErr result (AppendsFront (S.written sink.old) (S.written sink.new) self.now.bytes) }
+        ensures cause { HasCause (S.faults sink.old) (S.faults sink.new) result }
+        ensures last { MarksFault (S.at_fault sink.old) (S.at_fault sink.new) (S.written sink.new) result }
     {
         if self.is_image {
-            self.images[0].as_ppm()
+            write_ppm(&self.images[0], sink)
         } else {
-            self.bytes.as_slice()
+            write_all(sink, self.bytes.as_slice())
         }
     }
 

@@ -39,11 +39,11 @@ loop-count-preserved g c =
       left = omega (arith, ap length next.left, c.loop-count.invariant.left);
       behind = λ px py column row. c.draw_pane.ensures.glass.behind px py column row ∙ c.loop-count.invariant.behind px py column row;
       drawn = λ px py column row.
-          let behind = behind_at a.strips.now px py in
+          let behind = behind_at a.strips.now.items px py in
           ap (glass_glazes a.lens.now behind (instances_of (panes_left xs (Some pane))) px py)
           (c.draw_pane.ensures.glass.colours px py column row
-          ∙ ap (λ (b : Option Fragment). glass_glazes a.lens.now b (option_to_list (slice_get xs pane.number)) px py (glazed_with a.lens.now c.loop-count.strips ps px py)) (c.loop-count.invariant.behind px py column row))
-          ∙ glazes_next a.lens.now behind xs last pane next px py (glazed_with a.lens.now c.loop-count.strips ps px py)
+          ∙ ap (λ (b : Option Fragment). glass_glazes a.lens.now b (option_to_list (slice_get xs pane.number)) px py (glazed_with a.lens.now c.loop-count.strips.items ps px py)) (c.loop-count.invariant.behind px py column row))
+          ∙ glazes_next a.lens.now behind xs last pane next px py (glazed_with a.lens.now c.loop-count.strips.items ps px py)
           ∙ c.loop-count.invariant.drawn px py column row;
     }
 
@@ -58,12 +58,12 @@ returns-in-None-clause-glass g c =
     record {
       behind = c.loop-count.invariant.behind;
       colours = λ px py column row.
-          let behind = behind_at a.strips.now px py in
-          let now = glazed_with a.lens.now c.loop-count.strips c.loop-count.batch.pieces px py in
+          let behind = behind_at a.strips.now.items px py in
+          let now = glazed_with a.lens.now c.loop-count.strips.items c.loop-count.batch.pieces px py in
           sym (glazes_none a.lens.now behind px py now)
           ∙ ap (λ (es : List (ℕ × Instance)). glass_glazes a.lens.now behind (instances_of es) px py now) (sym none)
           ∙ c.loop-count.invariant.drawn px py column row
-          ∙ ap (λ (ys : List Instance). glass_glazes a.lens.now behind ys px py (glazed_with a.lens.now a.strips.now a.batch.now.pieces px py)) (left_in_order xs);
+          ∙ ap (λ (ys : List Instance). glass_glazes a.lens.now behind ys px py (glazed_with a.lens.now a.strips.now.items a.batch.now.pieces px py)) (left_in_order xs);
     }
 
 pub returns-clause-glass : goal.returns-clause-glass
@@ -76,10 +76,10 @@ returns-clause-glass g c =
     record {
       behind = c.loop-count.invariant.behind;
       colours = λ px py column row.
-          let behind = behind_at a.strips.now px py in
-          let now = glazed_with a.lens.now c.loop-count.strips c.loop-count.batch.pieces px py in
+          let behind = behind_at a.strips.now.items px py in
+          let now = glazed_with a.lens.now c.loop-count.strips.items c.loop-count.batch.pieces px py in
           sym (glazes_none a.lens.now behind px py now)
           ∙ ap (λ (es : List (ℕ × Instance)). glass_glazes a.lens.now behind (instances_of es) px py now) (sym none)
           ∙ c.loop-count.invariant.drawn px py column row
-          ∙ ap (λ (ys : List Instance). glass_glazes a.lens.now behind ys px py (glazed_with a.lens.now a.strips.now a.batch.now.pieces px py)) (left_in_order xs);
+          ∙ ap (λ (ys : List Instance). glass_glazes a.lens.now behind ys px py (glazed_with a.lens.now a.strips.now.items a.batch.now.pieces px py)) (left_in_order xs);
     }

@@ -9,10 +9,10 @@ use Rattle.depth_raster.proofs.glass.draw_glass.Given as goal
 
 abbrev pub invariant-loop-count : goal.invariant-loop-count
 invariant-loop-count g l = record {
-  sound : AreStrips l.lens l.strips;
+  sound : AreStrips l.lens l.strips.items;
   left : length (panes_left (instances_in l.list) l.last) + l.count ≤ length l.list.items.items;
-  behind : (px py : ℕ) → px < l.lens.w → py < l.lens.h → behind_at l.strips px py ≡ behind_at l.initial.strips px py;
+  behind : (px py : ℕ) → px < l.lens.w → py < l.lens.h → behind_at l.strips.items px py ≡ behind_at l.initial.strips.items px py;
   drawn : (px py : ℕ) → px < l.lens.w → py < l.lens.h
-      → glass_glazes l.lens (behind_at l.initial.strips px py) (instances_of (panes_left (instances_in l.list) l.last)) px py (glazed_with l.lens l.strips l.batch.pieces px py)
-      ≡ glass_glazes l.lens (behind_at l.initial.strips px py) (instances_of (panes_left (instances_in l.list) None)) px py (glazed_with l.lens l.initial.strips l.initial.batch.pieces px py);
+      → glass_glazes l.lens (behind_at l.initial.strips.items px py) (instances_of (panes_left (instances_in l.list) l.last)) px py (glazed_with l.lens l.strips.items l.batch.pieces px py)
+      ≡ glass_glazes l.lens (behind_at l.initial.strips.items px py) (instances_of (panes_left (instances_in l.list) None)) px py (glazed_with l.lens l.initial.strips.items l.initial.batch.pieces px py);
 }

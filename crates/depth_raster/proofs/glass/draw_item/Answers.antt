@@ -10,7 +10,7 @@ pub loop-number-init : goal.loop-number-init
 loop-number-init g c = record {
   carried = c.new-recent.ensures.carried c.args.list.now.joints.lists;
   sound = c.requires.sound;
-  glass = nothing_glazed c.args.lens.now c.args.strips.now c.args.batch.now.pieces;
+  glass = nothing_glazed c.args.lens.now c.args.strips.now.items c.args.batch.now.pieces;
 }
 
 pub loop-number-preserved : goal.loop-number-preserved
@@ -23,11 +23,11 @@ loop-number-preserved g c =
     record {
       carried = c.at_eye-carried.ensures.carried;
       sound = c.draw_face.ensures.sound;
-      glass = glazed_alike a.lens.now a.strips.now c.draw_face.new.strips a.batch.now.pieces c.draw_face.new.batch.pieces
+      glass = glazed_alike a.lens.now a.strips.now.items c.draw_face.new.strips.items a.batch.now.pieces c.draw_face.new.batch.pieces
           (λ b px py u. h b px py (f b px py u)) (part_glazed a.lens.now x (n + 1))
           (λ b px py u. glazes_more a.lens.now b x n c.in-Some.tri c.of-face.result px py u (sym c.in-Some.ensures)
           (face_stands a.list.now.joints.lists a.list.now.kept.tris a.item.now n c.in-Some.tri c.at_eye-carried.result c.of-face.result c.at_eye-carried.ensures.hits c.of-face.ensures))
-          (glazed_then a.lens.now a.strips.now c.loop-number.strips c.draw_face.new.strips a.batch.now.pieces c.loop-number.batch.pieces c.draw_face.new.batch.pieces f h c.loop-number.invariant.glass c.draw_face.ensures.glass);
+          (glazed_then a.lens.now a.strips.now.items c.loop-number.strips.items c.draw_face.new.strips.items a.batch.now.pieces c.loop-number.batch.pieces c.draw_face.new.batch.pieces f h c.loop-number.invariant.glass c.draw_face.ensures.glass);
     }
 
 pub returns-in-None-clause-glass : goal.returns-in-None-clause-glass
@@ -35,7 +35,7 @@ returns-in-None-clause-glass g c =
     let a = c.args in
     let x = instance_of_item a.list.now.joints.lists a.list.now.kept.tris a.item.now in
     let n = c.loop-number.number in
-    glazed_alike a.lens.now a.strips.now c.loop-number.strips a.batch.now.pieces c.loop-number.batch.pieces (part_glazed a.lens.now x n) (instance_glazed a.lens.now x)
+    glazed_alike a.lens.now a.strips.now.items c.loop-number.strips.items a.batch.now.pieces c.loop-number.batch.pieces (part_glazed a.lens.now x n) (instance_glazed a.lens.now x)
     (λ b px py u. glazes_all a.lens.now b x n px py u (past_end x.tris n (sym c.in-None.ensures))) c.loop-number.invariant.glass
 
 pub returns-clause-glass : goal.returns-clause-glass
@@ -44,5 +44,5 @@ returns-clause-glass g c =
     let x = instance_of_item a.list.now.joints.lists a.list.now.kept.tris a.item.now in
     let n = c.loop-number.number in
     let few : length x.tris ≤ n = omega (arith, few_tris a.list.now.kept.tris a.item.now.geom) in
-    glazed_alike a.lens.now a.strips.now c.loop-number.strips a.batch.now.pieces c.loop-number.batch.pieces (part_glazed a.lens.now x n) (instance_glazed a.lens.now x)
+    glazed_alike a.lens.now a.strips.now.items c.loop-number.strips.items a.batch.now.pieces c.loop-number.batch.pieces (part_glazed a.lens.now x n) (instance_glazed a.lens.now x)
     (λ b px py u. glazes_all a.lens.now b x n px py u few) c.loop-number.invariant.glass

@@ -13,7 +13,7 @@ returns-in-Some-clause-glass g c =
     let a = c.args in
     let d = a.list.now in
     let x = instance_of_item d.joints.lists d.kept.tris c.in-Some.item.now in
-    glazed_alike a.lens.now a.strips.now c.draw_item.new.strips a.batch.now.pieces c.draw_item.new.batch.pieces
+    glazed_alike a.lens.now a.strips.now.items c.draw_item.new.strips.items a.batch.now.pieces c.draw_item.new.batch.pieces
     (instance_glazed a.lens.now x) (glass_glazed a.lens.now (option_to_list (slice_get (instances_in d) a.number)))
     (λ b px py u. glazes_one a.lens.now b x (slice_get (instances_in d) a.number) px py u (item_listed d a.number c.in-Some.item.now c.in-Some.ensures.value))
     c.draw_item.ensures.glass
@@ -22,7 +22,7 @@ pub returns-in-None-clause-glass : goal.returns-in-None-clause-glass
 returns-in-None-clause-glass g c =
     let a = c.args in
     let d = a.list.now in
-    glazed_alike a.lens.now a.strips.now a.strips.now a.batch.now.pieces a.batch.now.pieces
+    glazed_alike a.lens.now a.strips.now.items a.strips.now.items a.batch.now.pieces a.batch.now.pieces
     kept (glass_glazed a.lens.now (option_to_list (slice_get (instances_in d) a.number)))
     (λ b px py u. glazes_absent a.lens.now b (slice_get (instances_in d) a.number) px py u (item_absent d a.number c.in-None.ensures.value))
-    (nothing_glazed a.lens.now a.strips.now a.batch.now.pieces)
+    (nothing_glazed a.lens.now a.strips.now.items a.batch.now.pieces)

@@ -12,10 +12,10 @@ returns g c =
     let lens = a.lens.now in
     let ps = a.batch.now.pieces in
     let qs = c.make_ready.new.self.pieces in
-    let before = a.strips.now in
-    let after = c.glaze_strips.new.strips in
-    let each = subst (λ (rs : List Piece). StripsRelate (ColoursFollow (pieces_glazes lens rs)) before after) c.as_slice-2.ensures c.glaze_strips.ensures in
-    let long = c.glaze_strips.auto.strips in
+    let before = a.strips.now.items in
+    let after = c.glaze_strips.new.strips.items in
+    let each = subst (λ (rs : List Piece). StripsRelate (ColoursFollow (pieces_glazes lens rs)) before after) c.as_slice-2.ensures c.glaze_strips.ensures.glazed in
+    let long = c.glaze_strips.ensures.many in
     record {
       sound = flushed_glass_open lens qs before after c.requires.sound long each;
       empty = c.clear.ensures.pieces;

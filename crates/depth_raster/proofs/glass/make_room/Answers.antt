@@ -10,5 +10,5 @@ returns-then-is_full g c =
     record {
       sound = c.flush.ensures.sound;
       room = omega (arith, ap length c.flush.ensures.empty);
-      glass = subst (λ (ps : List Piece). Glazes a.lens.now a.strips.now a.batch.now.pieces c.flush.new.strips ps kept) (sym c.flush.ensures.empty) c.flush.ensures.glass;
+      glass = subst (λ (ps : List Piece). Glazes a.lens.now a.strips.now.items a.batch.now.pieces c.flush.new.strips.items ps kept) (sym c.flush.ensures.empty) c.flush.ensures.glass;
     }

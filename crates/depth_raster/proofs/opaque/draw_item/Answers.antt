@@ -16,7 +16,7 @@ loop-n-preserved g c = record {
       let a = c.args in
       c.draw_tri.ensures.drawn px py column row
       ∙ ap (waiting_over a.list.now a.lens.now a.number c.loop-n.n px py) (c.loop-n.invariant.drawn px py column row)
-      ∙ part_more a.list.now a.lens.now a.number a.item.now c.loop-n.n c.in-Some._tri px py (drawn_after a.list.now a.lens.now a.batch.now.is_first a.strips.now a.batch.now.pieces a.batch.now.waiting.items px py) c.requires.item (sym c.in-Some.ensures);
+      ∙ part_more a.list.now a.lens.now a.number a.item.now c.loop-n.n c.in-Some._tri px py (drawn_after a.list.now a.lens.now a.batch.now.is_first a.strips.now.items a.batch.now.pieces a.batch.now.waiting.items px py) c.requires.item (sym c.in-Some.ensures);
 }
 
 pub returns-in-None-clause-drawn : goal.returns-in-None-clause-drawn
@@ -24,7 +24,7 @@ returns-in-None-clause-drawn g c = λ px py column row.
     let a = c.args in
     let x = instance_of_item a.list.now.joints.lists a.list.now.kept.tris a.item.now in
     c.loop-n.invariant.drawn px py column row
-    ∙ part_all a.lens.now x c.loop-n.n px py (drawn_after a.list.now a.lens.now a.batch.now.is_first a.strips.now a.batch.now.pieces a.batch.now.waiting.items px py) (past_end x.tris c.loop-n.n (sym c.in-None.ensures))
+    ∙ part_all a.lens.now x c.loop-n.n px py (drawn_after a.list.now a.lens.now a.batch.now.is_first a.strips.now.items a.batch.now.pieces a.batch.now.waiting.items px py) (past_end x.tris c.loop-n.n (sym c.in-None.ensures))
 
 pub returns-clause-drawn : goal.returns-clause-drawn
 returns-clause-drawn g c = λ px py column row.
@@ -32,4 +32,4 @@ returns-clause-drawn g c = λ px py column row.
     let x = instance_of_item a.list.now.joints.lists a.list.now.kept.tris a.item.now in
     let few : length x.tris ≤ c.loop-n.n = omega (arith, few_tris a.list.now.kept.tris a.item.now.geom) in
     c.loop-n.invariant.drawn px py column row
-    ∙ part_all a.lens.now x c.loop-n.n px py (drawn_after a.list.now a.lens.now a.batch.now.is_first a.strips.now a.batch.now.pieces a.batch.now.waiting.items px py) few
+    ∙ part_all a.lens.now x c.loop-n.n px py (drawn_after a.list.now a.lens.now a.batch.now.is_first a.strips.now.items a.batch.now.pieces a.batch.now.waiting.items px py) few

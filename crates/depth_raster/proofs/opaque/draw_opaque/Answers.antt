@@ -24,10 +24,10 @@ loop-number-init g c =
       sound = c.requires.sound;
       gathered = none_gathered a.list.now a.lens.now d.pieces d.waiting.items d.few ready c.clear_waiting.ensures.waiting;
       drawn = λ px py column row.
-          ap (λ (ws : List Waiting). drawn_after a.list.now a.lens.now d.is_first a.strips.now d.pieces ws px py) c.clear_waiting.ensures.waiting
-          ∙ ap (λ (first : Bool). drawn_with a.lens.now first a.strips.now d.pieces px py) c.clear_waiting.ensures.first
-          ∙ ap (λ (ps : List Piece). drawn_with a.lens.now b.is_first a.strips.now ps px py) c.clear_waiting.ensures.pieces
-          ∙ opaque_none a.lens.now px py (drawn_with a.lens.now b.is_first a.strips.now b.pieces px py);
+          ap (λ (ws : List Waiting). drawn_after a.list.now a.lens.now d.is_first a.strips.now.items d.pieces ws px py) c.clear_waiting.ensures.waiting
+          ∙ ap (λ (first : Bool). drawn_with a.lens.now first a.strips.now.items d.pieces px py) c.clear_waiting.ensures.first
+          ∙ ap (λ (ps : List Piece). drawn_with a.lens.now b.is_first a.strips.now.items ps px py) c.clear_waiting.ensures.pieces
+          ∙ opaque_none a.lens.now px py (drawn_with a.lens.now b.is_first a.strips.now.items b.pieces px py);
     }
 
 pub loop-number-preserved : goal.loop-number-preserved
@@ -39,7 +39,7 @@ loop-number-preserved g c = record {
       let xs = instances_in a.list.now in
       c.draw_numbered.ensures.drawn px py column row
       ∙ ap (opaque_over a.lens.now (option_to_list (slice_get xs c.loop-number.number)) px py) (c.loop-number.invariant.drawn px py column row)
-      ∙ opaque_more a.lens.now xs c.loop-number.number px py (drawn_with a.lens.now a.batch.now.is_first a.strips.now a.batch.now.pieces px py);
+      ∙ opaque_more a.lens.now xs c.loop-number.number px py (drawn_with a.lens.now a.batch.now.is_first a.strips.now.items a.batch.now.pieces px py);
 }
 
 pub returns-clause-ready : goal.returns-clause-ready
@@ -55,9 +55,9 @@ returns-clause-drawn g c = λ px py column row.
     let xs = instances_in a.list.now in
     let b = a.batch.now in
     let d = c.loop-number.batch in
-    let after = c.loop-number.strips in
+    let after = c.loop-number.strips.items in
     let all : take c.loop-number.number xs ≡ xs = take_all c.loop-number.number xs (omega (arith, length-map a.list.now.items.items (instance_of_item lists a.list.now.kept.tris))) in
     ap (λ (first : Bool). drawn_with lens first after c.prepare.new.self.pieces px py) c.prepare.ensures.first
     ∙ drawn_appended c.args.list.now lens d.is_first after d.waiting.items d.pieces c.prepare.new.self.pieces px py c.prepare.ensures.pieces
     ∙ c.loop-number.invariant.drawn px py column row
-    ∙ ap (λ (ys : List Instance). opaque_over lens ys px py (drawn_with lens b.is_first a.strips.now b.pieces px py)) all
+    ∙ ap (λ (ys : List Instance). opaque_over lens ys px py (drawn_with lens b.is_first a.strips.now.items b.pieces px py)) all

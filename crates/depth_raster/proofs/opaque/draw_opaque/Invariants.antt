@@ -8,7 +8,7 @@ use Rattle.depth_raster.proofs.opaque.draw_opaque.Given as goal
 
 abbrev pub invariant-loop-number : goal.invariant-loop-number
 invariant-loop-number g l = record {
-  sound : AreStrips l.lens l.strips;
+  sound : AreStrips l.lens l.strips.items;
   gathered : AreGathered l.list l.lens l.batch.pieces l.batch.waiting.items;
-  drawn : Gathers l.list l.lens l.fn.batch.is_first l.initial.strips l.fn.batch.pieces [] l.batch.is_first l.strips l.batch.pieces l.batch.waiting.items (opaque_over l.lens (take l.number (instances_in l.list)));
+  drawn : Gathers l.list l.lens l.fn.batch.is_first l.initial.strips.items l.fn.batch.pieces [] l.batch.is_first l.strips.items l.batch.pieces l.batch.waiting.items (opaque_over l.lens (take l.number (instances_in l.list)));
 }

@@ -23,7 +23,7 @@ returns-clause-drawn g c = λ px py column row.
     let lens = a.lens.now in
     let list = a.list.now in
     let room = c.make_room.new.batch in
-    let strips = c.make_room.new.strips in
+    let strips = c.make_room.new.strips.items in
     let after = c.gather.new.self in
     let w : Waiting = record { item = a.item; number = a.number; rank = length room.pieces + length room.waiting.items + 1 } in
     ap (λ (b : Bool). drawn_after list lens b strips after.pieces after.waiting.items px py) c.gather.ensures.first

@@ -18,8 +18,8 @@ returns-then-is_full g c =
     let ready = c.prepare.new.self in
     let old = c.args.batch.now in
     let b = c.flush.new.batch in
-    let before = c.args.strips.now in
-    let strips = c.flush.new.strips in
+    let before = c.args.strips.now.items in
+    let strips = c.flush.new.strips.items in
     record {
       sound = c.flush.ensures.sound;
       gathered = none_gathered c.args.list.now lens b.pieces b.waiting.items (omega (arith, ap length c.flush.ensures.empty)) (none_ready lens b.pieces c.flush.ensures.empty) c.flush.ensures.none;

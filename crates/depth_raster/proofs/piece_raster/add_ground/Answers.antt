@@ -15,7 +15,7 @@ returns-then-has_glass g c =
       ready = λ none. absurd (false≢true (sym none));
       drawn = λ xs ys h.
           glass_begun a.lens.now a.back a.batch.now.is_first b.is_first e.is_first
-          a.strips.now c.draw_opaque.new.strips c.flush.new.strips c.draw_glass.new.strips
+          a.strips.now.items c.draw_opaque.new.strips.items c.flush.new.strips.items c.draw_glass.new.strips.items
           a.batch.now.pieces b.pieces d.pieces e.pieces
           xs ys (instances_in a.list.now) (sym c.has_glass.ensures ∙ c.if-has_glass.true) h c.draw_opaque.ensures.drawn
           (record { sound = c.flush.ensures.sound; empty = c.flush.ensures.empty; drawn = c.flush.ensures.drawn; blank = c.flush.ensures.blank })
@@ -30,7 +30,7 @@ returns-else-has_glass g c =
       sound = c.draw_opaque.ensures.sound;
       ready = λ none. c.draw_opaque.ensures.ready;
       drawn = λ xs ys h.
-          ground_added a.lens.now a.back a.batch.now.is_first b.is_first a.strips.now c.draw_opaque.new.strips
+          ground_added a.lens.now a.back a.batch.now.is_first b.is_first a.strips.now.items c.draw_opaque.new.strips.items
           a.batch.now.pieces b.pieces xs ys (instances_in a.list.now)
           (sym c.has_glass.ensures ∙ c.if-has_glass.false) h c.draw_opaque.ensures.drawn;
     }

@@ -21,17 +21,17 @@ returns-then-glazing g c =
     let gs = sorted is_drawn_before (filter is_glass zs) in
     let b = a.batch.now in
     let d = c.draw_glass.new.batch in
-    let strips = c.draw_glass.new.strips in
+    let strips = c.draw_glass.new.strips.items in
     record {
       sound = c.draw_glass.ensures.sound;
       ready = λ none. absurd (false≢true (sym none));
       drawn = λ xs ys h none.
-          glass_added a.lens.now a.back b.is_first d.is_first a.strips.now strips b.pieces d.pieces xs ys zs gs (none c.if-glazing.true)
-          (subst (λ (t : Bool). HasDrawn (held a.lens.now a.back t b.is_first a.strips.now b.pieces) xs ys) c.if-glazing.true h)
+          glass_added a.lens.now a.back b.is_first d.is_first a.strips.now.items strips b.pieces d.pieces xs ys zs gs (none c.if-glazing.true)
+          (subst (λ (t : Bool). HasDrawn (held a.lens.now a.back t b.is_first a.strips.now.items b.pieces) xs ys) c.if-glazing.true h)
           c.draw_glass.ensures.glass;
       late = λ xs ys h yes.
-          glass_added a.lens.now a.back b.is_first d.is_first a.strips.now strips b.pieces d.pieces xs ys (filter is_glass zs) gs (only_glass zs)
-          (subst (λ (t : Bool). HasDrawn (held a.lens.now a.back t b.is_first a.strips.now b.pieces) xs ys) yes h)
+          glass_added a.lens.now a.back b.is_first d.is_first a.strips.now.items strips b.pieces d.pieces xs ys (filter is_glass zs) gs (only_glass zs)
+          (subst (λ (t : Bool). HasDrawn (held a.lens.now a.back t b.is_first a.strips.now.items b.pieces) xs ys) yes h)
           c.draw_glass.ensures.glass;
     }
 
@@ -44,6 +44,6 @@ returns-else-glazing g c =
       ready = c.add_ground.ensures.ready;
       drawn = λ xs ys h none.
           c.add_ground.ensures.drawn xs ys
-          (subst (λ (t : Bool). HasDrawn (held a.lens.now a.back t b.is_first a.strips.now b.pieces) xs ys) c.if-glazing.false h);
+          (subst (λ (t : Bool). HasDrawn (held a.lens.now a.back t b.is_first a.strips.now.items b.pieces) xs ys) c.if-glazing.false h);
       late = λ xs ys h yes. absurd (false≢true (sym c.if-glazing.false ∙ yes));
     }

@@ -13,8 +13,8 @@ returns-then-glazing-clause-pixels g c = λ xs h px py column row.
     let column' : px < a.lens.now.w = omega (arith, column, c.show.ensures.width, c.requires.width) in
     let row' : py < a.lens.now.h = omega (arith, row, c.show.ensures.height, c.requires.height) in
     c.show.ensures.pixels px py column' row'
-    ∙ glass_pictured a.lens.now a.back b.is_first a.strips.now c.flush.new.strips b.pieces xs
-    (subst (λ (t : Bool). HasDrawn (held a.lens.now a.back t b.is_first a.strips.now b.pieces) xs (sorted is_drawn_before (filter is_glass xs))) c.if-glazing.true h)
+    ∙ glass_pictured a.lens.now a.back b.is_first a.strips.now.items c.flush.new.strips.items b.pieces xs
+    (subst (λ (t : Bool). HasDrawn (held a.lens.now a.back t b.is_first a.strips.now.items b.pieces) xs (sorted is_drawn_before (filter is_glass xs))) c.if-glazing.true h)
     c.flush.ensures.glass px py column' row'
 
 pub returns-else-glazing-clause-pixels : goal.returns-else-glazing-clause-pixels
@@ -25,7 +25,7 @@ returns-else-glazing-clause-pixels g c = λ xs h px py column row.
     let column' : px < a.lens.now.w = omega (arith, column, ends.ensures.width, c.requires.width) in
     let row' : py < a.lens.now.h = omega (arith, row, ends.ensures.height, c.requires.height) in
     ends.ensures.pixels px py column' row'
-    ∙ ground_pictured a.lens.now a.back b.is_first a.strips.now ends.new.strips b.pieces ends.new.batch.pieces xs
-    (subst (λ (t : Bool). HasDrawn (held a.lens.now a.back t b.is_first a.strips.now b.pieces) xs (sorted is_drawn_before (filter is_glass xs))) c.if-glazing.false h)
+    ∙ ground_pictured a.lens.now a.back b.is_first a.strips.now.items ends.new.strips.items b.pieces ends.new.batch.pieces xs
+    (subst (λ (t : Bool). HasDrawn (held a.lens.now a.back t b.is_first a.strips.now.items b.pieces) xs (sorted is_drawn_before (filter is_glass xs))) c.if-glazing.false h)
     (record { sound = ends.ensures.sound; empty = ends.ensures.empty; drawn = ends.ensures.drawn; blank = ends.ensures.blank })
     px py column' row'

@@ -13,10 +13,10 @@ pub loop-slot-preserved : goal.loop-slot-preserved
 loop-slot-preserved c =
     shared_more c.args.slots.now c.loop-slot.slot-index no_slot c.args.strips.now c.loop-slot.strips c.give.new.strips (omega arith) (c.loop-slot.auto.strips ∙ c.clear.auto.strips) c.loop-slot.invariant c.give.ensures
 
-pub give-requires-clause-rows : goal.give-requires-clause-rows
-give-requires-clause-rows c =
-    shared_lie (get_or c.args.strips.now 0 c.index-strips-0.result).band.first (take c.loop-slot.slot-index c.args.slots.now) c.args.strips.now c.loop-slot.strips
-    (c.loop-slot.auto.strips ∙ c.clear.auto.strips) c.loop-slot.invariant (c.requires.stacked c.index-strips-0.result)
+pub give-requires-clause-stacked : goal.give-requires-clause-stacked
+give-requires-clause-stacked c =
+    shared_lie (take c.loop-slot.slot-index c.args.slots.now) c.args.strips.now c.loop-slot.strips
+    (c.loop-slot.auto.strips ∙ c.clear.auto.strips) c.loop-slot.invariant c.requires.stacked
 
 pub give-requires-clause-room : goal.give-requires-clause-room
 give-requires-clause-room c = λ i d below.

@@ -1,15 +1,11 @@
-use Rattle.std.proofs.Common.{◌≡◌, List, length, sym, ◌∙◌, subst}
+use Rattle.std.proofs.Common.{List, sym, subst}
 use Rattle.std.specs.Prelude.{filter}
-use Rattle.std.specs.Vec.{with_items}
-use Rattle.std.proofs.lemmas.List.{with_items_is}
 use Rattle.pf_model.specs.Walks.{Instance}
 use Rattle.ppm_out.specs.Pixmap.{Shows}
 use Rattle.tri_cover.specs.Glass.{is_glass, is_drawn_before}
 use Rattle.tri_cover.specs.Picture.{picture}
 use Rattle.tri_cover.specs.Sorting.{sorted}
-use Rattle.depth_raster.specs.InPieces.{PieceWork, HasDrawn, held, joined}
-use Rattle.depth_raster.specs.Strips.{AreStrips}
-use Rattle.depth_raster.specs.declared.strip.Strip.{Strip}
+use Rattle.depth_raster.specs.InPieces.{PieceWork, HasDrawn, joined}
 use Rattle.depth_raster.proofs.GlassInOrder.{turn_adds_up}
 use Rattle.depth_raster.proofs.InPieces.{nothing_drawn}
 use Rattle.depth_raster.proofs.Prepared.{none_ready}
@@ -18,32 +14,24 @@ use Rattle.depth_raster.proofs.piece_raster.PieceRaster.finish.Goals as goal
 pub invariant_of-self : goal.invariant_of-self
 invariant_of-self g c =
     let s = c.self.inside in
-    let after = c.end_picture.new.strips in
-    let long : length after ≡ s.strips.len = c.end_picture.auto.strips ∙ c.deref_mut.ensures.len in (
-      subst (λ (ss : List Strip). AreStrips s.lens ss) (sym (with_items_is s.strips after long)) c.end_picture.ensures.strips,
-      λ ground. none_ready s.lens c.end_picture.new.batch.pieces c.end_picture.ensures.empty,
-    )
+    (c.end_picture.ensures.strips, λ ground. none_ready s.lens c.end_picture.new.batch.pieces c.end_picture.ensures.empty)
 
 pub returns-clause-drawn : goal.returns-clause-drawn
 returns-clause-drawn g c =
     let s = c.self.inside in
     let b = c.end_picture.new.batch in
-    nothing_drawn s.lens s.back b.is_first (with_items s.strips c.end_picture.new.strips).items b.pieces c.end_picture.ensures.first c.end_picture.ensures.empty
+    nothing_drawn s.lens s.back b.is_first c.end_picture.new.strips.items b.pieces c.end_picture.ensures.first c.end_picture.ensures.empty
 
 pub returns-clause-pixels : goal.returns-clause-pixels
 returns-clause-pixels g c = λ xs h.
-    let s = c.self.inside in
     let gs = sorted is_drawn_before (filter is_glass xs) in
     let before = subst (λ (w : PieceWork). HasDrawn w xs gs) (sym c.self.view_is) h in
-    let lent = subst (λ (ss : List Strip). HasDrawn (held s.lens s.back s.glazing s.batch.is_first ss s.batch.pieces) xs gs) (sym c.deref_mut.ensures.value) before in
-    subst (λ (w : PieceWork). Shows c.end_picture.new.image (picture w.lens w.back xs)) c.self.view_is (c.end_picture.ensures.pixels xs lent)
+    subst (λ (w : PieceWork). Shows c.end_picture.new.image (picture w.lens w.back xs)) c.self.view_is (c.end_picture.ensures.pixels xs before)
 
 pub returns-clause-pieces : goal.returns-clause-pieces
 returns-clause-pieces g c = λ pieces h order.
-    let s = c.self.inside in
     let xs = joined pieces in
     let gs = sorted is_drawn_before (filter is_glass xs) in
     let turned = subst (λ (ys : List Instance). HasDrawn c.args.self.now xs ys) (turn_adds_up pieces order) h in
     let before = subst (λ (w : PieceWork). HasDrawn w xs gs) (sym c.self.view_is) turned in
-    let lent = subst (λ (ss : List Strip). HasDrawn (held s.lens s.back s.glazing s.batch.is_first ss s.batch.pieces) xs gs) (sym c.deref_mut.ensures.value) before in
-    subst (λ (w : PieceWork). Shows c.end_picture.new.image (picture w.lens w.back xs)) c.self.view_is (c.end_picture.ensures.pixels xs lent)
+    subst (λ (w : PieceWork). Shows c.end_picture.new.image (picture w.lens w.back xs)) c.self.view_is (c.end_picture.ensures.pixels xs before)
