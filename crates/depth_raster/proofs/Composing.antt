@@ -1,27 +1,21 @@
 -- A picture put together from the tiles of its strips.
-use Rattle.std.proofs.Common.{◌≡◌, ℕ, zero, suc, ◌+◌, ◌*◌, ◌-◌, ◌/◌, ◌%◌, ◌<◌, ◌≤◌, List, [], ◌∷◌, ◌++◌, length, length-append, get_or, Option, Some, refl, ap, sym, ◌∙◌, subst, arith, ⊎_elim}
-use Rattle.std.specs.Prelude.{min, option_and_then}
+use Rattle.std.proofs.Common.{◌≡◌, ℕ, ◌+◌, ◌*◌, ◌-◌, ◌/◌, ◌%◌, ◌<◌, ◌≤◌, List, [], length, get_or, Option, Some, ap, sym, ◌∙◌, arith, ⊎_elim}
+use Rattle.std.specs.Prelude.{min}
 use Rattle.std.specs.Option.{option_map_or}
 use Rattle.std.specs.List.{slice_get, between}
 use Rattle.std.specs.Int.{div_ceil}
 use Rattle.std.proofs.lemmas.Bool.{cases_lt}
 use Rattle.std.proofs.lemmas.Grind.{div_ceil_times}
-use Rattle.std.proofs.lemmas.List.{get_or_append_left, get_or-append-add}
 use Rattle.std.proofs.lemmas.List.Edits.{length-between, get_or-between}
 use Rattle.std.proofs.lemmas.Nat.{mul-le}
 use Rattle.std.proofs.lemmas.Option.{slice_get-get_or}
 use Rattle.std.proofs.Math.Nat.{add-mul}
-use Rattle.fx_math.specs.declared.lenses.Lens.{Lens}
-use Rattle.ppm_out.specs.Pixmap.{pixel_in, place_of}
+use Rattle.ppm_out.specs.Pixmap.{pixel_in}
 use Rattle.depth_raster.specs.Blocks.{colour_in, place_in, size_of}
-use Rattle.depth_raster.specs.Canvas.{tile_at, colour_at}
-use Rattle.depth_raster.specs.Shown.{SetsRow, SetsTile, tile_colour, ShowsTiles}
+use Rattle.depth_raster.specs.Shown.{SetsRow, SetsTile, tile_colour}
 use Rattle.depth_raster.specs.Strips.{tile_block}
 use Rattle.depth_raster.specs.declared.blocks.Block.{Block}
-use Rattle.depth_raster.specs.declared.strip.Strip.{Strip}
 use Rattle.depth_raster.specs.declared.tile.Tile.{Tile}
-use Rattle.depth_raster.proofs.Copied.{three}
-use Rattle.depth_raster.proofs.PixelTiles.{band_begins}
 
 -- ---- the rows of a tile
 row_within : (w r rows : ℕ) → r < rows → r * w + w ≤ rows * w

@@ -1,5 +1,5 @@
 -- The colours of tiles, put into the bytes of their rows, which are `width` pixels wide.
-use Rattle.std.specs.Prelude.{◌≡◌, ℕ, ◌+◌, ◌*◌, ◌<◌, ◌≤◌, ◌/◌, ◌%◌, List, [], ◌∷◌, length, slice_get, slice_index_or}
+use Rattle.std.specs.Prelude.{◌≡◌, ℕ, ◌+◌, ◌<◌, ◌≤◌, ◌/◌, ◌%◌, List, [], length, slice_get, slice_index_or}
 use Rattle.std.specs.Option.{option_map_or}
 use Rattle.ppm_out.specs.Pixmap.{pixel_in}
 use Rattle.depth_raster.specs.Blocks.{colour_in}

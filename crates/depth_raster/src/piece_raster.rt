@@ -27,8 +27,8 @@ use std::marker::Model;
 use std::thread::Threads;
 
 /// A renderer with a depth buffer for the pictures of one lens, whose draw lists come in pieces: `begin`, `add` for each
-/// piece and `finish` make one picture. Only `new` takes memory. Triangles gather over the pieces, so many small pieces
-/// cost no more drawing than one list.
+/// piece and `finish` make one picture. Triangles gather over the pieces, so many small pieces cost no more drawing than one list.
+/// Memory is as with `Raster`.
 pub struct PieceRaster {
     lens: Lens,
     back: [u8; 3],
@@ -65,7 +65,7 @@ impl Model for PieceRaster {
 }
 
 impl PieceRaster {
-    /// The renderer of a lens, with all the memory that it will ever need. It has begun a picture before black.
+    /// The renderer of a lens, with all the memory that its pictures need. It has begun a picture before black.
     pub fn new(alloc: Global, lens: &Lens) -> Result<PieceRaster, NoMemory>
         ensures lens { IfOk result (λ raster. raster.lens ≡ lens.now) }
         ensures back { IfOk result (λ raster. raster.back ≡ 0 ∷ 0 ∷ 0 ∷ []) }

@@ -53,7 +53,7 @@ impl Model for Raster {
 }
 
 impl Raster {
-    /// The renderer of a lens, with all the memory that it will ever need.
+    /// The renderer of a lens, with all the memory that its pictures need.
     pub fn new(alloc: Global, lens: &Lens) -> Result<Raster, NoMemory>
         ensures { IfOk result (λ raster. raster ≡ lens.now) }
     {
@@ -68,7 +68,8 @@ impl Raster {
 
     /// Draws the picture of a draw list before a background into an image of the lens's size: at each pixel the nearest
     /// triangle of the opaque items, under the glass in its order, from far to near. Any list will do, also one that is
-    /// not in order. It takes no memory, and the picture is the same with threads and without.
+    /// not in order. Where several processors draw, the claims of strips take three small blocks of memory; the picture is the
+    /// same with threads and without, and whether there is that memory or not.
     pub fn draw<R: Threads + Sync>(
         &mut self,
         rt: &R,

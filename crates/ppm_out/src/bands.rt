@@ -45,8 +45,8 @@ pub(crate) fn set_in_band(bands: &mut [Vec<u8>], i: usize, place: usize, colour:
     requires band { i < length bands.old }
     requires inside { place + 3 ≤ length (slice_index_or (bytes_of_each bands.old) i []) }
     ensures { bytes_of_each bands.new ≡ slice_set (bytes_of_each bands.old) i
-        (slice_set (slice_set (slice_set (slice_index_or (bytes_of_each bands.old) i []) place (slice_index colour 0)) (place + 1) (slice_index colour 1))
-        (place + 2) (slice_index colour 2)) }
+        (slice_set (slice_set (slice_set (slice_index_or (bytes_of_each bands.old) i [])
+        place (slice_index colour 0)) (place + 1) (slice_index colour 1)) (place + 2) (slice_index colour 2)) }
 {
     set_three(&mut bands[i], place, colour);
 }

@@ -1,5 +1,5 @@
 -- Each step keeps the rule.
-use Rattle.std.proofs.Common.{◌≡◌, ◌≢◌, ℕ, zero, suc, ◌+◌, ◌-◌, ◌^◌, ◌<◌, ◌≤◌, ◌⊎◌, inl, inr, ⊎_elim, List, [], ◌∷◌, ◌++◌, length, get_or, set, replicate, map, refl, sym, ap, ◌∙◌, subst, arith, Some, None}
+use Rattle.std.proofs.Common.{◌≡◌, ◌≢◌, ℕ, ◌+◌, ◌<◌, ◌⊎◌, inl, inr, ⊎_elim, List, [], ◌∷◌, ◌++◌, length, get_or, set, replicate, refl, sym, ap, ◌∙◌, subst, arith, Some, None}
 use Rattle.std.specs.Prelude.{slice_get}
 use Rattle.std.proofs.lemmas.List.{length-set, length-map, length-replicate, set-get_or}
 use Rattle.std.proofs.lemmas.Option.{none-some, same_Some}
@@ -8,13 +8,13 @@ use mathlib.Core.Option as maybe
 use mathlib.Core.Logic.{dite}
 use native.Mathlib.Decide.{ℕ_discrete}
 use lib.ListN.{get_elem?}
-use Rattle.atomic_table.specs.Table.{State, Me, step, Act, keeps, takes, gives, stepped, carried_after, Valid, Allows, Splits, Joins, opening, Seen}
-use Rattle.atomic_table.proofs.Lists.{at_set, at_snoc, at_longer, at_last, set_here, set_else}
+use Rattle.atomic_table.specs.Table.{State, step, keeps, takes, gives, Allows, Splits, Joins, opening, Seen}
+use Rattle.atomic_table.proofs.Lists.{at_set, at_snoc, at_longer, set_here, set_else}
 use Rattle.self_scheduling.specs.declared.view.View.{View}
 use Rattle.self_scheduling.specs.Views.{opener, hiring, hired, back_with, gone}
-use Rattle.self_scheduling.specs.Claims.{AreClaimed, threads_of}
+use Rattle.self_scheduling.specs.Claims.{AreClaimed}
 use Rattle.self_scheduling.specs.Steps.{Claims, GivesBack}
-use Rattle.self_scheduling.proofs.Seats.{found, within, get_found, get_within, word_here, word_kept, word_zero, word_was, threads_set, threads_snoc, threads_at, threads_two, home_at, at_home, all_unset, only}
+use Rattle.self_scheduling.proofs.Seats.{found, within, get_found, get_within, word_here, word_kept, word_zero, word_was, threads_set, threads_snoc, threads_two, home_at, at_home, all_unset, only}
 
 module _ {T : Type 0} (items : List T) (leaves : ℕ → T → T → Type 0) (threads : ℕ) where
   abbrev pub Holds : State T View → Type 0

@@ -123,13 +123,17 @@ fn crew<T: Send, R: Threads + Sync, F: Fn(usize, &mut T) + Sync, B: Told<T> + Se
     }
     let other = table.split_seat::<Hire>(&mut seat);
     let theirs = move || -> Seat<T, View>
-        requires { IsSync R.row × IsSync F.row × IsSend T.row × IsSend B.row × IsSync B.row × HasItems B.items other table.now.table_id × (count ≡ length B.items) × (0 < count)
-            × AcceptsEach F.Fn f.now B.items × ((i : ℕ) (x y : T) → ChangesAt F.Fn f.now i x y → B.leaves i x y) × (other.me ≡ (opener 1, [])) }
+        requires { IsSync R.row × IsSync F.row × IsSend T.row × IsSend B.row × IsSync B.row
+            × HasItems B.items other table.now.table_id × (count ≡ length B.items) × (0 < count)
+            × AcceptsEach F.Fn f.now B.items × ((i : ℕ) (x y : T) → ChangesAt F.Fn f.now i x y → B.leaves i x y)
+            × (other.me ≡ (opener 1, [])) }
         ensures { SameSeat other result × (result.me ≡ (record (opener 1) { past = count }, [])) }
     { crew(rt, table, other, 0, count, f) };
     let ours = move || -> Seat<T, View>
-        requires { IsSync R.row × IsSync F.row × IsSend T.row × IsSend B.row × IsSync B.row × HasItems B.items seat table.now.table_id × (count ≡ length B.items) × (0 < count)
-            × AcceptsEach F.Fn f.now B.items × ((i : ℕ) (x y : T) → ChangesAt F.Fn f.now i x y → B.leaves i x y) × (0 < others) × (seat.me ≡ (opener others, [])) }
+        requires { IsSync R.row × IsSync F.row × IsSend T.row × IsSend B.row × IsSync B.row
+            × HasItems B.items seat table.now.table_id × (count ≡ length B.items) × (0 < count)
+            × AcceptsEach F.Fn f.now B.items × ((i : ℕ) (x y : T) → ChangesAt F.Fn f.now i x y → B.leaves i x y)
+            × (0 < others) × (seat.me ≡ (opener others, [])) }
         ensures { SameSeat seat result × (result.me ≡ (record (opener others) { past = count }, [])) }
     { crew(rt, table, seat, others - 1, count, f) };
     let (theirs, mut ours) = join(rt, theirs, ours);

@@ -1,4 +1,4 @@
-use Rattle.std.proofs.Common.{◌≡◌, ℕ, ◌-◌, ◌*◌, ◌<◌, min, length, get_or, ap, sym, ◌∙◌, subst, arith}
+use Rattle.std.proofs.Common.{ℕ, ◌-◌, ◌*◌, ◌<◌, min, length, ap, sym, ◌∙◌, subst, arith}
 use Rattle.depth_raster.specs.Shown.{IsSeenAs}
 use Rattle.depth_raster.specs.declared.blocks.Block.{Block}
 use Rattle.depth_raster.specs.declared.strip.Strip.{Strip}

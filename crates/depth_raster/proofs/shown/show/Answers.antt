@@ -1,4 +1,4 @@
-use Rattle.std.proofs.Common.{sym, ◌∙◌}
+use Rattle.std.proofs.Common.{◌∙◌}
 use Rattle.depth_raster.proofs.Handed.{IsSame, same_kept, same_colours, strips_then_same}
 use Rattle.depth_raster.proofs.PixelTiles.{strips_within}
 use Rattle.depth_raster.proofs.shown.show.Goals as goal

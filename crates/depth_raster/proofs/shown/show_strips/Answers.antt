@@ -1,5 +1,5 @@
-use Rattle.std.proofs.Common.{List, get_or, subst}
-use Rattle.depth_raster.specs.Shown.{ShowsItself, IsSeenAs}
+use Rattle.std.proofs.Common.{get_or, subst}
+use Rattle.depth_raster.specs.Shown.{IsSeenAs}
 use Rattle.depth_raster.specs.declared.strip.Strip.{Strip}
 use Rattle.depth_raster.proofs.Handed.{same_strips}
 use Rattle.depth_raster.proofs.shown.show_strips.Goals as goal

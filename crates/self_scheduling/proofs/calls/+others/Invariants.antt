@@ -1,4 +1,4 @@
-use Rattle.std.proofs.Common.{ℕ, ◌-◌, ◌*◌}
+use Rattle.std.proofs.Common.{◌-◌, ◌*◌}
 use Rattle.self_scheduling.proofs.calls.+others.Given as goal
 
 abbrev pub decreases-crew : goal.decreases-crew

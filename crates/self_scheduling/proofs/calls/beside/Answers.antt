@@ -1,4 +1,4 @@
-use Rattle.std.proofs.Common.{◌≡◌, ℕ, ◌+◌, ◌<◌, length, get_or, slice_get, replicate, refl, sym, ap, ◌∙◌, subst, arith, List, Some}
+use Rattle.std.proofs.Common.{◌≡◌, ◌+◌, ◌<◌, length, get_or, replicate, refl, sym, ap, ◌∙◌, subst, arith}
 use Rattle.std.specs.Fork.{ChangesAt}
 use Rattle.atomic_table.specs.Table.{opening}
 use Rattle.self_scheduling.specs.Views.{opener}

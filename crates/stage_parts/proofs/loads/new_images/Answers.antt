@@ -1,4 +1,4 @@
-use Rattle.std.proofs.Common.{◌≡◌, ◌+◌, List, [], ◌∷◌, ◌++◌, length, length-append, ap, sym, subst, arith}
+use Rattle.std.proofs.Common.{◌+◌, List, [], ◌∷◌, length-append, ap, sym, subst, arith}
 use Rattle.ppm_out.specs.Pixmap.{Pixmap}
 use Rattle.stage_parts.specs.Loads.{AreImages, IsOfSize}
 use Rattle.stage_parts.proofs.Sizes.{each_push}
