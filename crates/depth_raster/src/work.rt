@@ -1,7 +1,7 @@
 //! How much work it is to draw pieces, and how it is divided among threads. The picture is the same whatever these answer.
 //!
-//! A unit of work is a pixel that is drawn or painted, some eight nanoseconds; or one of a piece's box where that is not known. One
-//! processor does some three million of the latter in a millisecond, in pictures of towns, where most of them are never looked at.
+//! A unit of work is a pixel of a piece's box. One processor does some three million of them in a millisecond, in pictures of towns,
+//! where most are never looked at.
 
 ghost use Rattle.std.specs.Prelude.{◌<◌};
 
