@@ -21,7 +21,7 @@ use Rattle.depth_raster.proofs.Flushed.{colour_is}
 use Rattle.depth_raster.proofs.PixelTiles.{found, strips_kept, tiles_at}
 use Rattle.depth_raster.proofs.Tiling.{PartsSoFar}
 
--- ---- strips that are the same but for their rows
+-- ---- strips that keep their tiles
 -- a tile is as it was
 abbrev pub IsSame : (before after : Tile) → Type 0
 IsSame before after = after ≡ before

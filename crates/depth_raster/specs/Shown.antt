@@ -33,7 +33,7 @@ ShowsTiles band tiles bytes =
 abbrev pub ShowsItself : Strip → Type 0
 ShowsItself s = ShowsTiles s.band s.tiles.items s.rows.items
 
--- a strip is the same but for its rows
+-- a strip keeps its band and its tiles
 pub record IsSeenAs (before after : Strip) : Type 0 where
   pub band : after.band ≡ before.band
   pub tiles : after.tiles.items ≡ before.tiles.items
