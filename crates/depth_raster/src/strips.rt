@@ -19,6 +19,7 @@ use crate::shown::show_strip;
 use crate::slots::{Slot, sort};
 use crate::strip::Strip;
 use crate::tile::Tile;
+use crate::work::others_to_claim;
 use fx_math::Lens;
 use self_scheduling::for_each;
 use std::mem;
@@ -104,8 +105,7 @@ pub(crate) fn claim_strips<R: Threads + Sync, F: Fn(usize, &mut Strip) + Sync>(
 {
     let alloc = *strips.allocator();
     let claimed = mem::replace(strips, Vec::new(alloc));
-    let others = processors.saturating_sub(1).min(255) as u8;
-    *strips = for_each(rt, alloc, claimed, others, draw);
+    *strips = for_each(rt, alloc, claimed, others_to_claim(processors), draw);
 }
 
 /// Gives a strip its slots of a go, and draws that in it.

@@ -132,6 +132,16 @@ pub(crate) fn processors_for<R: Threads>(rt: &R, processors: &mut Processors, wo
     }
 }
 
+/// How many threads besides the caller's claim strips that so many processors draw: one more than there are other processors, since a
+/// new thread is often put where its maker runs, or begins late; the claims keep all of them busy. None where one processor draws.
+pub(crate) fn others_to_claim(processors: usize) -> u8 {
+    if processors < 2 {
+        0
+    } else {
+        processors.min(255) as u8
+    }
+}
+
 /// About how much work the pieces of slots are, whatever lies before them; where it is much, no more than that is counted.
 pub(crate) fn work_of_slots(slots: &[Slot]) -> u64 {
     let mut work: u64 = 0;
