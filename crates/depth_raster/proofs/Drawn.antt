@@ -6,27 +6,27 @@ use Rattle.tri_cover.specs.Picture.{nearer}
 use Rattle.depth_raster.specs.Blocks.{colour_in}
 use Rattle.depth_raster.specs.Marks.{seen_as}
 use Rattle.depth_raster.specs.Pieces.{AreRanked, fragments_by, pieces_over, IsColoured}
-use Rattle.depth_raster.specs.Slots.{slots_over}
+use Rattle.depth_raster.specs.StripSlots.{strip_slots_over}
 use Rattle.depth_raster.specs.Strips.{AreTilesOf, TilesRelate}
 use Rattle.depth_raster.specs.Tiles.{marks_of, mark_in, MarksFollow, IsPainted, IsAt, IsBegun, IsDrawn, IsDrawnFrom}
 use Rattle.depth_raster.specs.declared.blocks.Block.{Block}
 use Rattle.depth_raster.specs.declared.marks.Mark.{Mark}
 use Rattle.depth_raster.specs.declared.pieces.Piece.{Piece}
-use Rattle.depth_raster.specs.declared.slots.Slot.{Slot}
+use Rattle.depth_raster.specs.declared.strip_slots.StripSlot.{StripSlot}
 use Rattle.depth_raster.specs.declared.tile.Tile.{Tile}
 use Rattle.depth_raster.proofs.Settling.{pieces_seen, pieces_blank}
 use Rattle.depth_raster.proofs.Slotted.{tiles_kept}
 
 -- at the pixels of the tile the slots make the same of marks as the pieces
-abbrev pub AreOver : Lens → List Piece → List Slot → Tile → Type 0
-AreOver lens ps ss t = (q r : ℕ) → IsAt t q r → (m : Mark) → slots_over lens ps ss (t.block.left + q) (t.block.first + r) m ≡ pieces_over lens ps (t.block.left + q) (t.block.first + r) m
+abbrev pub AreOver : Lens → List Piece → List StripSlot → Tile → Type 0
+AreOver lens ps ss t = (q r : ℕ) → IsAt t q r → (m : Mark) → strip_slots_over lens ps ss (t.block.left + q) (t.block.first + r) m ≡ pieces_over lens ps (t.block.left + q) (t.block.first + r) m
 
 -- one pixel of a tile: its mark before, with the pieces, and after; its colour before and after
 record IsPixelDrawn (lens : Lens) (px py : ℕ) (back : List ℕ) (ps : List Piece) (m n : Mark) (c d : List ℕ) : Type 0 where
   marked : n ≡ pieces_over lens ps px py m
   coloured : IsColoured lens px py back ps (pieces_over lens ps px py m) c d
 
-pixel_drawn : (lens : Lens) (back : List ℕ) (ps : List Piece) (ss : List Slot) (a b c : Tile) → AreOver lens ps ss a → MarksFollow (slots_over lens ps ss) a b → IsPainted lens back ps b c → (q r : ℕ) → IsAt a q r →
+pixel_drawn : (lens : Lens) (back : List ℕ) (ps : List Piece) (ss : List StripSlot) (a b c : Tile) → AreOver lens ps ss a → MarksFollow (strip_slots_over lens ps ss) a b → IsPainted lens back ps b c → (q r : ℕ) → IsAt a q r →
     IsPixelDrawn lens (a.block.left + q) (a.block.first + r) back ps (mark_in a.block (marks_of a) q r) (mark_in c.block (marks_of c) q r) (colour_in a.block a.colours.items q r) (colour_in c.block c.colours.items q r)
 pixel_drawn lens back ps ss a b c slots h k q r at = record {
   marked = ap (λ (d : Block). mark_in d (marks_of c) q r) k.block ∙ ap (λ (ms : List Mark). mark_in b.block ms q r) k.marks ∙ marked;
@@ -60,7 +60,7 @@ pixel_drawn lens back ps ss a b c slots h k q r at = record {
 pixel_seen : (lens : Lens) (px py : ℕ) (back : List ℕ) (ps : List Piece) (m n : Mark) (c d : List ℕ) → AreRanked ps → m.rank ≡ 0 → IsPixelDrawn lens px py back ps m n c d → seen_as n d ≡ fold nearer (seen_as m c) (fragments_by lens px py ps)
 pixel_seen lens px py back ps m n c d ranks none is = ap (λ (k : Mark). seen_as k d) is.marked ∙ pieces_seen lens px py ps m c none back d ranks is.coloured
 
-pub tile_drawn_over : (lens : Lens) (back : List ℕ) (ps : List Piece) (ss : List Slot) (a b c : Tile) → AreOver lens ps ss a → AreRanked ps → MarksFollow (slots_over lens ps ss) a b → IsPainted lens back ps b c → IsDrawn lens back ps a c
+pub tile_drawn_over : (lens : Lens) (back : List ℕ) (ps : List Piece) (ss : List StripSlot) (a b c : Tile) → AreOver lens ps ss a → AreRanked ps → MarksFollow (strip_slots_over lens ps ss) a b → IsPainted lens back ps b c → IsDrawn lens back ps a c
 tile_drawn_over lens back ps ss a b c slots ranks h k = record {
   block = k.block ∙ h.block;
   seen = λ q r at none.

@@ -1,24 +1,27 @@
 -- Slots given to the strips whose rows they reach.
 use Rattle.std.proofs.Common.{◌≡◌, ℕ, ◌+◌, ◌*◌, ◌/◌, ◌<◌, ◌≤◌, Bool, true, false, cond, List, [], ◌∷◌, ◌++◌, length, take, drop, set, get_or, get_or-set_same, get_or-set_other, Option, Some, None, refl, ap, sym, ◌∙◌, subst, arith, ⊎_elim, inl, inr, ◌⊎◌}
 use Rattle.std.specs.List.{All, slice_get, filter}
+use Rattle.std.specs.Prelude.{map, min}
 use Rattle.std.specs.Int.{div_ceil}
 use Rattle.std.proofs.lemmas.Grind.{div_ceil_times}
 use Rattle.std.proofs.lemmas.Bool.{both_ways, cases_eq, cases_lt}
 use Rattle.std.proofs.lemmas.Bool.Decides.{nat_tests}
-use Rattle.std.proofs.lemmas.List.{append-nil, drop_all, take_all, get_or_default, length-take-le}
-use Rattle.std.proofs.lemmas.List.Elements.{All-filter, All-head, All-tail, filter_more}
+use Rattle.std.proofs.lemmas.List.{append-nil, drop_all, take_all, get_or_default, length-take-le, length-map, map-append}
+use Rattle.std.proofs.lemmas.List.Elements.{All-filter, All-head, All-map, All-tail, filter_more}
 use Rattle.std.proofs.lemmas.List.Sums.{length-filter, count_by-le-length}
 use Rattle.fx_math.specs.declared.lenses.Lens.{Lens}
 use Rattle.depth_raster.specs.Blocks.{IsBlockOf}
 use Rattle.depth_raster.specs.Pieces.{IsPieceOf, pieces_over}
 use Rattle.depth_raster.specs.Shares.{meets, AreStacked, HasSlots, Gains, EachGains, HasShare, AreShared, AreSlotsFor, HasSlotsFor}
 use Rattle.depth_raster.specs.Slots.{slot_over, slots_over, IsSlotOf, AreSlotsOf}
+use Rattle.depth_raster.specs.StripSlots.{in_strip, strip_slots_over, IsStripSlotOf}
 use Rattle.depth_raster.specs.Strips.{tile_block, AreTilesOf, TilesRelate, IsStripOf, StripRelates, StripsRelate, AreStrips}
 use Rattle.depth_raster.specs.declared.blocks.Block.{Block}
 use Rattle.depth_raster.specs.declared.marks.Mark.{Mark}
 use Rattle.depth_raster.specs.declared.pieces.Piece.{Piece}
 use Rattle.depth_raster.specs.declared.strip.Strip.{Strip}
 use Rattle.depth_raster.specs.declared.slots.Slot.{Slot}
+use Rattle.depth_raster.specs.declared.strip_slots.StripSlot.{StripSlot}
 use Rattle.depth_raster.specs.declared.tile.Tile.{Tile}
 use Rattle.depth_raster.proofs.Drawn.{AreOver}
 use Rattle.depth_raster.proofs.Skipped.{mark_missed}
@@ -33,7 +36,7 @@ written {X} n new old long whole =
     ∙ take_all n new (omega (arith, long))
 
 -- what a strip has is replaced
-pub slots_then : (xs ys : List Slot) (a b c : Strip) → HasSlots xs a b → HasSlots ys b c → HasSlots ys a c
+pub slots_then : (xs ys : List StripSlot) (a b c : Strip) → HasSlots xs a b → HasSlots ys b c → HasSlots ys a c
 slots_then xs ys a b c h k = record {
   band = k.band ∙ h.band;
   tiles = k.tiles ∙ h.tiles;
@@ -83,7 +86,7 @@ gained_not s t misses = record {
   band = refl;
   tiles = refl;
   rows = refl;
-  slots = sym (ap (λ (b : Bool). t.slots.items ++ cond b (s ∷ []) []) misses ∙ append-nil t.slots.items);
+  slots = sym (ap (λ (b : Bool). t.slots.items ++ cond b (in_strip s ∷ []) []) misses ∙ append-nil t.slots.items);
 }
 
 -- the rows of strips against the end of a slot's
@@ -93,9 +96,9 @@ strip_begins bottom n i count below = let bound : (bottom ≤ div_ceil bottom 16
 strip_passed : (bottom i : ℕ) → div_ceil bottom 16 ≤ i → bottom ≤ 16 * i
 strip_passed bottom i l = let bound : (bottom ≤ div_ceil bottom 16 * 16) × (div_ceil bottom 16 * 16 < bottom + 16) = div_ceil_times bottom 16 (omega arith) in omega (arith, bound.0, l)
 
-pub gained : (s : Slot) (i n : ℕ) (before after : Strip) → before.band.first ≡ 16 * i → s.top / 16 ≤ i → n ≡ div_ceil s.bottom 16 → i < n → HasSlots (before.slots.items ++ s ∷ []) before after → Gains s before after
+pub gained : (s : Slot) (i n : ℕ) (before after : Strip) → before.band.first ≡ 16 * i → s.top / 16 ≤ i → n ≡ div_ceil s.bottom 16 → i < n → HasSlots (before.slots.items ++ in_strip s ∷ []) before after → Gains s before after
 gained s i n before after at from count below has =
-    subst (λ (b : Bool). HasSlots (before.slots.items ++ cond b (s ∷ []) []) before after)
+    subst (λ (b : Bool). HasSlots (before.slots.items ++ cond b (in_strip s ∷ []) []) before after)
     (sym (reached before.band s (omega (arith, at, from)) (omega (arith, at, strip_begins s.bottom n i count below)))) has
 
 pub gains_none : (s : Slot) (before : List Strip) (n : ℕ) → AreStacked before → n ≡ s.top / 16 → GainsSoFar s before before n
@@ -118,22 +121,31 @@ pub shared_lie : (ss : List Slot) (before after : List Strip) → length after �
 shared_lie ss before after long shared lie i d below =
     let in_list : i < length before = omega (arith, below, long) in ap (λ (b : Block). b.first) (shared i d in_list).band ∙ lie i d in_list
 
+one_in_strip : (c : Bool) (s : Slot) → map in_strip (cond c (s ∷ []) []) ≡ cond c (in_strip s ∷ []) []
+one_in_strip true s = refl
+one_in_strip false s = refl
+
 pub share_more : (ss : List Slot) (n : ℕ) (e : Slot) (first before after : Strip) → n < length ss → HasShare (take n ss) first before → Gains (get_or ss n e) before after → HasShare (take (n + 1) ss) first after
 share_more ss n e first before after below had gains =
     let s = get_or ss n e in
     let b = first.band in
-    let has = subst (λ (c : Block). HasSlots (before.slots.items ++ cond (meets c s) (s ∷ []) []) before after) had.band gains in
-    let more = ap (λ (xs : List Slot). xs ++ cond (meets b s) (s ∷ []) []) had.slots ∙ sym (filter_more (meets b) ss n e below) in
-    subst (λ (xs : List Slot). HasSlots xs first after) more
-    (slots_then (filter (meets b) (take n ss)) (before.slots.items ++ cond (meets b s) (s ∷ []) []) first before after had has)
+    let met = filter (meets b) (take n ss) in
+    let has = subst (λ (c : Block). HasSlots (before.slots.items ++ cond (meets c s) (in_strip s ∷ []) []) before after) had.band gains in
+    let more =
+    ap (λ (xs : List StripSlot). xs ++ cond (meets b s) (in_strip s ∷ []) []) had.slots
+    ∙ ap (λ (xs : List StripSlot). map in_strip met ++ xs) (sym (one_in_strip (meets b s) s))
+    ∙ sym (map-append in_strip met (cond (meets b s) (s ∷ []) []))
+    ∙ ap (map in_strip) (sym (filter_more (meets b) ss n e below)) in
+    subst (λ (xs : List StripSlot). HasSlots xs first after) more
+    (slots_then (map in_strip met) (before.slots.items ++ cond (meets b s) (in_strip s ∷ []) []) first before after had has)
 
 pub shared_more : (ss : List Slot) (n : ℕ) (e : Slot) (first before after : List Strip) → n < length ss → length before ≡ length first → AreShared (take n ss) first before → EachGains (get_or ss n e) before after → AreShared (take (n + 1) ss) first after
 shared_more ss n e first before after below long so_far gains i d in_list =
     share_more ss n e (get_or first i d) (get_or before i d) (get_or after i d) below (so_far i d in_list) (gains i d (omega (arith, in_list, long)))
 
-pub slots_few : (b : Block) (n : ℕ) (ss xs : List Slot) → n < length ss → length ss ≤ 16384 → xs ≡ filter (meets b) (take n ss) → length xs < 16384
+pub slots_few : (b : Block) (n : ℕ) (ss : List Slot) (xs : List StripSlot) → n < length ss → length ss ≤ 16384 → xs ≡ map in_strip (filter (meets b) (take n ss)) → length xs < 16384
 slots_few b n ss xs below few is =
-    omega (arith, ap length is, length-filter (meets b) (take n ss), count_by-le-length (meets b) (take n ss), length-take-le n ss (omega arith))
+    omega (arith, ap length is, length-map (filter (meets b) (take n ss)) in_strip, length-filter (meets b) (take n ss), count_by-le-length (meets b) (take n ss), length-take-le n ss (omega arith))
 
 -- ---- what the slots of a strip make of marks
 -- the row of the picture is one of the sixteen from the first of a block on
@@ -171,16 +183,33 @@ share_over lens ps b px py ready column row at (s ∷ ss) all m =
     (λ n. share_over lens ps b px py ready column row at ss (All-tail (IsSlotOf ps) s ss all) n)
     (λ misses. slot_unmet lens ps s b px py m ready (All-head (IsSlotOf ps) s ss all) column row at misses)
 
+-- the slots of a strip make the same of marks as those that it was given
+same_in_strip : (lens : Lens) (ps : List Piece) (ss : List Slot) (px py : ℕ) (m : Mark) → strip_slots_over lens ps (map in_strip ss) px py m ≡ slots_over lens ps ss px py m
+same_in_strip lens ps [] px py m = refl
+same_in_strip lens ps (s ∷ ss) px py m = same_in_strip lens ps ss px py (slot_over lens ps s px py m)
+
+slot_in_strip : (ps : List Piece) (s : Slot) → IsSlotOf ps s → IsStripSlotOf ps (in_strip s)
+slot_in_strip ps s is p at = let slot = is p at in record {
+  least = slot.least;
+  start = ap (λ (n : ℕ). min 255 (n / 16)) slot.left;
+  end = ap (λ (n : ℕ). min 255 (div_ceil n 16)) slot.right;
+}
+
+slots_in_strip : (ps : List Piece) (ss : List Slot) → All (IsSlotOf ps) ss → All (IsStripSlotOf ps) (map in_strip ss)
+slots_in_strip ps ss all = All-map (IsStripSlotOf ps) in_strip ss (λ i d below. slot_in_strip ps (get_or ss i d) (all i d below))
+
 pub share_for : (lens : Lens) (ps : List Piece) (ss : List Slot) (before after : Strip) → All (IsPieceOf lens) ps → AreSlotsOf lens ps ss → IsStripOf lens before → HasShare ss before after → HasSlotsFor lens ps after
 share_for lens ps ss before after ready are strip has = record {
-  rows = subst (λ (ts : List Slot). All (IsSlotOf ps) ts) (sym has.slots) (All-filter (meets before.band) (IsSlotOf ps) ss are.rows);
+  rows = subst (λ (ts : List StripSlot). All (IsStripSlotOf ps) ts) (sym has.slots)
+      (slots_in_strip ps (filter (meets before.band) ss) (All-filter (meets before.band) (IsSlotOf ps) ss are.rows));
   over = λ px r m column row.
       let b = before.band in
       let py = after.band.first + r in
       let first : after.band.first ≡ b.first = ap (λ (c : Block). c.first) has.band in
       let rows : after.band.rows ≡ b.rows = ap (λ (c : Block). c.rows) has.band in
       let at : IsRowOf b py = record { from = omega (arith, first); to = omega (arith, first, rows, row, strip.most) } in
-      ap (λ (ts : List Slot). slots_over lens ps ts px py m) has.slots
+      ap (λ (ts : List StripSlot). strip_slots_over lens ps ts px py m) has.slots
+      ∙ same_in_strip lens ps (filter (meets b) ss) px py m
       ∙ share_over lens ps b px py ready column (omega (arith, first, rows, row, strip.band.rows)) at ss are.rows m
       ∙ are.over px py m;
 }
@@ -205,7 +234,7 @@ shared_strips lens ss before after strips long shared i d below =
     shared_strip lens ss (get_or before i d) (get_or after i d) (strips i d in_list) (shared i d in_list)
 
 -- what holds of the tiles from there on holds of them from before
-pub shared_before : (P : Tile → Tile → Type 0) (ss : List Slot) (a b c : Strip) → HasSlots ss a b → StripRelates P b c → StripRelates P a c
+pub shared_before : (P : Tile → Tile → Type 0) (ss : List StripSlot) (a b c : Strip) → HasSlots ss a b → StripRelates P b c → StripRelates P a c
 shared_before P ss a b c has h = record {
   band = h.band ∙ has.band;
   count = h.count ∙ ap (λ (ts : List Tile). length ts) has.tiles;
@@ -214,16 +243,16 @@ shared_before P ss a b c has h = record {
 
 pub shared_relate : (P : Tile → Tile → Type 0) (ss : List Slot) (before shared after : List Strip) → length shared ≡ length before → AreShared ss before shared → StripsRelate P shared after → StripsRelate P before after
 shared_relate P ss before shared after long are each i d below =
-    shared_before P (filter (meets (get_or before i d).band) ss) (get_or before i d) (get_or shared i d) (get_or after i d) (are i d below) (each i d (omega (arith, below, long)))
+    shared_before P (map in_strip (filter (meets (get_or before i d).band) ss)) (get_or before i d) (get_or shared i d) (get_or after i d) (are i d below) (each i d (omega (arith, below, long)))
 
 -- ---- strips one below the other
 pub picture_lies : (lens : Lens) (strips : List Strip) → AreStrips lens strips → AreStacked strips
 picture_lies lens strips are i d below = ap (λ (b : Block). b.first) (are.bands i d below)
 
 -- the tiles of a band
-pub tile_over : (lens : Lens) (ps : List Piece) (b : Block) (ss : List Slot) (j : ℕ) (t : Tile) → AreSlotsFor lens ps b ss → t.block ≡ tile_block b j → IsBlockOf lens t.block → AreOver lens ps ss t
+pub tile_over : (lens : Lens) (ps : List Piece) (b : Block) (ss : List StripSlot) (j : ℕ) (t : Tile) → AreSlotsFor lens ps b ss → t.block ≡ tile_block b j → IsBlockOf lens t.block → AreOver lens ps ss t
 tile_over lens ps b ss j t slots is within q r at m =
     let first : t.block.first ≡ b.first = ap (λ (c : Block). c.first) is in
     let row : r < b.rows = omega (arith, at.row, ap (λ (c : Block). c.rows) is) in
-    subst (λ (y : ℕ). slots_over lens ps ss (t.block.left + q) (y + r) m ≡ pieces_over lens ps (t.block.left + q) (y + r) m) (sym first)
+    subst (λ (y : ℕ). strip_slots_over lens ps ss (t.block.left + q) (y + r) m ≡ pieces_over lens ps (t.block.left + q) (y + r) m) (sym first)
     (slots.over (t.block.left + q) r m (omega (arith, at.column, within.columns)) row)

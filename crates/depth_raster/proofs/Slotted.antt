@@ -1,5 +1,5 @@
 -- Pieces drawn over tiles in the order of slots.
-use Rattle.std.proofs.Common.{◌≡◌, ℕ, zero, suc, ◌+◌, ◌<◌, ◌≤◌, List, [], ◌∷◌, length, take, get_or, Option, Some, None, refl, ap, sym, ◌∙◌, subst, arith, inl, inr, ◌⊎◌}
+use Rattle.std.proofs.Common.{◌≡◌, ℕ, zero, suc, ◌+◌, ◌<◌, ◌≤◌, List, [], ◌∷◌, length, take, get_or, Option, Some, None, refl, ap, sym, ◌∙◌, subst, arith}
 use Rattle.std.specs.Prelude.{fold, option_and_then}
 use Rattle.std.specs.List.{All, slice_get}
 use Rattle.std.proofs.lemmas.List.{take_more}
@@ -7,19 +7,18 @@ use Rattle.std.proofs.lemmas.List.Elements.{All-get_or}
 use Rattle.std.proofs.lemmas.Option.{get_or_from_slice_get, slice_get_within}
 use Rattle.std.proofs.lemmas.List.Sums.{fold-append}
 use Rattle.fx_math.specs.declared.lenses.Lens.{Lens}
-use Rattle.depth_raster.specs.Blocks.{IsBlockOf}
 use Rattle.depth_raster.specs.Marks.{mark_by, mark_with, mark_over}
 use Rattle.depth_raster.specs.Pieces.{IsPieceOf}
-use Rattle.depth_raster.specs.Slots.{slot_over, slots_over, IsSlotOf}
+use Rattle.depth_raster.specs.Slots.{slot_over}
+use Rattle.depth_raster.specs.StripSlots.{strip_slot_over, strip_slots_over}
 use Rattle.depth_raster.specs.Strips.{AreTilesOf, TilesRelate}
 use Rattle.depth_raster.specs.Tiles.{marks_of, mark_in, face_over, MarksFollow}
 use Rattle.depth_raster.specs.declared.blocks.Block.{Block}
 use Rattle.depth_raster.specs.declared.marks.Mark.{Mark}
 use Rattle.depth_raster.specs.declared.pieces.Piece.{Piece}
 use Rattle.depth_raster.specs.declared.slots.Slot.{Slot}
+use Rattle.depth_raster.specs.declared.strip_slots.StripSlot.{StripSlot}
 use Rattle.depth_raster.specs.declared.tile.Tile.{Tile}
-use Rattle.depth_raster.proofs.Skipped.{mark_missed}
-use Rattle.depth_raster.proofs.Tiling.{tile_within, IsUnmet, unmet_above, unmet_below}
 
 -- ---- what is made of marks
 marked_as : (f g : ℕ → ℕ → Mark → Mark) → ((px py : ℕ) (m : Mark) → f px py m ≡ g px py m) → (a b : Tile) → MarksFollow f a b → MarksFollow g a b
@@ -73,45 +72,36 @@ slot_is lens ps s p is px py m = ap (λ (o : Option Piece). mark_with m (option_
 pub slot_none : (lens : Lens) (ps : List Piece) (s : Slot) → slice_get ps s.index ≡ None → (px py : ℕ) (m : Mark) → m ≡ slot_over lens ps s px py m
 slot_none lens ps s is px py m = ap (λ (o : Option Piece). mark_with m (option_and_then (λ p. mark_by lens px py p.face) o)) (sym is)
 
-pub slot_drawn : (lens : Lens) (ps : List Piece) (s : Slot) (p : Piece) (before after : List Tile) → slice_get ps s.index ≡ Some p → TilesRelate (MarksFollow (face_over lens p.face)) before after → TilesRelate (MarksFollow (slot_over lens ps s)) before after
-slot_drawn lens ps s p before after is drawn j d below = marked_as (face_over lens p.face) (slot_over lens ps s) (slot_is lens ps s p is) (get_or before j d) (get_or after j d) (drawn j d below)
+-- ---- one slot of a strip
+-- a slot of zeros, in place of one that a strip lacks
+abbrev pub no_strip_slot : StripSlot
+no_strip_slot = record { least = 0; index = 0; start = 0; end = 0 }
 
-pub slot_absent : (lens : Lens) (ps : List Piece) (s : Slot) (tiles : List Tile) → slice_get ps s.index ≡ None → TilesRelate (MarksFollow (slot_over lens ps s)) tiles tiles
-slot_absent lens ps s tiles is j d below = marked_as (λ px py m. m) (slot_over lens ps s) (slot_none lens ps s is) (get_or tiles j d) (get_or tiles j d) (marked_not (get_or tiles j d))
+strip_slot_is : (lens : Lens) (ps : List Piece) (s : StripSlot) (p : Piece) → slice_get ps s.index ≡ Some p → (px py : ℕ) (m : Mark) → face_over lens p.face px py m ≡ strip_slot_over lens ps s px py m
+unfolding mark_over
+strip_slot_is lens ps s p is px py m = ap (λ (o : Option Piece). mark_with m (option_and_then (λ p. mark_by lens px py p.face) o)) (sym is)
 
-unmet_slot : (lens : Lens) (ps : List Piece) (s : Slot) (p : Piece) (t : Tile) → slice_get ps s.index ≡ Some p → IsUnmet lens p.face t → MarksFollow (slot_over lens ps s) t t
-unmet_slot lens ps s p t is unmet = record {
-  block = refl;
-  colours = refl;
-  marks = λ q r column row.
-      sym (mark_missed lens (t.block.left + q) (t.block.first + r) p.face (mark_in t.block (marks_of t) q r) (unmet q r column row))
-      ∙ slot_is lens ps s p is (t.block.left + q) (t.block.first + r) (mark_in t.block (marks_of t) q r);
-}
+strip_slot_none : (lens : Lens) (ps : List Piece) (s : StripSlot) → slice_get ps s.index ≡ None → (px py : ℕ) (m : Mark) → m ≡ strip_slot_over lens ps s px py m
+strip_slot_none lens ps s is px py m = ap (λ (o : Option Piece). mark_with m (option_and_then (λ p. mark_by lens px py p.face) o)) (sym is)
 
--- a slot whose rows are not those of the band
-pub slot_outside : (lens : Lens) (ps : List Piece) (s : Slot) (band : Block) (tiles : List Tile) → AreTilesOf band tiles → IsBlockOf lens band → ((p : Piece) → slice_get ps s.index ≡ Some p → IsPieceOf lens p) → IsSlotOf ps s → (s.bottom ≤ band.first) ⊎ (band.first + band.rows ≤ s.top) → TilesRelate (MarksFollow (slot_over lens ps s)) tiles tiles
-slot_outside lens ps s band tiles are within ready is outside j d below = by (slice_get ps s.index) refl outside
-  where
-    t : Tile
-    t = get_or tiles j d
+pub slot_drawn : (lens : Lens) (ps : List Piece) (s : StripSlot) (p : Piece) (before after : List Tile) → slice_get ps s.index ≡ Some p → TilesRelate (MarksFollow (face_over lens p.face)) before after → TilesRelate (MarksFollow (strip_slot_over lens ps s)) before after
+slot_drawn lens ps s p before after is drawn j d below = marked_as (face_over lens p.face) (strip_slot_over lens ps s) (strip_slot_is lens ps s p is) (get_or before j d) (get_or after j d) (drawn j d below)
 
-    by : (o : Option Piece) → slice_get ps s.index ≡ o → (s.bottom ≤ band.first) ⊎ (band.first + band.rows ≤ s.top) → MarksFollow (slot_over lens ps s) t t
-    by None e out = slot_absent lens ps s tiles e j d below
-    by (Some p) e (inl h) = unmet_slot lens ps s p t e (unmet_below lens p band j t (ready p e) (are.blocks j d below) (tile_within lens band tiles j d are within below) (omega (arith, (is p e).bottom, h)))
-    by (Some p) e (inr h) = unmet_slot lens ps s p t e (unmet_above lens p band j t (ready p e) (are.blocks j d below) (tile_within lens band tiles j d are within below) (omega (arith, (is p e).top, h)))
+pub slot_absent : (lens : Lens) (ps : List Piece) (s : StripSlot) (tiles : List Tile) → slice_get ps s.index ≡ None → TilesRelate (MarksFollow (strip_slot_over lens ps s)) tiles tiles
+slot_absent lens ps s tiles is j d below = marked_as (λ px py m. m) (strip_slot_over lens ps s) (strip_slot_none lens ps s is) (get_or tiles j d) (get_or tiles j d) (marked_not (get_or tiles j d))
 
 -- ---- slot after slot
-pub slots_none : (lens : Lens) (ps : List Piece) (tiles : List Tile) → TilesRelate (MarksFollow (slots_over lens ps [])) tiles tiles
+pub slots_none : (lens : Lens) (ps : List Piece) (tiles : List Tile) → TilesRelate (MarksFollow (strip_slots_over lens ps [])) tiles tiles
 slots_none lens ps tiles j d below = marked_not (get_or tiles j d)
 
-slots_snoc : (lens : Lens) (ps : List Piece) (ss : List Slot) (i : ℕ) (e : Slot) → i < length ss → (px py : ℕ) (m : Mark) → slot_over lens ps (get_or ss i e) px py (slots_over lens ps (take i ss) px py m) ≡ slots_over lens ps (take (i + 1) ss) px py m
+slots_snoc : (lens : Lens) (ps : List Piece) (ss : List StripSlot) (i : ℕ) (e : StripSlot) → i < length ss → (px py : ℕ) (m : Mark) → strip_slot_over lens ps (get_or ss i e) px py (strip_slots_over lens ps (take i ss) px py m) ≡ strip_slots_over lens ps (take (i + 1) ss) px py m
 slots_snoc lens ps ss i e below px py m =
-    let step : Mark → Slot → Mark = λ n s. slot_over lens ps s px py n in
+    let step : Mark → StripSlot → Mark = λ n s. strip_slot_over lens ps s px py n in
     sym (ap (fold step m) (take_more ss i e below) ∙ fold-append step m (take i ss) (get_or ss i e ∷ []))
 
-pub slots_more : (lens : Lens) (ps : List Piece) (ss : List Slot) (i : ℕ) (e : Slot) (before now after : List Tile) → i < length ss → length now ≡ length before → TilesRelate (MarksFollow (slots_over lens ps (take i ss))) before now → TilesRelate (MarksFollow (slot_over lens ps (get_or ss i e))) now after → TilesRelate (MarksFollow (slots_over lens ps (take (i + 1) ss))) before after
+pub slots_more : (lens : Lens) (ps : List Piece) (ss : List StripSlot) (i : ℕ) (e : StripSlot) (before now after : List Tile) → i < length ss → length now ≡ length before → TilesRelate (MarksFollow (strip_slots_over lens ps (take i ss))) before now → TilesRelate (MarksFollow (strip_slot_over lens ps (get_or ss i e))) now after → TilesRelate (MarksFollow (strip_slots_over lens ps (take (i + 1) ss))) before after
 slots_more lens ps ss i e before now after below long so_far next j d in_list =
-    let f = slots_over lens ps (take i ss) in
-    let g = slot_over lens ps (get_or ss i e) in
-    marked_as (λ px py m. g px py (f px py m)) (slots_over lens ps (take (i + 1) ss)) (slots_snoc lens ps ss i e below) (get_or before j d) (get_or after j d)
+    let f = strip_slots_over lens ps (take i ss) in
+    let g = strip_slot_over lens ps (get_or ss i e) in
+    marked_as (λ px py m. g px py (f px py m)) (strip_slots_over lens ps (take (i + 1) ss)) (slots_snoc lens ps ss i e below) (get_or before j d) (get_or after j d)
     (marked_then f g (get_or before j d) (get_or now j d) (get_or after j d) (so_far j d in_list) (next j d (omega (arith, in_list, long))))

@@ -17,7 +17,9 @@ use Rattle.depth_raster.specs.Slots.{mark_in_slot, slot_over, slots_over, IsSlot
 use Rattle.depth_raster.specs.declared.blocks.Block.{Block}
 use Rattle.depth_raster.specs.declared.marks.Mark.{Mark}
 use Rattle.depth_raster.specs.declared.pieces.Piece.{Piece}
+use Rattle.depth_raster.specs.StripSlots.{mark_in_strip, IsStripSlotOf}
 use Rattle.depth_raster.specs.declared.slots.Slot.{Slot}
+use Rattle.depth_raster.specs.declared.strip_slots.StripSlot.{StripSlot}
 use Rattle.depth_raster.proofs.MarkOrder.{nearest_permuted}
 use Rattle.depth_raster.proofs.Prepared.{some_of}
 use Rattle.depth_raster.proofs.Slotted.{no_slot}
@@ -180,10 +182,10 @@ parts_taken (p ∷ ps) qs (s ∷ ss) (t ∷ ss') ts ts' long long' front rest =
     (parts_taken ps qs ss ss' ts ts' (omega (arith, long)) (omega (arith, long')) (λ k d e l. front (suc k) d e (omega (arith, l))) rest)
 
 -- ---- slots in order
-pub slots_sorted : (lens : Lens) (ps : List Piece) (b : Block) (before after : List Slot) → IsPermutation before after → AreSlotsFor lens ps b before → AreSlotsFor lens ps b after
+pub slots_sorted : (lens : Lens) (ps : List Piece) (b : Block) (before after : List StripSlot) → IsPermutation before after → AreSlotsFor lens ps b before → AreSlotsFor lens ps b after
 slots_sorted lens ps b before after moved are = record {
-  rows = All-permutation (IsSlotOf ps) before after moved are.rows;
-  over = λ px r m column row. nearest_permuted (mark_in_slot lens ps px (b.first + r)) m before after moved ∙ are.over px r m column row;
+  rows = All-permutation (IsStripSlotOf ps) before after moved are.rows;
+  over = λ px r m column row. nearest_permuted (mark_in_strip lens ps px (b.first + r)) m before after moved ∙ are.over px r m column row;
 }
 
 pub all_sorted : (lens : Lens) (ps : List Piece) (before after : List Slot) → IsPermutation before after → AreSlotsOf lens ps before → AreSlotsOf lens ps after

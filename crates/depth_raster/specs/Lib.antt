@@ -22,6 +22,7 @@ pub mod Pieces
 pub mod Owed
 pub mod Tiles
 pub mod Slots
+pub mod StripSlots
 pub mod Goes
 pub mod Shares
 pub mod Strips

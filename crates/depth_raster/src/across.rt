@@ -3,14 +3,14 @@ ghost use Rattle.std.specs.Prelude.{◌≡◌, ◌/◌, All};
 ghost use Rattle.std.specs.Int.{div_ceil};
 ghost use Rattle.depth_raster.specs.Blocks.{IsBlockOf};
 ghost use Rattle.depth_raster.specs.Pieces.{IsPieceOf, IsLeast};
-ghost use Rattle.depth_raster.specs.Slots.{IsSlotFor, IsSlotOf, slot_over, slots_over};
+ghost use Rattle.depth_raster.specs.StripSlots.{IsStripSlotFor, IsStripSlotOf, strip_slot_over, strip_slots_over};
 ghost use Rattle.depth_raster.specs.Strips.{AreTilesOf, TilesRelate};
 ghost use Rattle.depth_raster.specs.Tiles.{face_over, IsNoNearer, MarksFollow};
 
 use crate::blocks::Block;
 use crate::last::is_after;
 use crate::pieces::Piece;
-use crate::slots::Slot;
+use crate::strip_slots::StripSlot;
 use crate::tile::Tile;
 use crate::tiles::draw_piece;
 use fx_math::Lens;
@@ -24,13 +24,13 @@ pub(crate) fn draw_slots(
     band: &Block,
     lens: &Lens,
     pieces: &[Piece],
-    slots: &[Slot],
+    slots: &[StripSlot],
 )
     requires tiles { AreTilesOf band.now tiles.old }
     requires band { IsBlockOf lens.now band.now }
     requires pieces { All (IsPieceOf lens.now) pieces.now }
-    requires slots { All (IsSlotOf pieces.now) slots.now }
-    ensures { TilesRelate (MarksFollow (slots_over lens.now pieces.now slots.now)) tiles.old tiles.new }
+    requires slots { All (IsStripSlotOf pieces.now) slots.now }
+    ensures { TilesRelate (MarksFollow (strip_slots_over lens.now pieces.now slots.now)) tiles.old tiles.new }
 {
     for slot in slots {
         draw_slot(tiles, band, lens, pieces, slot);
@@ -39,16 +39,13 @@ pub(crate) fn draw_slots(
 
 /// Draws the piece of a slot over the tiles of a band.
 #[inline(always)]
-fn draw_slot(tiles: &mut [Tile], band: &Block, lens: &Lens, pieces: &[Piece], slot: &Slot)
+fn draw_slot(tiles: &mut [Tile], band: &Block, lens: &Lens, pieces: &[Piece], slot: &StripSlot)
     requires tiles { AreTilesOf band.now tiles.old }
     requires band { IsBlockOf lens.now band.now }
     requires pieces { All (IsPieceOf lens.now) pieces.now }
-    requires slot { IsSlotOf pieces.now slot.now }
-    ensures { TilesRelate (MarksFollow (slot_over lens.now pieces.now slot.now)) tiles.old tiles.new }
+    requires slot { IsStripSlotOf pieces.now slot.now }
+    ensures { TilesRelate (MarksFollow (strip_slot_over lens.now pieces.now slot.now)) tiles.old tiles.new }
 {
-    if slot.bottom <= band.first || band.first + band.rows <= slot.top {
-        return;
-    }
     let index = slot.index as usize;
     if index < pieces.len() {
         draw_across(tiles, band, lens, &pieces[index], slot);
@@ -56,15 +53,15 @@ fn draw_slot(tiles: &mut [Tile], band: &Block, lens: &Lens, pieces: &[Piece], sl
 }
 
 /// Draws the piece of a slot over the tiles of a band.
-fn draw_across(tiles: &mut [Tile], band: &Block, lens: &Lens, piece: &Piece, slot: &Slot)
+fn draw_across(tiles: &mut [Tile], band: &Block, lens: &Lens, piece: &Piece, slot: &StripSlot)
     requires tiles { AreTilesOf band.now tiles.old }
     requires band { IsBlockOf lens.now band.now }
     requires ready { IsPieceOf lens.now piece.now }
-    requires slot { IsSlotFor piece.now slot.now }
+    requires slot { IsStripSlotFor piece.now slot.now }
     ensures { TilesRelate (MarksFollow (face_over lens.now piece.now.face)) tiles.old tiles.new }
 {
-    let start = tile_of(slot.left);
-    let end = tiles.len().min(tiles_before(slot.right));
+    let start = slot.start as usize;
+    let end = tiles.len().min(slot.end as usize);
     for t in start..end {
         draw_before(&mut tiles[t], lens, piece, slot.least);
     }
@@ -113,14 +110,14 @@ pub(crate) fn end_tile(piece: &Piece) -> usize
 }
 
 /// The tile of a band in which a column lies.
-fn tile_of(column: u16) -> usize
+pub(crate) fn tile_of(column: u16) -> usize
     ensures { result ≡ column / 16 }
 {
     (column / COLUMNS) as usize
 }
 
 /// How many tiles of a band have columns before this one.
-fn tiles_before(column: u16) -> usize
+pub(crate) fn tiles_before(column: u16) -> usize
     ensures { result ≡ div_ceil column 16 }
 {
     column.div_ceil(COLUMNS) as usize

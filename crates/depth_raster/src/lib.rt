@@ -40,6 +40,7 @@ mod small;
 mod spans;
 mod stamps;
 mod strip;
+mod strip_slots;
 mod strips;
 mod sums;
 mod tile;

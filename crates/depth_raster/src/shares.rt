@@ -2,11 +2,13 @@
 ghost use Rattle.std.specs.Prelude.{◌≡◌, ℕ, ◌/◌, ◌<◌, ◌≤◌, [], ◌∷◌, ◌++◌, length, slice_index_or};
 ghost use Rattle.std.specs.Int.{div_ceil};
 ghost use Rattle.depth_raster.specs.Shares.{meets, HasSlots, Gains, EachGains, HasShare, AreShared, AreStacked};
+ghost use Rattle.depth_raster.specs.StripSlots.{in_strip};
 ghost use Rattle.depth_raster.specs.declared.strip.Strip.{Strip};
 
 use crate::blocks::Block;
 use crate::slots::Slot;
 use crate::strip::Strip;
+use crate::strip_slots::StripSlot;
 use crate::strips::ROWS;
 
 /// Gives each strip of a picture those slots that reach its rows, in their order, in place of those that it has.
@@ -96,7 +98,7 @@ fn strips_before(row: u16) -> usize
 /// Gives a slot to a strip.
 fn take(strip: &mut Strip, slot: Slot)
     requires { length strip.old.slots.items < 16384 }
-    ensures { HasSlots (strip.old.slots.items ++ slot ∷ []) strip.old strip.new }
+    ensures { HasSlots (strip.old.slots.items ++ in_strip slot ∷ []) strip.old strip.new }
 {
-    strip.slots.push_reserved(slot);
+    strip.slots.push_reserved(StripSlot::of(&slot));
 }

@@ -3,9 +3,7 @@ ghost use Rattle.std.specs.Prelude.{◌≡◌, ℕ, ◌≤◌, List, All, length
 ghost use Rattle.std.specs.Vec.{vec_capacity};
 ghost use Rattle.fx_math.specs.declared.lenses.Lens.{Lens};
 ghost use Rattle.depth_raster.specs.Pieces.{IsLeast};
-ghost use Rattle.depth_raster.specs.Shares.{AreSlotsFor};
 ghost use Rattle.depth_raster.specs.Slots.{AreNumbered, AreSlotsOf, AreSlotted};
-ghost use Rattle.depth_raster.specs.declared.blocks.Block.{Block};
 ghost use Rattle.depth_raster.specs.declared.pieces.Piece.{Piece};
 
 use crate::pieces::Piece;
@@ -19,14 +17,14 @@ pub(crate) struct Slot {
     pub(crate) right: u16,
     pub(crate) top: u16,
     pub(crate) bottom: u16,
-    pub(crate) index: u32,
+    pub(crate) index: u16,
 }
 
 impl Slot {
     ghost use Rattle.depth_raster.specs.Slots.{IsTaken};
 
     /// The slot of a place, which has still to take its piece.
-    fn waiting(index: u32) -> Slot
+    fn waiting(index: u16) -> Slot
         ensures { result.index ≡ index }
     {
         Slot {
@@ -65,7 +63,7 @@ pub(crate) fn wait(slots: &mut Vec<Slot>, count: usize)
 {
     slots.truncate(count);
     for index in slots.len()..count {
-        slots.push_reserved(Slot::waiting(index as u32));
+        slots.push_reserved(Slot::waiting(index as u16));
     }
 }
 
@@ -80,7 +78,7 @@ pub(crate) fn complete(slots: &mut Vec<Slot>, pieces: &[Piece])
     ensures slotted { AreSlotted pieces.now slots.new.items }
 {
     for index in slots.len()..pieces.len() {
-        let mut slot = Slot::waiting(index as u32);
+        let mut slot = Slot::waiting(index as u16);
         slot.take(&pieces[index]);
         slots.push_reserved(slot);
     }
@@ -92,8 +90,6 @@ pub(crate) fn sort(slots: &mut Vec<Slot>)
     ensures capacity { vec_capacity slots.new ≡ vec_capacity slots.old }
     ensures count { length slots.new.items ≡ length slots.old.items }
     ensures all { (lens : Lens) (ps : List Piece) → AreSlotsOf lens ps slots.old.items → AreSlotsOf lens ps slots.new.items }
-    ensures same { (lens : Lens) (ps : List Piece) (b : Block) → AreSlotsFor lens ps b slots.old.items
-        → AreSlotsFor lens ps b slots.new.items }
 {
     slots.sort_unstable_by_key(|slot| slot.least);
 }

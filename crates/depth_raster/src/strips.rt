@@ -16,8 +16,8 @@ use crate::painting::{clear, paint, settle_tile};
 use crate::pieces::Piece;
 use crate::shares::{share_out, take_share};
 use crate::shown::show_strip;
-use crate::slots::{Slot, sort};
 use crate::strip::Strip;
+use crate::strip_slots::{StripSlot, sort_strip};
 use crate::tile::Tile;
 use crate::work::others_to_claim;
 use fx_math::Lens;
@@ -140,7 +140,7 @@ fn draw_strip(strip: &mut Strip, go: &Go<'_>)
     requires slots { HasSlotsFor go.now.lens.now go.now.pieces.now strip.old }
     ensures { StripRelates (IsDrawnIn go.now) strip.old strip.new }
 {
-    sort(&mut strip.slots);
+    sort_strip(&mut strip.slots);
     let band = strip.band;
     draw_band(
         &mut strip.tiles,
@@ -162,7 +162,7 @@ fn draw_band(
     lens: &Lens,
     back: [u8; 3],
     pieces: &[Piece],
-    slots: &[Slot],
+    slots: &[StripSlot],
 )
     requires tiles { AreTilesOf band.now tiles.old }
     requires band { IsBlockOf lens.now band.now }
@@ -208,7 +208,7 @@ fn draw_tiles(
     lens: &Lens,
     back: [u8; 3],
     pieces: &[Piece],
-    slots: &[Slot],
+    slots: &[StripSlot],
 )
     requires tiles { AreTilesOf band.now tiles.old }
     requires band { IsBlockOf lens.now band.now }

@@ -1,18 +1,14 @@
-use Rattle.std.proofs.Common.{Some, inl, inr, ap, sym, ◌∙◌}
+use Rattle.std.proofs.Common.{Some, ap, sym, ◌∙◌, arith}
 use Rattle.std.proofs.lemmas.Option.{slice_get-get_or}
 use Rattle.depth_raster.specs.declared.pieces.Piece.{Piece}
-use Rattle.depth_raster.proofs.Slotted.{slot_drawn, slot_outside, ready_piece}
-use Rattle.depth_raster.proofs.across.draw_slot.Goals.{then-slot-band-via-then-slot-band, then-slot-band-via-else-slot-band+then-band-slot}
+use Rattle.depth_raster.proofs.Slotted.{nothing_at, slot_absent, slot_drawn}
 use Rattle.depth_raster.proofs.across.draw_slot.Goals as goal
 
-pub returns-then-slot-band : goal.returns-then-slot-band
-returns-then-slot-band c =
+pub draw_across-requires-clause-slot : goal.draw_across-requires-clause-slot
+draw_across-requires-clause-slot c =
     let a = c.args in
-    let outside = slot_outside a.lens.now a.pieces.now a.slot.now a.band.now a.tiles.now c.requires.tiles c.requires.band (ready_piece a.lens.now a.pieces.now a.slot.now c.requires.pieces) c.requires.slot in
-    elim c.then-slot-band.branch [
-      | then-slot-band-via-then-slot-band w ↦ outside (inl w.if-slot-band.true)
-      | then-slot-band-via-else-slot-band+then-band-slot w ↦ outside (inr w.if-band-slot.true)
-    ]
+    let p = c.index-pieces-index.result in
+    c.requires.slot p (slice_get-get_or a.pieces.now a.slot.now.index p c.if-index-pieces.true ∙ ap (λ (q : Piece). Some q) (sym c.index-pieces-index.is))
 
 pub returns-then-index-pieces : goal.returns-then-index-pieces
 returns-then-index-pieces c =
@@ -20,3 +16,8 @@ returns-then-index-pieces c =
     let p = c.index-pieces-index.result in
     let is = slice_get-get_or a.pieces.now a.slot.now.index p c.if-index-pieces.true ∙ ap (λ (q : Piece). Some q) (sym c.index-pieces-index.is) in
     slot_drawn a.lens.now a.pieces.now a.slot.now p a.tiles.now c.draw_across.new.tiles is c.draw_across.ensures
+
+pub returns-else-index-pieces : goal.returns-else-index-pieces
+returns-else-index-pieces c =
+    let a = c.args in
+    slot_absent a.lens.now a.pieces.now a.slot.now a.tiles.now (nothing_at a.pieces.now a.slot.now.index (omega (arith, c.if-index-pieces.false)))

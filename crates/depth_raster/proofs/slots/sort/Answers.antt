@@ -1,8 +1,5 @@
-use Rattle.depth_raster.proofs.Sorting.{slots_sorted, all_sorted}
+use Rattle.depth_raster.proofs.Sorting.{all_sorted}
 use Rattle.depth_raster.proofs.slots.sort.Goals as goal
-
-pub returns-clause-same : goal.returns-clause-same
-returns-clause-same c = λ lens ps b are. slots_sorted lens ps b c.args.slots.now.items c.sort_unstable_by_key.new.self.items c.sort_unstable_by_key.ensures.permutation are
 
 pub returns-clause-all : goal.returns-clause-all
 returns-clause-all c = λ lens ps are. all_sorted lens ps c.args.slots.now.items c.sort_unstable_by_key.new.self.items c.sort_unstable_by_key.ensures.permutation are

@@ -1,6 +1,8 @@
 use Rattle.depth_raster.specs.Goes.{IsDrawnIn}
 use Rattle.depth_raster.specs.Shares.{meets}
+use Rattle.depth_raster.specs.StripSlots.{in_strip}
 use Rattle.std.specs.List.{filter}
+use Rattle.std.specs.Prelude.{map}
 use Rattle.depth_raster.proofs.Shared.{share_for, shared_strip, shared_before}
 use Rattle.depth_raster.proofs.strips.draw_claimed.Goals as goal
 
@@ -18,4 +20,4 @@ pub returns-clause-drawn : goal.returns-clause-drawn
 returns-clause-drawn c =
     let a = c.args in
     let go = a.go.now in
-    shared_before (IsDrawnIn go) (filter (meets a.strip.now.band) go.slots.now) a.strip.now c.take_share.new.strip c.draw_and_show.new.strip c.take_share.ensures c.draw_and_show.ensures.drawn
+    shared_before (IsDrawnIn go) (map in_strip (filter (meets a.strip.now.band) go.slots.now)) a.strip.now c.take_share.new.strip c.draw_and_show.new.strip c.take_share.ensures c.draw_and_show.ensures.drawn

@@ -3,7 +3,7 @@ use Rattle.std.proofs.lemmas.List.{with_items_is}
 use Rattle.depth_raster.specs.Goes.{IsDrawnIn}
 use Rattle.depth_raster.specs.Shares.{AreSlotsFor}
 use Rattle.depth_raster.specs.Strips.{TilesRelate}
-use Rattle.depth_raster.specs.declared.slots.Slot.{Slot}
+use Rattle.depth_raster.specs.declared.strip_slots.StripSlot.{StripSlot}
 use Rattle.depth_raster.specs.declared.tile.Tile.{Tile}
 use Rattle.depth_raster.proofs.strips.draw_strip.Goals as goal
 
@@ -11,8 +11,8 @@ pub draw_band-requires-clause-slots : goal.draw_band-requires-clause-slots
 draw_band-requires-clause-slots c =
     let go = c.args.go.now in
     let band = c.args.strip.now.band in
-    subst (λ (ss : List Slot). AreSlotsFor go.lens.now go.pieces.now band ss) (sym c.deref.ensures.value)
-    (c.sort.ensures.same go.lens.now go.pieces.now band c.requires.slots)
+    subst (λ (ss : List StripSlot). AreSlotsFor go.lens.now go.pieces.now band ss) (sym c.deref.ensures.value)
+    (c.sort_strip.ensures.same go.lens.now go.pieces.now band c.requires.slots)
 
 pub returns : goal.returns
 returns c =

@@ -1,5 +1,5 @@
 use Rattle.std.proofs.Common.{get_or, arith}
-use Rattle.depth_raster.specs.Slots.{slots_over}
+use Rattle.depth_raster.specs.StripSlots.{strip_slots_over}
 use Rattle.depth_raster.proofs.Drawn.{tile_drawn_over}
 use Rattle.depth_raster.proofs.Shared.{tile_over}
 use Rattle.depth_raster.proofs.Slotted.{marked_tiles_kept}
@@ -9,7 +9,7 @@ use Rattle.depth_raster.proofs.strips.draw_tiles.Goals as goal
 pub paint_tiles-requires-clause-tiles : goal.paint_tiles-requires-clause-tiles
 paint_tiles-requires-clause-tiles c =
     let a = c.args in
-    marked_tiles_kept (slots_over a.lens.now a.pieces.now a.slots.now) a.band.now a.tiles.now c.draw_slots.new.tiles c.requires.tiles c.draw_slots.auto.tiles c.draw_slots.ensures
+    marked_tiles_kept (strip_slots_over a.lens.now a.pieces.now a.slots.now) a.band.now a.tiles.now c.draw_slots.new.tiles c.requires.tiles c.draw_slots.auto.tiles c.draw_slots.ensures
 
 pub returns : goal.returns
 returns c = λ j d below.
