@@ -22,6 +22,7 @@ pub mod LineSigns
 pub mod Listed
 pub mod Looking
 pub mod MadeReady
+pub mod Tiled
 pub mod MarkOrder
 pub mod Mixed
 pub mod Narrowed

@@ -114,8 +114,8 @@ blank_at t q r blank column row =
 
 -- the marks of a tile once those that are owed are written
 pub owed_items : (t : Tile) (o : Owed) (old new : List Mark) → length new ≡ length old → old ≡ t.marks.items → new ≡ owed_marks o t.block
-    → take t.marks.len (new ++ drop (length new) t.marks.items) ≡ owed_marks o t.block
-owed_items t o old new long is drawn = written t.marks.len new t.marks.items (long ∙ ap length is ∙ sym t.marks.ok.0) (sym t.marks.ok.0) ∙ drawn
+    → take (length t.marks.items) (new ++ drop (length new) t.marks.items) ≡ owed_marks o t.block
+owed_items t o old new long is drawn = written (length t.marks.items) new t.marks.items (long ∙ ap length is) refl ∙ drawn
 
 -- a tile in which nothing is owed
 pub paid_topped : (t : Tile) → t.owed ≡ None → All (λ (m : Mark). m.depth ≤ t.top) t.marks.items
@@ -137,9 +137,9 @@ kept_before back m before l =
 -- colours that are painted over those of a tile
 pub painted_over : (lens : Lens) (back : List ℕ) (ps : List Piece) (t : Tile) (old new : List (List ℕ)) (marks : List Mark) → old ≡ t.colours.items → length new ≡ length old → marks ≡ marks_of t
     → Relates t.block (colour_in t.block old) (colour_in t.block new) (painted_within lens back ps t.block marks)
-    → Relates t.block (colour_in t.block t.colours.items) (colour_in t.block (take t.colours.len (new ++ drop (length new) t.colours.items))) (painted_within lens back ps t.block (marks_of t))
+    → Relates t.block (colour_in t.block t.colours.items) (colour_in t.block (take (length t.colours.items) (new ++ drop (length new) t.colours.items))) (painted_within lens back ps t.block (marks_of t))
 painted_over lens back ps t old new marks is long same painted =
-    let whole : take t.colours.len (new ++ drop (length new) t.colours.items) ≡ new = written t.colours.len new t.colours.items (long ∙ ap length is ∙ sym t.colours.ok.0) (sym t.colours.ok.0) in
+    let whole : take (length t.colours.items) (new ++ drop (length new) t.colours.items) ≡ new = written (length t.colours.items) new t.colours.items (long ∙ ap length is) refl in
     subst (λ (cs : List (List ℕ)). Relates t.block (colour_in t.block t.colours.items) (colour_in t.block cs) (painted_within lens back ps t.block (marks_of t))) (sym whole)
     (subst (λ (cs : List (List ℕ)). Relates t.block (colour_in t.block cs) (colour_in t.block new) (painted_within lens back ps t.block (marks_of t))) is
     (subst (λ (ms : List Mark). Relates t.block (colour_in t.block old) (colour_in t.block new) (painted_within lens back ps t.block ms)) same painted))

@@ -1,6 +1,8 @@
 -- A picture in strips of rows, and a strip in tiles.
 use Rattle.std.specs.Prelude.{◌≡◌, ℕ, ◌-◌, ◌*◌, ◌<◌, ◌≤◌, List, length, slice_index_or, min}
 use Rattle.std.specs.Int.{div_ceil}
+use Rattle.std.specs.List.{All}
+use Rattle.std.specs.Vec.{vec_capacity}
 use Rattle.fx_math.specs.declared.lenses.Lens.{Lens}
 use Rattle.depth_raster.specs.Blocks.{IsBlockOf}
 use Rattle.depth_raster.specs.declared.blocks.Block.{Block}
@@ -35,6 +37,17 @@ pub record IsStripOf (lens : Lens) (s : Strip) : Type 0 where
   pub most : s.band.rows ≤ 16
   pub tiles : AreTilesOf s.band s.tiles.items
 
+-- the strip's tiles are those of its band, or are still to be made, and there is room for them
+pub record IsToBe (s : Strip) : Type 0 where
+  pub rows : s.band.rows ≤ 16
+  pub made : 0 < length s.tiles.items → IsTiled s
+  pub room : length s.tiles.items ≡ 0 → div_ceil s.band.width 16 ≤ vec_capacity s.tiles
+
+-- the strip has its tiles
+pub record IsMade (before after : Strip) : Type 0 where
+  pub band : after.band ≡ before.band
+  pub tiles : IsTiled after
+
 -- P holds of each tile of a strip before and after
 pub record StripRelates (P : Tile → Tile → Type 0) (before after : Strip) : Type 0 where
   pub band : after.band ≡ before.band
@@ -51,3 +64,13 @@ pub record AreStrips (lens : Lens) (strips : List Strip) : Type 0 where
   pub count : length strips ≡ div_ceil lens.h 16
   pub bands : (i : ℕ) (d : Strip) → i < length strips → (slice_index_or strips i d).band ≡ band_at lens i
   pub tiles : (i : ℕ) (d : Strip) → i < length strips → AreTilesOf (band_at lens i) (slice_index_or strips i d).tiles.items
+
+-- the same, where tiles may be still to be made
+pub record AreToBe (lens : Lens) (strips : List Strip) : Type 0 where
+  pub count : length strips ≡ div_ceil lens.h 16
+  pub bands : (i : ℕ) (d : Strip) → i < length strips → (slice_index_or strips i d).band ≡ band_at lens i
+  pub each : All IsToBe strips
+
+-- each strip has its tiles
+abbrev pub AreMade : (before after : List Strip) → Type 0
+AreMade before after = (i : ℕ) (d : Strip) → i < length before → IsMade (slice_index_or before i d) (slice_index_or after i d)

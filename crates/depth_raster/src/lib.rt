@@ -20,6 +20,7 @@ mod last;
 pub mod laws;
 mod leasts;
 mod looks;
+mod making;
 mod marks;
 mod means;
 mod opaque;

@@ -8,7 +8,7 @@ pub(crate) const NOTHING: u32 = 2_147_483_648;
 
 /// What is nearest so far at a pixel: its depth less the decal shift, the place of its item, the number of the triangle in
 /// it, and its rank among the faces that are drawn together; 0 where it was drawn before them.
-#[derive(Clone, Copy)]
+#[derive(Clone, Copy, Default)]
 pub(crate) struct Mark {
     pub(crate) depth: u32,
     pub(crate) place: u32,

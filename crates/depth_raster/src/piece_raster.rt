@@ -13,6 +13,7 @@ ghost use Rattle.depth_raster.specs.Pieces.{IsPieceOf};
 ghost use Rattle.depth_raster.specs.Strips.{AreStrips};
 
 use crate::batch::Batch;
+use crate::making::make_in_turn;
 use crate::raster::new_strips;
 use crate::shown::show;
 use crate::strip::Strip;
@@ -71,7 +72,8 @@ impl PieceRaster {
         ensures back { IfOk result (λ raster. raster.back ≡ 0 ∷ 0 ∷ 0 ∷ []) }
         ensures drawn { IfOk result (λ raster. HasDrawn raster [] []) }
     {
-        let strips = new_strips(alloc, lens)?;
+        let mut strips = new_strips(alloc, lens)?;
+        make_in_turn(strips.as_mut_slice(), lens);
         let mut batch = Batch::new(alloc)?;
         batch.begin();
         Ok(PieceRaster {

@@ -1,19 +1,19 @@
 //! The renderer.
-ghost use Rattle.std.specs.Prelude.{◌≡◌, ◌*◌, ◌<◌, [], IfOk};
+ghost use Rattle.std.specs.Prelude.{◌≡◌, ◌*◌, ◌<◌, ◌≤◌, [], IfOk};
 ghost use Rattle.std.specs.Int.{div_ceil};
 ghost use Rattle.ppm_out.specs.Pixmap.{Shows};
 ghost use Rattle.tri_cover.specs.Picture.{picture};
 ghost use Rattle.draw_list.specs.Lists.{instances_in};
-ghost use Rattle.depth_raster.specs.Strips.{band_at, tile_block, AreTilesOf, AreStrips};
+ghost use Rattle.depth_raster.specs.Strips.{band_at, IsToBe, AreToBe};
 
 use crate::across::COLUMNS;
 use crate::batch::Batch;
 use crate::blocks::Block;
+use crate::making::make_strips;
 use crate::piece_buffer::ROOM;
 use crate::piece_raster::{add_ground, end_picture};
 use crate::strip::Strip;
 use crate::strips::ROWS;
-use crate::tile::Tile;
 use draw_list::DrawList;
 use fx_math::Lens;
 use pf_io::NoMemory;
@@ -22,7 +22,8 @@ use std::alloc::Global;
 use std::marker::Model;
 use std::thread::Threads;
 
-/// A renderer with a depth buffer for the pictures of one lens, which it is seen as.
+/// A renderer with a depth buffer for the pictures of one lens, which it is seen as. Its tiles are made for the first picture, in
+/// the threads that draw it: until then their memory was not touched.
 pub struct Raster {
     lens: Lens,
     strips: Vec<Strip>,
@@ -43,13 +44,13 @@ impl Drop for Raster {
 impl Model for Raster {
     ghost use Rattle.std.specs.Prelude.{◌≡◌, []};
     ghost use Rattle.fx_math.specs.declared.lenses.Lens.{Lens};
-    ghost use Rattle.depth_raster.specs.Strips.{AreStrips};
+    ghost use Rattle.depth_raster.specs.Strips.{AreToBe};
 
     ghost Value = { Lens };
 
     ghost view = { λ r. r.lens };
 
-    ghost invariant = { λ r. AreStrips r.lens r.strips.items × (r.batch.pieces ≡ []) };
+    ghost invariant = { λ r. AreToBe r.lens r.strips.items × (r.batch.pieces ≡ []) };
 }
 
 impl Raster {
@@ -106,24 +107,25 @@ fn draw_all<R: Threads + Sync>(
     back: [u8; 3],
     image: &mut Image,
 )
-    requires strips { AreStrips lens.now strips.old.items }
+    requires strips { AreToBe lens.now strips.old.items }
     requires empty { batch.old.pieces ≡ [] }
     requires width { image.old.width ≡ lens.now.w }
     requires height { image.old.height ≡ lens.now.h }
-    ensures strips { AreStrips lens.now strips.new.items }
+    ensures strips { AreToBe lens.now strips.new.items }
     ensures empty { batch.new.pieces ≡ [] }
     ensures width { image.new.width ≡ image.old.width }
     ensures height { image.new.height ≡ image.old.height }
     ensures pixels { Shows image.new (picture lens.now back (instances_in list.now)) }
 {
+    make_strips(rt, &mut batch.processors, strips, lens);
     batch.begin();
     let glazing = add_ground(rt, strips, batch, lens, back, list);
     end_picture(rt, glazing, strips, batch, lens, back, image);
 }
 
-/// The strips of a lens's picture, from the top.
+/// The strips of a lens's picture, from the top, whose tiles are still to be made.
 pub(crate) fn new_strips(alloc: Global, lens: &Lens) -> Result<Vec<Strip>, NoMemory>
-    ensures { IfOk result (λ strips. AreStrips lens.now strips.items) }
+    ensures { IfOk result (λ strips. AreToBe lens.now strips.items) }
 {
     let count = lens.h.div_ceil(ROWS);
     let mut strips = Vec::with_capacity(alloc, count as usize)?;
@@ -147,11 +149,12 @@ fn band_at(lens: &Lens, i: u16) -> Block
     }
 }
 
-/// A strip of nothing, black.
+/// A strip whose tiles are still to be made, with room for them.
 fn new_strip(alloc: Global, band: Block) -> Result<Strip, NoMemory>
-    ensures { IfOk result (λ s. (s.band ≡ band) × AreTilesOf band s.tiles.items) }
+    requires { band.rows ≤ 16 }
+    ensures { IfOk result (λ s. (s.band ≡ band) × IsToBe s) }
 {
-    let tiles = new_tiles(alloc, &band)?;
+    let tiles = Vec::with_capacity(alloc, band.width.div_ceil(COLUMNS) as usize)?;
     let mut slots = Vec::new(alloc);
     slots.reserve(ROOM)?;
     let rows = vec![in alloc; 0; 3 * (band.rows as usize * band.width as usize)]?;
@@ -161,30 +164,4 @@ fn new_strip(alloc: Global, band: Block) -> Result<Strip, NoMemory>
         slots,
         rows,
     })
-}
-
-/// The tiles of a band, from the left.
-fn new_tiles(alloc: Global, band: &Block) -> Result<Vec<Tile>, NoMemory>
-    ensures { IfOk result (λ tiles. AreTilesOf band.now tiles.items) }
-{
-    let count = band.width.div_ceil(COLUMNS);
-    let mut tiles = Vec::with_capacity(alloc, count as usize)?;
-    for j in 0..count {
-        tiles.push(Tile::new(alloc, tile_block(band, j))?)?;
-    }
-    Ok(tiles)
-}
-
-/// The block of the tile of a number in a band.
-fn tile_block(band: &Block, j: u16) -> Block
-    requires { 16 * j < band.now.width }
-    ensures { result ≡ tile_block band.now j }
-{
-    let left = COLUMNS * j;
-    Block {
-        left,
-        first: band.first,
-        width: COLUMNS.min(band.width - left),
-        rows: band.rows,
-    }
 }

@@ -18,7 +18,7 @@ pub returns-in-None : goal.returns-in-None
 returns-in-None c =
     let a = c.args in
     let t = a.tile.now in
-    let same = c.deref.ensures.value ∙ sym (paid_marks t.block t.marks.items t.owed c.in-None.is) in
+    let same = c.deref.ensures.0 ∙ sym (paid_marks t.block t.marks.items t.owed c.in-None.is) in
     record {
       block = refl;
       marks = refl;

@@ -1,4 +1,4 @@
-use Rattle.std.proofs.Common.{◌≡◌, ◌≤◌, List, length, ap, sym, ◌∙◌, subst, arith}
+use Rattle.std.proofs.Common.{◌≡◌, ◌≤◌, List, length, refl, ap, sym, ◌∙◌, subst, arith}
 use Rattle.std.specs.List.{All}
 use Rattle.depth_raster.specs.Following.{Follows}
 use Rattle.depth_raster.specs.Tiles.{mark_in, within, face_over}
@@ -13,7 +13,7 @@ greatest_within-tile-requires-clause-len c =
     let t = c.args.tile.now in
     let new = c.draw_marks.new.marks in
     let long : length new ≡ length t.marks.items = c.draw_marks.auto.marks ∙ ap length c.deref_mut.ensures.value in
-    let value : c.deref.result.now ≡ new = c.deref.ensures.value ∙ written t.marks.len new t.marks.items (long ∙ sym t.marks.ok.0) (sym t.marks.ok.0) in
+    let value : c.deref.result.now ≡ new = c.deref.ensures.0 ∙ written (length t.marks.items) new t.marks.items long refl in
     ap length value ∙ long ∙ t.marks_whole
 
 pub greatest_within-tile-requires-clause-most : goal.greatest_within-tile-requires-clause-most
@@ -24,8 +24,7 @@ greatest_within-tile-requires-clause-most c =
     let new = c.draw_marks.new.marks in
     let old : c.deref_mut.result.now ≡ t.marks.items = c.deref_mut.ensures.value in
     let long : length new ≡ length t.marks.items = c.draw_marks.auto.marks ∙ ap length old in
-    let whole : length new ≡ t.marks.len = long ∙ sym t.marks.ok.0 in
-    let value : c.deref.result.now ≡ new = c.deref.ensures.value ∙ written t.marks.len new t.marks.items whole (sym t.marks.ok.0) in
+    let value : c.deref.result.now ≡ new = c.deref.ensures.0 ∙ written (length t.marks.items) new t.marks.items long refl in
     let drawn : Follows b.width b.rows (mark_in b t.marks.items) (mark_in b new) (within b (face_over c.args.lens.now f)) =
     subst (λ (ms : List Mark). Follows b.width b.rows (mark_in b ms) (mark_in b new) (within b (face_over c.args.lens.now f))) old c.draw_marks.ensures in
     subst (λ (ms : List Mark). All (λ m. m.depth ≤ t.top) ms) (sym value)
