@@ -107,8 +107,8 @@ fn keep(
     Ok(())
 }
 
-/// Reads and keeps the triangle lines with which a text begins, or passes its first line where that is another, and answers what
-/// is left: nothing where memory runs out.
+/// Passes the first line of a text, reads and keeps the triangle lines that follow it, and answers what is left: nothing where memory
+/// runs out.
 fn pass<'a>(
     alloc: Global,
     numbers: &mut Vec<i32>,
@@ -122,21 +122,38 @@ fn pass<'a>(
     ensures kept { (text : List ℕ) → IsEnd text rest.now → All (IsEarly text) all.old.items
         → All (IsEarly text) all.new.items }
 {
-    let behind = lines_in_a_row(numbers, tris, rest);
-    if behind.len() < rest.len() {
-        return match keep(alloc, all, rest.len(), behind.len(), tris) {
-            Ok(()) => behind,
-            Err(NoMemory) => &rest[rest.len()..],
-        };
+    let Some((_, next)) = cut(rest, b'\n') else {
+        return &rest[rest.len()..];
+    };
+    let behind = lines_in_a_row(numbers, tris, next);
+    if behind.len() == next.len() {
+        return behind;
     }
-    match cut(rest, b'\n') {
-        Some((_, behind)) => behind,
-        None => &rest[rest.len()..],
+    match keep(alloc, all, next.len(), behind.len(), tris) {
+        Ok(()) => behind,
+        Err(NoMemory) => &rest[rest.len()..],
     }
 }
 
-/// Reads the triangle lines that begin in a part of a text, and those that follow these, up to some for which there is no
-/// memory. The last ones come first.
+/// What is left of a text behind the triangle lines with which it begins, or from the first line on that begins where no more than
+/// so many bytes are left.
+fn behind_row(text: &[u8], left: usize) -> &[u8]
+    ensures { IsEnd text.now result.now }
+{
+    let mut rest = text;
+    while let Some((line, behind)) = cut(rest, b'\n') {
+        let (word, _) = first_word(line);
+        if rest.len() <= left || word != b"t".as_slice() {
+            return rest;
+        }
+        rest = behind;
+    }
+    rest
+}
+
+/// Reads the triangle lines that follow a line of a part of a text, also those that stand behind the part, up to some for which there
+/// is no memory. The last ones come first. Triangle lines with which the part begins follow a line of a part before it, and are read
+/// with that one.
 fn lines_of_part(alloc: Global, text: &[u8], from: usize, to: usize) -> Vec<Early>
     requires { from ≤ length text.now }
     ensures { All (IsEarly text.now) result.items }
@@ -144,8 +161,8 @@ fn lines_of_part(alloc: Global, text: &[u8], from: usize, to: usize) -> Vec<Earl
     let mut all = Vec::new(alloc);
     let mut numbers = Vec::new(alloc);
     let mut tris = Vec::new(alloc);
-    let mut rest = lines_from(text, from);
     let left = text.len().saturating_sub(to);
+    let mut rest = behind_row(lines_from(text, from), left);
     while rest.len() > left {
         rest = pass(alloc, &mut numbers, &mut tris, &mut all, rest);
     }
@@ -163,7 +180,7 @@ struct Part {
 }
 
 impl Part {
-    /// Reads the triangle lines that begin in the part.
+    /// Reads the triangle lines that follow a line of the part.
     fn read(&mut self, alloc: Global, text: &[u8])
         requires { self.old.from ≤ length text.now }
         ensures { All (IsEarly text.now) self.new.lines.items }
