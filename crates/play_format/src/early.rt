@@ -1,7 +1,6 @@
 //! Triangle lines that are read before their turn, in threads beside each other.
 ghost use Rattle.std.specs.Prelude.{◌≡◌, ◌<◌, ◌≤◌, IsTrue, length, List, ℕ};
 ghost use Rattle.std.specs.List.{All};
-ghost use Rattle.std.specs.Thread.{IsSync};
 ghost use Rattle.play_format.specs.Early.{IsTriangleLine, AreLines, AreEarly, IsEarly, IsEnd};
 
 use crate::commands::Command;
@@ -11,14 +10,18 @@ use crate::reading::read_numbers;
 use crate::words::{cut, first_word};
 use pf_io::NoMemory;
 use pf_model::Tri;
+use self_scheduling::for_each;
 use std::alloc::Global;
-use std::thread::{Threads, available_parallelism, join};
+use std::thread::{Threads, available_parallelism};
 
-/// The fewest bytes that are worth a thread: they are read in some times the time that it takes to make one.
-const PART_LEN: usize = 65_536;
+/// The fewest bytes that are worth a processor: they are read in some times the time that it takes to make a thread.
+const LEN_EACH: usize = 65_536;
 
-/// In how many parts a text is divided at most.
-const MOST_PARTS: usize = 64;
+/// The processors that read a text at most.
+const MOST_PROCESSORS: usize = 64;
+
+/// The parts of a text for each processor.
+const PARTS_EACH: usize = 8;
 
 /// The most triangles of a geode, and so of a list of lines that is worth keeping.
 const MOST_TRIANGLES: usize = 4_096;
@@ -104,8 +107,8 @@ fn keep(
     Ok(())
 }
 
-/// Reads and keeps the triangle lines with which a text begins, or passes its first line where that is another, and answers what
-/// is left: nothing where memory runs out.
+/// Passes the first line of a text, reads and keeps the triangle lines that follow it, and answers what is left: nothing where memory
+/// runs out.
 fn pass<'a>(
     alloc: Global,
     numbers: &mut Vec<i32>,
@@ -119,21 +122,38 @@ fn pass<'a>(
     ensures kept { (text : List ℕ) → IsEnd text rest.now → All (IsEarly text) all.old.items
         → All (IsEarly text) all.new.items }
 {
-    let behind = lines_in_a_row(numbers, tris, rest);
-    if behind.len() < rest.len() {
-        return match keep(alloc, all, rest.len(), behind.len(), tris) {
-            Ok(()) => behind,
-            Err(NoMemory) => &rest[rest.len()..],
-        };
+    let Some((_, next)) = cut(rest, b'\n') else {
+        return &rest[rest.len()..];
+    };
+    let behind = lines_in_a_row(numbers, tris, next);
+    if behind.len() == next.len() {
+        return behind;
     }
-    match cut(rest, b'\n') {
-        Some((_, behind)) => behind,
-        None => &rest[rest.len()..],
+    match keep(alloc, all, next.len(), behind.len(), tris) {
+        Ok(()) => behind,
+        Err(NoMemory) => &rest[rest.len()..],
     }
 }
 
-/// Reads the triangle lines that begin in a part of a text, and those that follow these, up to some for which there is no
-/// memory. The last ones come first.
+/// What is left of a text behind the triangle lines with which it begins, or from the first line on that begins where no more than
+/// so many bytes are left.
+fn behind_row(text: &[u8], left: usize) -> &[u8]
+    ensures { IsEnd text.now result.now }
+{
+    let mut rest = text;
+    while let Some((line, behind)) = cut(rest, b'\n') {
+        let (word, _) = first_word(line);
+        if rest.len() <= left || word != b"t".as_slice() {
+            return rest;
+        }
+        rest = behind;
+    }
+    rest
+}
+
+/// Reads the triangle lines that follow a line of a part of a text, also those that stand behind the part, up to some for which there
+/// is no memory. The last ones come first. Triangle lines with which the part begins follow a line of a part before it, and are read
+/// with that one.
 fn lines_of_part(alloc: Global, text: &[u8], from: usize, to: usize) -> Vec<Early>
     requires { from ≤ length text.now }
     ensures { All (IsEarly text.now) result.items }
@@ -141,8 +161,8 @@ fn lines_of_part(alloc: Global, text: &[u8], from: usize, to: usize) -> Vec<Earl
     let mut all = Vec::new(alloc);
     let mut numbers = Vec::new(alloc);
     let mut tris = Vec::new(alloc);
-    let mut rest = lines_from(text, from);
     let left = text.len().saturating_sub(to);
+    let mut rest = behind_row(lines_from(text, from), left);
     while rest.len() > left {
         rest = pass(alloc, &mut numbers, &mut tris, &mut all, rest);
     }
@@ -150,10 +170,31 @@ fn lines_of_part(alloc: Global, text: &[u8], from: usize, to: usize) -> Vec<Earl
     all
 }
 
-/// In how many parts the lines of a text are read beside each other. Processors are counted only where the text is long
-/// enough, since the system's files are read for that.
-fn parts_of<R: Threads>(rt: &R, len: usize) -> usize {
-    let most = (len / PART_LEN).min(MOST_PARTS);
+/// A part of a text, by the places from which and up to which its lines begin, and those of its triangle lines that were read, the
+/// last ones first.
+#[derive(Drop)]
+struct Part {
+    from: usize,
+    to: usize,
+    lines: Vec<Early>,
+}
+
+impl Part {
+    /// Reads the triangle lines that follow a line of the part.
+    fn read(&mut self, alloc: Global, text: &[u8])
+        requires { self.old.from ≤ length text.now }
+        ensures { All (IsEarly text.now) self.new.lines.items }
+    {
+        self.lines = lines_of_part(alloc, text, self.from, self.to);
+    }
+}
+
+/// How many processors read the lines of a text. They are counted only where the text is long enough, since the system's files are
+/// read for that.
+fn processors_for<R: Threads>(rt: &R, len: usize) -> usize
+    ensures { result ≤ 64 }
+{
+    let most = (len / LEN_EACH).min(MOST_PROCESSORS);
     if most < 2 {
         return 1;
     }
@@ -163,49 +204,64 @@ fn parts_of<R: Threads>(rt: &R, len: usize) -> usize {
     }
 }
 
-/// The triangle lines of a text from a place on, the last ones first, in one part more than `others`, each of which but the last
-/// is read in a thread of its own. The caller makes all threads: two that make threads at the same time are often put on one
-/// processor.
-#[cycle(parts)]
-fn parts_from<R: Threads + Sync>(
-    rt: &R,
-    alloc: Global,
-    text: &[u8],
-    from: usize,
-    size: usize,
-    others: usize,
-) -> Vec<Early>
-    requires { from ≤ length text.now }
-    ensures { All (IsEarly text.now) result.items }
+/// So many parts of a text of a length, one behind the other, still to be read; fewer where there is no memory.
+fn parts_of_text(alloc: Global, len: usize, count: usize) -> Vec<Part>
+    requires { 0 < count }
+    ensures { All (λ part. part.from ≤ len) result.items }
 {
-    if others == 0 {
-        return lines_of_part(alloc, text, from, text.len());
+    let size = len.div_ceil(count);
+    let mut parts = Vec::new(alloc);
+    let mut from = 0;
+    while from < len {
+        let to = from.saturating_add(size).min(len);
+        let part = Part {
+            from,
+            to,
+            lines: Vec::new(alloc),
+        };
+        if parts.push(part).is_err() {
+            return parts;
+        }
+        from = to;
     }
-    let to = from.saturating_add(size).min(text.len());
-    let later = others - 1;
-    let (mut first, mut rest) = join(
-        rt,
-        || -> Vec<Early>
-            requires { from ≤ length text.now }
-            ensures { All (IsEarly text.entry.now) result.items }
-        { lines_of_part(alloc, text, from, to) },
-        || -> Vec<Early>
-            requires { IsSync R.row × (to ≤ length text.now) }
-            ensures { All (IsEarly text.entry.now) result.items }
-        { parts_from(rt, alloc, text, to, size, later) },
-    );
-    let _ = rest.append(&mut first);
-    rest
+    parts
 }
 
-/// The triangle lines of a text, the last ones first, read in a thread for each processor. There are none where the text is
-/// short, or where there is one processor alone, and fewer where memory runs out.
+/// The lines of parts, those of the last part first; without those of a part for which there is no memory.
+fn joined(alloc: Global, parts: Vec<Part>) -> Vec<Early>
+    ensures { (text : List ℕ) → All (λ part. All (IsEarly text) part.lines.items) parts.items
+        → All (IsEarly text) result.items }
+{
+    let mut parts = parts;
+    let mut all = Vec::new(alloc);
+    while let Some(mut part) = parts.pop() {
+        let _ = all.append(&mut part.lines);
+    }
+    all
+}
+
+/// The triangle lines of a text, the last ones first, read by several processors, which claim parts of it one after the other. So
+/// a thread that begins late keeps the others from no more than the part that it claims. There are none where the text is short, or
+/// where there is one processor alone, and fewer where memory runs out.
 pub fn early_lines<R: Threads + Sync>(rt: &R, alloc: Global, text: &[u8]) -> Vec<Early>
     ensures { All (IsEarly text.now) result.items }
 {
-    let parts = parts_of(rt, text.len());
-    if parts < 2 {
+    let processors = processors_for(rt, text.len());
+    if processors < 2 {
         return Vec::new(alloc);
     }
-    parts_from(rt, alloc, text, 0, text.len().div_ceil(parts), parts - 1)
+    let parts = parts_of_text(alloc, text.len(), PARTS_EACH * processors);
+    // One thread more than other processors, since one may begin late.
+    let others = processors as u8;
+    let read = for_each(
+        rt,
+        alloc,
+        parts,
+        others,
+        &|_i: usize, part: &mut Part|
+            requires { part.now.from ≤ length text.now }
+            ensures { All (IsEarly text.entry.now) part.exit.now.lines.items }
+        { part.read(alloc, text) },
+    );
+    joined(alloc, read)
 }
