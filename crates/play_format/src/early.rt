@@ -183,7 +183,9 @@ impl Part {
     /// Reads the triangle lines that follow a line of the part.
     fn read(&mut self, alloc: Global, text: &[u8])
         requires { self.old.from ≤ length text.now }
-        ensures { All (IsEarly text.now) self.new.lines.items }
+        ensures from { self.new.from ≡ self.old.from }
+        ensures to { self.new.to ≡ self.old.to }
+        ensures lines { All (IsEarly text.now) self.new.lines.items }
     {
         self.lines = lines_of_part(alloc, text, self.from, self.to);
     }
