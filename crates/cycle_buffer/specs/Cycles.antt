@@ -86,8 +86,8 @@ abbrev pub AreBetween : CyclesState → Type 0
 AreBetween c = (s : ℕ) → HasBetween c.copies c.most (cycle_at c s)
 
 -- What the type of a cycle keeps: each free copy is as long as what was written, the free ones are among the copies,
--- and there is room for all of them.
+-- and there is room for all of them and for no more.
 pub record IsCycle (written : List Tri) (free : List (List Tri)) (copies room : ℕ) : Type 0 where
   pub long : All (λ a. length a ≡ length written) free
   pub among : length free ≤ copies
-  pub roomy : copies ≤ room
+  pub roomy : room ≡ copies

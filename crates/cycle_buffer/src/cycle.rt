@@ -8,7 +8,7 @@ use std::alloc::Global;
 use std::marker::Model;
 
 /// A cycle buffer: what was last written, and copies of it. A copy goes out with a cut and comes home; until then it is
-/// not written to.
+/// not written to. It holds room for its copies and for no more.
 #[derive(Debug, Drop)]
 pub struct Cycle {
     written: Geom,
@@ -41,15 +41,16 @@ impl Cycle {
         requires { length tris.now ≤ 4096 }
         ensures { IfOk result (λ c. c ≡ fresh tris.now copies) }
     {
-        let mut cycle = Cycle {
-            written: geom_of(alloc, tris)?,
-            free: Vec::new(alloc),
-            copies: 0,
-        };
+        let written = geom_of(alloc, tris)?;
+        let mut free = Vec::with_capacity(alloc, copies as usize)?;
         for made in 0..copies {
-            cycle.grow()?;
+            free.push_reserved(written.copy()?);
         }
-        Ok(cycle)
+        Ok(Cycle {
+            written,
+            free,
+            copies: u32::from(copies),
+        })
     }
 
     /// Adds one free copy.
@@ -59,8 +60,8 @@ impl Cycle {
     {
         let copies = self.copies.checked_add(1).ok_or(NoMemory)?;
         let array = self.written.copy()?;
-        self.free.reserve(copies as usize - self.free.len())?;
-        self.free.push(array)?;
+        self.free.reserve_exact(copies as usize - self.free.len())?;
+        self.free.push_reserved(array);
         self.copies = copies;
         Ok(())
     }
@@ -95,10 +96,7 @@ impl Cycle {
         requires out { self.old.free < self.old.copies }
         ensures { self.new ≡ came_home self.old }
     {
-        match self.free.push(array) {
-            Ok(()) => {}
-            Err(_) => unreachable!(),
-        }
+        self.free.push_reserved(array);
     }
 
     /// Takes back a copy, where it is as long as the cycle's triangles and a copy is out; else drops it.

@@ -80,7 +80,7 @@ fn cull_channel(
     let Some(view) = views.at(channel) else {
         return NO_STATS;
     };
-    counted::<Brand>(Blank::new(1), copy, time, &view, lens, list)
+    counted::<Brand>(Blank::new(1), copy, time, view, lens, list)
 }
 
 /// Culls all channels over a copy by its boxes, each into its list, and answers the numbers of the frame. It takes no memory.

@@ -71,7 +71,7 @@ fn first_view(views: &Views) -> View
     ensures { result ≡ slice_index_or views.now 0 home_view }
 {
     match views.at(0) {
-        Some(view) => view,
+        Some(view) => *view,
         None => View::home(),
     }
 }

@@ -15,7 +15,7 @@ use update_lists::Updates;
 /// The number of ids.
 const IDS: usize = 65_536;
 
-/// Nodes by their ids, in rising order of these. There is memory for the slots of all ids, and as many are written as the
+/// Nodes by their ids, in rising order of these. There is memory for the slots of all ids and for no more, and as many are written as the
 /// greatest id that was ever named asks.
 #[derive(Debug, Drop)]
 pub(crate) struct NodeTable {
@@ -23,7 +23,7 @@ pub(crate) struct NodeTable {
 }
 
 impl Model for NodeTable {
-    ghost use Rattle.std.specs.Prelude.{◌≤◌};
+    ghost use Rattle.std.specs.Prelude.{◌≡◌};
     ghost use Rattle.std.specs.Vec.{vec_capacity};
     ghost use Rattle.pf_model.specs.Graphs.{Nodes};
     ghost use Rattle.multibuffer.specs.Slots.{nodes_from};
@@ -32,7 +32,7 @@ impl Model for NodeTable {
 
     ghost view = { λ t. nodes_from 0 t.slots.items };
 
-    ghost invariant = { λ t. 65536 ≤ vec_capacity t.slots };
+    ghost invariant = { λ t. vec_capacity t.slots ≡ 65536 };
 }
 
 /// The node in a slot, none past the last that is written.

@@ -7,6 +7,7 @@ use crate::Image;
 use itoa::Buffer;
 use pf_io::NoMemory;
 use std::alloc::Global;
+use std::mem;
 
 /// How many bytes the picture of an image so wide and high has.
 pub fn ppm_len(width: u16, height: u16) -> usize
@@ -40,7 +41,7 @@ pub fn append_ppm(out: &mut Vec<u8>, image: &Image) -> Result<(), NoMemory>
 pub fn append_ppm_reserved(out: &mut Vec<u8>, image: &Image)
     requires { vec_len out.old + ppm_size image.now.width image.now.height ≤ vec_capacity out.old }
     ensures exact { out.new.items ≡ out.old.items ++ ppm_bytes image.now }
-    ensures room { vec_capacity out.old ≤ vec_capacity out.new }
+    ensures room { vec_capacity out.new ≡ vec_capacity out.old }
 
     // The bytes are determined by the colours that the pixels show.
     ensures shown { (colour : ℕ → ℕ → List ℕ) → Shows image.now colour
@@ -54,7 +55,7 @@ pub fn append_ppm_reserved(out: &mut Vec<u8>, image: &Image)
 fn append_bands(out: &mut Vec<u8>, image: &Image)
     requires { vec_len out.old + length image.now.bytes ≤ vec_capacity out.old }
     ensures items { out.new.items ≡ out.old.items ++ image.now.bytes }
-    ensures room { vec_capacity out.old ≤ vec_capacity out.new }
+    ensures room { vec_capacity out.new ≡ vec_capacity out.old }
 {
     for i in 0..image.bands() {
         append_within(out, image.band(i));
@@ -74,7 +75,7 @@ pub(crate) fn header(alloc: Global, width: u16, height: u16) -> Result<Vec<u8>, 
 fn append_header(out: &mut Vec<u8>, width: u16, height: u16)
     requires { vec_len out.old + length (ppm_header width height) ≤ vec_capacity out.old }
     ensures items { out.new.items ≡ out.old.items ++ ppm_header width height }
-    ensures room { vec_capacity out.old ≤ vec_capacity out.new }
+    ensures room { vec_capacity out.new ≡ vec_capacity out.old }
 {
     append_within(out, b"P6\n");
     append_within(out, Buffer::new().format(width).as_bytes());
@@ -87,7 +88,20 @@ fn append_header(out: &mut Vec<u8>, width: u16, height: u16)
 fn append_within(out: &mut Vec<u8>, bytes: &[u8])
     requires { vec_len out.old + length bytes.now ≤ vec_capacity out.old }
     ensures items { out.new.items ≡ out.old.items ++ bytes.now }
-    ensures room { vec_capacity out.old ≤ vec_capacity out.new }
+    ensures room { vec_capacity out.new ≡ vec_capacity out.old }
 {
-    out.extend_from_slice(bytes).unwrap();
+    let none = Vec::new(*out.allocator());
+    *out = with_bytes(mem::replace(out, none), bytes);
+}
+
+// With these bytes appended, for which there is room. The vector is owned, so that its place and length stay in registers.
+fn with_bytes(mut out: Vec<u8>, bytes: &[u8]) -> Vec<u8>
+    requires { vec_len out + length bytes.now ≤ vec_capacity out }
+    ensures items { result.items ≡ out.items ++ bytes.now }
+    ensures room { vec_capacity result ≡ vec_capacity out }
+{
+    for byte in bytes {
+        out.push_reserved(*byte);
+    }
+    out
 }

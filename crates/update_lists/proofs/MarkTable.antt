@@ -18,7 +18,7 @@ unfolding IsDistinct
 once_none = tt
 
 -- no mark at all
-pub marks_none : (table : List Bool) (table_room room : ℕ) → length table ≤ 65536 → 65536 ≤ table_room → ((id : ℕ) → id < 65536 → get_or table id false ≡ false) → 65536 ≤ room → AreMarks table table_room [] room
+pub marks_none : (table : List Bool) (table_room room : ℕ) → length table ≤ 65536 → table_room ≡ 65536 → ((id : ℕ) → id < 65536 → get_or table id false ≡ false) → room ≡ 65536 → AreMarks table table_room [] room
 marks_none table table_room room few reserved none roomy = record {
   few = few;
   reserved = reserved;
@@ -29,17 +29,7 @@ marks_none table table_room room few reserved none roomy = record {
 }
 
 pub marks_new : AreMarks [] 65536 [] 65536
-marks_new = marks_none [] 65536 65536 (omega arith) (omega arith) (λ id l. refl) (omega arith)
-
-pub marks_roomier : (table : List Bool) (table_room : ℕ) (ids : List ℕ) (room more : ℕ) → room ≤ more → AreMarks table table_room ids room → AreMarks table table_room ids more
-marks_roomier table table_room ids room more l marks = record {
-  few = marks.few;
-  reserved = marks.reserved;
-  agree = marks.agree;
-  narrow = marks.narrow;
-  once = marks.once;
-  roomy = omega (arith, l, marks.roomy);
-}
+marks_new = marks_none [] 65536 65536 (omega arith) refl (λ id l. refl) refl
 
 absent : (x : ℕ) (xs : List ℕ) → among x xs ≡ false → AllByRecursion (λ y. nat_eq x y ≡ false) xs
 absent x [] h = tt
@@ -51,10 +41,10 @@ absent x (y ∷ ys) h = by (nat_eq x y) refl (λ k. absent x ys k) h
 
 -- a table that is written up to a place keeps the same marks
 pub marks_longer : (table longer : List Bool) (place table_room longer_room : ℕ) (ids : List ℕ) (room : ℕ) → longer ≡ table ++ replicate (place + 1 - length table) false → place < 65536 →
-    table_room ≤ longer_room → AreMarks table table_room ids room → AreMarks longer longer_room ids room
+    longer_room ≡ table_room → AreMarks table table_room ids room → AreMarks longer longer_room ids room
 marks_longer table longer place table_room longer_room ids room written within more marks = record {
   few = omega (arith, length_written false table longer place written, within, marks.few);
-  reserved = omega (arith, more, marks.reserved);
+  reserved = more ∙ marks.reserved;
   agree = λ id l. same_read false table longer place written id ∙ marks.agree id l;
   narrow = marks.narrow;
   once = marks.once;

@@ -1,5 +1,6 @@
 //! What a frame hands to the stages: the views, the sizes and the update list.
 ghost use Rattle.std.specs.Prelude.{◌≡◌, length, slice_get, IfOk};
+ghost use Rattle.std.specs.Option.{option_copied};
 
 use crate::updates::Updates;
 use pf_io::NoMemory;
@@ -47,10 +48,10 @@ impl Views {
     }
 
     /// The view of a channel, or none where there is no such channel.
-    pub fn at(&self, channel: usize) -> Option<View>
-        ensures { result ≡ slice_get self.now channel }
+    pub fn at(&self, channel: usize) -> Option<&View>
+        ensures { option_copied result ≡ slice_get self.now channel }
     {
-        self.views.get(channel).copied()
+        self.views.get(channel)
     }
 }
 

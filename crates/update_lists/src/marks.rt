@@ -38,10 +38,7 @@ pub(crate) fn mark(table: &mut Vec<bool>, ids: &mut Vec<u16>, id: u16)
         return;
     }
     table[place] = true;
-    match ids.push(id) {
-        Ok(()) => {}
-        Err(_) => unreachable!(),
-    }
+    ids.push_reserved(id);
 }
 
 /// Sorts the list of marked ids. It takes no memory.

@@ -2,6 +2,7 @@
 ghost use Rattle.std.specs.Prelude.{◌≡◌, ◌≢◌, ℕ, [], ◌≤◌, ◌<◌, ◌+◌, max, true, false, length, map, Some, is_some, IfOk, OnOk, OnErr};
 ghost use Rattle.std.specs.List.{All};
 ghost use Rattle.std.specs.Option.{option_copied, option_map};
+ghost use Rattle.std.specs.Vec.{vec_capacity};
 ghost use Rattle.pf_model.specs.Kinds.{geom_of};
 ghost use Rattle.pf_model.specs.Limits.{IsRising};
 ghost use Rattle.pf_model.specs.Copies.{updates_of};
@@ -63,11 +64,12 @@ fn copied_nodes<V: NodeView>(
     scene: &V,
     alloc: Global,
 ) -> Result<Vec<(u16, Option<Node>)>, NoMemory>
-    ensures { IfOk result (λ v. v.items ≡ bare_updates (V.look scene.now) ids.now) }
+    ensures updates { IfOk result (λ v. v.items ≡ bare_updates (V.look scene.now) ids.now) }
+    ensures room { IfOk result (λ v. vec_capacity v ≡ length ids.now) }
 {
     let mut entries = Vec::with_capacity(alloc, ids.len())?;
     for id in ids {
-        entries.push((*id, copied_node(alloc, scene.node(*id))?))?;
+        entries.push_reserved((*id, copied_node(alloc, scene.node(*id))?));
     }
     Ok(entries)
 }
@@ -186,6 +188,7 @@ fn fill_nodes<V: NodeView, A: Arrays>(
     requires written { All (λ id. IsWritten (A.written arrays.old) (V.look scene.now id)) ids.now }
     requires free { (s : ℕ) → times_in s (geode_serials (V.look scene.now) ids.now) ≤ A.free arrays.old s }
     ensures updates { entries.new.items ≡ updates_of (V.look scene.now) ids.now }
+    ensures room { vec_capacity entries.new ≡ vec_capacity entries.old }
     ensures free { (s : ℕ) → A.free arrays.new s + times_in s (geode_serials (V.look scene.now) ids.now)
         ≡ A.free arrays.old s }
     ensures written { (s : ℕ) → A.written arrays.new s ≡ A.written arrays.old s }

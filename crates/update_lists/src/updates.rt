@@ -1,6 +1,7 @@
 //! Update lists.
 ghost use Rattle.std.specs.Prelude.{◌≡◌, ◌<◌, [], map, length, slice_get, slice_set, Some, IfOk};
 ghost use Rattle.std.specs.Option.{option_map};
+ghost use Rattle.std.specs.Vec.{vec_len, vec_capacity};
 ghost use Rattle.pf_model.specs.Limits.{IsRising};
 
 use pf_io::NoMemory;
@@ -9,7 +10,7 @@ use std::alloc::Global;
 use std::marker::Model;
 use std::mem;
 
-/// Ids in rising order, each with its node or none.
+/// Ids in rising order, each with its node or none. It holds memory for its entries and for no more.
 #[derive(Debug)]
 pub struct Updates {
     entries: Vec<(u16, Option<Node>)>,
@@ -23,7 +24,8 @@ impl Drop for Updates {
 }
 
 impl Model for Updates {
-    ghost use Rattle.std.specs.Prelude.{map};
+    ghost use Rattle.std.specs.Prelude.{◌≡◌, map};
+    ghost use Rattle.std.specs.Vec.{vec_len, vec_capacity};
     ghost use Rattle.pf_model.specs.Copies.{UpdateList};
     ghost use Rattle.pf_model.specs.Limits.{IsRising};
 
@@ -31,7 +33,7 @@ impl Model for Updates {
 
     ghost view = { λ u. u.entries.items };
 
-    ghost invariant = { λ u. IsRising (map (λ e. e.0) u.entries.items) };
+    ghost invariant = { λ u. IsRising (map (λ e. e.0) u.entries.items) × (vec_capacity u.entries ≡ vec_len u.entries) };
 }
 
 impl Updates {
@@ -46,7 +48,8 @@ impl Updates {
 
     /// The list of these entries.
     pub(crate) fn of(entries: Vec<(u16, Option<Node>)>) -> Updates
-        requires { IsRising (map (λ e. e.0) entries.items) }
+        requires rising { IsRising (map (λ e. e.0) entries.items) }
+        requires room { vec_capacity entries ≡ vec_len entries }
         ensures { result ≡ entries.items }
     {
         Updates { entries }
@@ -114,11 +117,12 @@ fn copied_entries(
     alloc: Global,
     entries: &[(u16, Option<Node>)],
 ) -> Result<Vec<(u16, Option<Node>)>, NoMemory>
-    ensures { IfOk result (λ v. v.items ≡ entries.now) }
+    ensures entries { IfOk result (λ v. v.items ≡ entries.now) }
+    ensures room { IfOk result (λ v. vec_capacity v ≡ vec_len v) }
 {
     let mut copied = Vec::with_capacity(alloc, entries.len())?;
     for entry in entries {
-        copied.push((entry.0, copied_node(&entry.1)?))?;
+        copied.push_reserved((entry.0, copied_node(&entry.1)?));
     }
     Ok(copied)
 }

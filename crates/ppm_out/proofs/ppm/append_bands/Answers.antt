@@ -9,7 +9,7 @@ loop-i-init c =
     let none : band_start c.args.image.now.width 0 ≡ 0 = grind arith in
     record {
       items = sym (ap (λ n. out ++ take n c.args.image.now.bytes) none ∙ append-nil out);
-      room = omega arith;
+      room = search;
     }
 
 pub append_within-requires : goal.append_within-requires

@@ -14,6 +14,6 @@ pub returns-clause-marks : goal.returns-clause-marks
 returns-clause-marks c =
     rw c.clear.ensures.items (marks_none c.unmark.new.table.items (vec_capacity c.unmark.new.table) (vec_capacity c.clear.new.self)
     (omega (arith, c.unmark.ensures.len, c.requires.few))
-    (omega (arith, c.unmark.ensures.capacity, c.requires.reserved))
+    (c.unmark.ensures.capacity ∙ c.requires.reserved)
     (λ id l. c.unmark.ensures.marks id (λ out. c.requires.agree id l ∙ sym (ap (among id) c.as_slice.ensures.value) ∙ out))
-    (omega (arith, c.clear.ensures.capacity, c.requires.roomy)))
+    (c.clear.ensures.capacity ∙ c.requires.roomy))

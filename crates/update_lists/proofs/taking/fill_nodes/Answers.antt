@@ -30,5 +30,6 @@ loop-place-preserved g c =
       written = λ s. c.fill_node.ensures.written s ∙ c.loop-place.invariant.written s;
       out = out_more look ids i (g.A.Arrays.out c.args.arrays.now) (g.A.Arrays.out c.loop-place.arrays) (g.A.Arrays.out c.fill_node.new.arrays)
           l c.loop-place.invariant.out gives;
+      capacity = search;
       most = c.fill_node.ensures.most ∙ c.loop-place.invariant.most;
     }

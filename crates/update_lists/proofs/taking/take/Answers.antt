@@ -8,8 +8,8 @@ fill_nodes-requires-clause-free g c =
     times_ready (g.A.Arrays.free c.ready_nodes.new.arrays) (geode_serials (g.V.NodeView.look c.args.scene.now) c.args.ids.now)
     c.requires.arrays.differ c.in_ok-ready_nodes.ensures.ready
 
-pub of-requires : goal.of-requires
-of-requires g c = rw (c.fill_nodes.ensures.updates, updates_ids (g.V.NodeView.look c.args.scene.now) c.args.ids.now) c.requires.rising
+pub of-requires-clause-rising : goal.of-requires-clause-rising
+of-requires-clause-rising g c = rw (c.fill_nodes.ensures.updates, updates_ids (g.V.NodeView.look c.args.scene.now) c.args.ids.now) c.requires.rising
 
 pub returns-clause-taken : goal.returns-clause-taken
 returns-clause-taken g c = λ s.
