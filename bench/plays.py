@@ -344,8 +344,27 @@ def instances(size=1024):
     return lines + ["frame"]
 
 
+def panes(count=131072, glass=1):
+    """One small pane in a picture of 64 x 64, reached by so many ways, at most 131,072; or, with 0, the same as opaque geometry."""
+    lines = header(64, 64, 2) + ["glass 10 0 8 1" if glass else "geode 10 0 1"]
+    lines.append(triangle((-UNIT * 2, UNIT * 16, -UNIT * 2, 250, 200, 40), (UNIT * 2, UNIT * 16, -UNIT * 2, 200, 60, 40),
+                          (0, UNIT * 16, UNIT * 2, 40, 60, 200)))
+    lines += ["group 1", "add 0 1"]
+    below = [10]
+    for layer in range(count.bit_length()):
+        # both groups of a layer are reached by two to the layer ways
+        here = [100 + 2 * layer, 101 + 2 * layer]
+        for node in here:
+            lines.append(f"group {node}")
+            lines += [f"add {node} {child}" for child in below]
+        if count >> layer & 1:
+            lines.append(f"add 1 {here[0]}")
+        below = here
+    return lines + ["frame"]
+
+
 PLAYS = {play.__name__: play for play in (flight, city, town, traffic, signs, fill, edits, empty, parked, merges, children,
-                                          waiting, large, instances)}
+                                          waiting, large, instances, panes)}
 
 
 def main():
