@@ -12,7 +12,7 @@ ghost use Rattle.program_words.specs.declared.words.Words.{Words};
 ghost use Rattle.program_words.specs.Meaning.{meaning_of_words};
 ghost use Rattle.perfly_top.specs.Arguments.{meaning_of_arguments};
 ghost use Rattle.perfly_top.specs.Calls.{IsRefused, IsBarred, IsTold};
-ghost use Rattle.perfly_top.specs.Endings.{status_of, IsBegun, IsDone, IsDoneUntold, IsDue, IsDueMade};
+ghost use Rattle.perfly_top.specs.Endings.{status_of, IsBegun, IsDone, IsDoneUntold, FindsEnd, IsDue, IsDueMade};
 ghost use Rattle.perfly_top.specs.Messages.{message_of};
 ghost use Rattle.perfly_top.specs.Stops.{stop_of_arguments};
 ghost use Rattle.perfly_top.specs.declared.stop.Stop.{Stop};
@@ -74,7 +74,7 @@ pub fn run<
         × IsDone (meaning_of_arguments arguments) (I.left input.old) (I.left input.new)
         log (O.written frames.old) (O.written frames.new) (P.written report.old) (P.written report.new) }
     ensures report_calm { exit_status result ≡ DONE → Calm (P.faults report.old) (P.faults report.new) }
-    ensures frames_flushed { exit_status result ≡ DONE → O.flushed frames.new ≡ true }
+    ensures frames_flushed { (exit_status result ≡ DONE) ⊎ (exit_status result ≡ REPORT_FAULT) → O.flushed frames.new ≡ true }
     ensures report_flushed { exit_status result ≡ DONE → P.flushed report.new ≡ true }
 
     // What was given cannot be played.
@@ -111,6 +111,8 @@ pub fn run<
     ensures part_read { TakesFront (I.left input.old) (I.left input.new) }
     ensures unread { (w : Words) (n : ℕ) → meaning_of_arguments arguments ≡ Some w → w.make ≡ Some n
         → I.left input.new ≡ I.left input.old }
+    ensures ends { FindsEnd (meaning_of_arguments arguments) (I.left input.old) (I.left input.new)
+        (I.ends input.old) (I.ends input.new) (exit_status result) }
     ensures message { exit_status result ≢ DONE → exit_status result ≢ REPORT_FAULT → (why : Stop)
         × (exit_status result ≡ status_of why)
         × IsTold (P.written report.old) (P.written report.new) (P.faults report.old) (P.faults report.new) (message_of why) }
