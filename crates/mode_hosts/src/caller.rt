@@ -1,6 +1,6 @@
 //! What the caller's thread does while a play runs: it polls the application, and the crews that no host has.
 ghost use Rattle.std.specs.Prelude.{◌≡◌};
-ghost use Rattle.pipe_plays.specs.Played.{Blames};
+ghost use Rattle.pipe_plays.specs.Played.{Blames, StaysWhole};
 ghost use Rattle.mode_hosts.specs.declared.modes.Crews.{Crews};
 ghost use Rattle.mode_hosts.specs.Sites.{AppGoes};
 ghost use Rattle.mode_hosts.specs.Seats.{app_site, cull_site, draw_site, dbase_site, probe_site, crew_state};
@@ -30,6 +30,7 @@ fn poll_app<R: Wait, O: Sink, G: Gate>(
     frames: &mut O,
 ) -> Result<Did, StageError>
     ensures goes { AppGoes (app_site app.old) (app_site app.new) (O.written frames.old) (O.written frames.new) }
+    ensures uncut { StaysWhole result (app_site app.old).work.state.fault (app_site app.new).work.state.fault }
     ensures blames { Blames result (O.faults frames.old) (O.faults frames.new) (O.at_fault frames.new) (O.written frames.new) }
 {
     match app.poll(frames, common) {
@@ -51,6 +52,7 @@ fn go_on<R: Wait, O: Sink, G: Gate>(
     noted: u64,
 ) -> Result<(), StageError>
     ensures goes { AppGoes (app_site app.old) (app_site app.new) (O.written frames.old) (O.written frames.new) }
+    ensures uncut { StaysWhole result (app_site app.old).work.state.fault (app_site app.new).work.state.fault }
     ensures blames { Blames result (O.faults frames.old) (O.faults frames.new) (O.at_fault frames.new) (O.written frames.new) }
 {
     for poll in 0..MORE {
@@ -75,6 +77,7 @@ fn more_where_calm<R: Wait, O: Sink, G: Gate>(
     others: Did,
 ) -> Result<(), StageError>
     ensures goes { AppGoes (app_site app.old) (app_site app.new) (O.written frames.old) (O.written frames.new) }
+    ensures uncut { StaysWhole result (app_site app.old).work.state.fault (app_site app.new).work.state.fault }
     ensures blames { Blames result (O.faults frames.old) (O.faults frames.new) (O.at_fault frames.new) (O.written frames.new) }
 {
     if did == Did::Did && others != Did::Did {
@@ -94,6 +97,7 @@ fn round<R: Threads + Wait + Sync + Drop, O: Sink, G: Gate>(
     frames: &mut O,
 ) -> Result<Did, StageError>
     ensures goes { AppGoes (app_site app.old) (app_site app.new) (O.written frames.old) (O.written frames.new) }
+    ensures uncut { StaysWhole result (app_site app.old).work.state.fault (app_site app.new).work.state.fault }
     ensures posts { (crews : Crews R) → ArePosts crews posts.old → ArePosts crews posts.new }
     ensures blames { Blames result (O.faults frames.old) (O.faults frames.new) (O.at_fault frames.new) (O.written frames.new) }
 {
@@ -113,6 +117,7 @@ fn turn<R: Threads + Wait + Sync + Drop, O: Sink, G: Gate>(
     frames: &mut O,
 ) -> Result<bool, StageError>
     ensures goes { AppGoes (app_site app.old) (app_site app.new) (O.written frames.old) (O.written frames.new) }
+    ensures uncut { StaysWhole result (app_site app.old).work.state.fault (app_site app.new).work.state.fault }
     ensures posts { (crews : Crews R) → ArePosts crews posts.old → ArePosts crews posts.new }
     ensures blames { Blames result (O.faults frames.old) (O.faults frames.new) (O.at_fault frames.new) (O.written frames.new) }
 {
@@ -132,6 +137,7 @@ fn run_here<R: Threads + Wait + Sync + Drop, O: Sink, G: Gate>(
     frames: &mut O,
 ) -> Result<(), StageError>
     ensures goes { AppGoes (app_site app.old) (app_site app.new) (O.written frames.old) (O.written frames.new) }
+    ensures uncut { StaysWhole result (app_site app.old).work.state.fault (app_site app.new).work.state.fault }
     ensures posts { (crews : Crews R) → ArePosts crews posts.old → ArePosts crews posts.new }
     ensures blames { Blames result (O.faults frames.old) (O.faults frames.new) (O.at_fault frames.new) (O.written frames.new) }
 {
