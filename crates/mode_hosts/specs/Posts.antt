@@ -1,12 +1,14 @@
 -- Where the crews of a play are.
+use Rattle.std.specs.Prelude.{Bool, not, ◌&&◌, is_some}
+use Rattle.std.specs.Option.{option_map}
 use Rattle.mode_hosts.specs.declared.crew.Crew.{Crew}
 use Rattle.mode_hosts.specs.declared.modes.Crews.{Crews}
 use Rattle.mode_hosts.specs.declared.posts.Post.{Post}
 use Rattle.mode_hosts.specs.declared.posts.Post.TheVariants as post
 use Rattle.mode_hosts.specs.declared.posts.Posts.{Posts}
 use Rattle.mode_hosts.specs.Sites.{CrewGoes}
-use Rattle.mode_hosts.specs.Seats.{crew_state}
-use Rattle.mode_hosts.specs.Crews.{CrewsState}
+use Rattle.mode_hosts.specs.Seats.{probe_site, crew_state}
+use Rattle.mode_hosts.specs.Crews.{CrewsState, has_way}
 use Rattle.mode_hosts.specs.Hosts.{WillCome}
 
 module _ {R : Type 0} where
@@ -19,6 +21,11 @@ module _ {R : Type 0} where
         dbase = crew_state crews.dbase;
         probe = crew_state crews.probe;
       }
+
+  -- whether a crew has no stage; a desk that rests is none
+  abbrev pub has_none : Crew R → Bool
+  has_none crew =
+      not (is_some crew.cull) && (not (is_some crew.draw) && (not (is_some crew.dbase) && not (has_way (option_map probe_site crew.probe))))
 
   -- this crew is with a host's thread, or with the caller, after polls
   abbrev pub IsPost : Crew R → Post R → Type 0

@@ -21,7 +21,7 @@ ghost use Rattle.mode_hosts.specs.Probes.{AreAllTogether, AllKeep};
 ghost use Rattle.mode_hosts.specs.Homes.{all_sites};
 
 use crate::bell::Bell;
-use crate::caller::run_all;
+use crate::caller::{Ended, run_all, seats_of};
 use crate::hosts::Common;
 use crate::leaving::leave;
 use crate::modes::Setup;
@@ -122,8 +122,9 @@ pub fn play_all<
         Ok(ready) => {
             let Ready { opened, common } = ready;
             let Opened { lock, seats } = opened;
-            let ended = run_all(rt, alloc, &common, setup, seats, frames);
-            leave(rt, alloc, &lock, ended.seats, ended.came, frames)
+            let Ended { app, crews, came } = run_all(rt, alloc, &common, setup, seats, frames);
+            let seats = seats_of(app, crews);
+            leave(rt, alloc, &lock, seats, came, frames)
         }
         Err(NoMemory) => Played {
             end: PlayEnd::NoMemory,

@@ -1,9 +1,9 @@
 //! Where the crews of a play are: each with a host, or with the caller.
-ghost use Rattle.std.specs.Prelude.{◌≡◌};
+ghost use Rattle.std.specs.Prelude.{◌≡◌, true};
 ghost use Rattle.mode_hosts.specs.Sites.{CrewGoes};
 ghost use Rattle.mode_hosts.specs.Seats.{crew_state};
-ghost use Rattle.mode_hosts.specs.Crews.{all_of};
-ghost use Rattle.mode_hosts.specs.Posts.{crews_state, IsPost, ArePosts};
+ghost use Rattle.mode_hosts.specs.Crews.{CrewsGo};
+ghost use Rattle.mode_hosts.specs.Posts.{crews_state, has_none, IsPost, ArePosts};
 
 use crate::crew::{Crew, together};
 use crate::hosts::{Common, Host, back, give, new_host};
@@ -38,7 +38,8 @@ fn post_of<
     R: Threads + Wait + Copy + Drop + Send + Sync + 'static,
     G: Gate + Send + Drop + 'static,
 >(rt: &R, alloc: Global, common: &Arc<Common<G>, Global>, crew: Crew<R>) -> Post<R>
-    ensures { IsPost crew result }
+    ensures post { IsPost crew result }
+    ensures none { has_none crew ≡ true → result ≡ Post.Here crew }
 {
     if crew.is_empty() {
         return Post::Here(crew);
@@ -117,9 +118,9 @@ impl<R: Threads + Wait + Sync + Drop> Posts<R> {
         )
     }
 
-    /// All stages, as their hosts hand them back.
-    pub(crate) fn back(self, rt: &R) -> Crew<R>
-        ensures { (crews : Crews R) → ArePosts crews self → CrewGoes (all_of (crews_state crews)) (crew_state result) }
+    /// The crews, as their hosts hand them back.
+    pub(crate) fn back(self, rt: &R) -> Crews<R>
+        ensures { (crews : Crews R) → ArePosts crews self → CrewsGo (crews_state crews) (crews_state result) }
     {
         let Posts {
             caller,
@@ -128,10 +129,12 @@ impl<R: Threads + Wait + Sync + Drop> Posts<R> {
             dbase,
             probe,
         } = self;
-        let cull = cull.back(rt);
-        let draw = draw.back(rt);
-        let dbase = dbase.back(rt);
-        let probe = probe.back(rt);
-        caller.united(cull).united(draw.united(dbase.united(probe)))
+        Crews {
+            caller,
+            cull: cull.back(rt),
+            draw: draw.back(rt),
+            dbase: dbase.back(rt),
+            probe: probe.back(rt),
+        }
     }
 }
