@@ -2,8 +2,10 @@
 
     shapes      triangles, boxes, lathed bodies, ground, and things made of them
     writing     Play: writes a play, and refuses at once what perfly would refuse
-    meshes      reads models: Wavefront OBJ with its materials, and PLY
-    modelling   makes the geodes of a play out of a model
+    meshes      reads models, by the readers of each form: wavefront (OBJ), ply, stl, off, gltf
+    textures    reads textures, and gives the corners of a triangle their colours
+    placing     puts a model in its place: its upright, its size, fewer triangles, smooth normals
+    modelling   makes the geodes of a play out of a model, and moves the eye about it
     reading     reads a play as perfly does, and gives its first mistake a hint
     graph       the scene graph of a play, with the faults of its edits
     sight       what of a graph a view shows

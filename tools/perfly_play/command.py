@@ -20,8 +20,19 @@ def whole_number(low, high=None):
     return whole_number_word
 
 
-def run(main, *errors):
-    """Runs a command; an error of these kinds, or of a file, ends it with a line and the status 1."""
+def number(low, high):
+    """The kind of a word that is a number from low to high."""
+    def number_word(word):
+        value = float(word)
+        if not low <= value <= high:
+            raise argparse.ArgumentTypeError(f"{word} is not from {low} to {high}")
+        return value
+    number_word.__name__ = "number"
+    return number_word
+
+
+def run(main, *errors, status=1):
+    """Runs a command; an error of these kinds, or of a file, ends it with a line and the status."""
     name = os.path.basename(sys.argv[0])
     try:
         main()
@@ -31,7 +42,8 @@ def run(main, *errors):
     except KeyboardInterrupt:
         sys.exit(130)
     except (OSError, *errors) as error:
-        sys.exit(f"{name}: {error}")
+        print(f"{name}: {error}", file=sys.stderr)
+        sys.exit(status)
 
 
 def plural(count, name):

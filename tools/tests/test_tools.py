@@ -92,7 +92,7 @@ class Obj2play(unittest.TestCase):
     def test_turn(self):
         done = run("obj2play", "--frames", 5, "--picture", 64, 48, LANTERN)
         self.assertEqual(done.returncode, 0)
-        self.assertIn(b"left out: textures (1)\n", done.stderr)
+        self.assertIn(b"up is y, as usual; left out: the texture wax.png, which is not there (1)\n", done.stderr)
         play = read_play(done.stdout)
         self.assertEqual((play.head.version, play.triangles), (2, 257))
         self.assertEqual(sum(step.edit.command == "frame" for step in play.application), 5)
@@ -104,6 +104,21 @@ class Obj2play(unittest.TestCase):
             play = read_play(run("obj2play", "--cameras", cameras.name, LANTERN).stdout)
         views = [step.edit.fields for step in play.application if step.edit.command == "view"]
         self.assertEqual(views[1], (40 * 4096, 0, 5 * 4096, 900, -50, 100))
+
+    def test_words(self):
+        """Words as people write them; words out of their ranges are refused."""
+        for words, told in ((("--picture", "64x48", "--up", "-y", "--light", "eye", "--frames", 3), (b"size 64 48\n", b"\nsw 1 2\n")),
+                            (("--coarse", "auto", "--opaque", "--smooth", "--color", 9, 9, 9), (b"perfly 1\n",))):
+            done = run("obj2play", *words, LANTERN)
+            self.assertEqual(done.returncode, 0)
+            for line in told:
+                self.assertIn(line, done.stdout)
+        for words in (("--units", -5), ("--tilt", 95), ("--light", 0, 0, 0), ("--up", "w"), ("--coarse", "fine"), ("--most", 0),
+                      ("--units", "nan"), ("--smooth", "--facets")):
+            with self.subTest(words):
+                done = run("obj2play", *words, LANTERN)
+                self.assertEqual((done.returncode, done.stdout), (2, b""))
+                self.assertIn(b"obj2play: error: argument ", done.stderr)
 
     def test_errors(self):
         done = run("obj2play", "nothing.obj")
