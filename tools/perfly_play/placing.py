@@ -13,7 +13,7 @@ TURNS: dict[str, Callable] = {
     "y": lambda x, y, z: (x, -z, y), "-y": lambda x, y, z: (x, z, -y),
     "z": lambda x, y, z: (x, y, z), "-z": lambda x, y, z: (x, -y, -z),
 }
-USUAL = {".obj": "y", ".gltf": "y", ".glb": "y", ".ply": "z", ".stl": "z", ".off": "z"}  # by the file's ending
+USUAL = {".obj": "y", ".gltf": "y", ".glb": "y", ".ply": "z", ".stl": "z", ".off": "y"}  # by the file's ending
 FOOT = 0.02  # of the model's height: what is so near to its lowest place is what it stands on
 STANDS = {"y": 0.15, "z": 0.15}  # how well it must stand with an axis up that is not the usual one ..
 RARELY = 0.28  # .. and with one that rarely points up
@@ -107,16 +107,17 @@ def coarsened(facets: list[Facet], cells: int) -> list[Facet]:
             for facet, of_facet in _kept(facets, cell_of)]
 
 
-def finest(facets: list[Facet], most: int) -> int:
-    """The number of cells of the finest grid, up to 8,192, with which no more than so many triangles are left; found by
-    halving, as if a finer grid always left more."""
-    low, high = 2, 8192
+def finest(facets: list[Facet], most: int, limit: int = 8192) -> int:
+    """The number of cells of the finest grid, up to a limit, with which no more than so many triangles are left; found by
+    doubling and then halving, as if a finer grid always left more."""
+    def fits(cells):
+        return len(_kept(facets, _cells(facets, cells))) <= most
+    low, high = 2, 64
+    while high < limit and fits(high):
+        low, high = high, 2 * high
     while high - low > 1:
         middle = (low + high) // 2
-        if len(_kept(facets, _cells(facets, middle))) <= most:
-            low = middle
-        else:
-            high = middle
+        low, high = (middle, high) if fits(middle) else (low, middle)
     return low
 
 
