@@ -12,7 +12,6 @@
     playing     plays a play without drawing it
     fences      which merges of a play have more than one place
     seeing      which triangle is seen at each pixel, how far away, and where
-    program     runs perfly
     pictures    PPM in; side by side, scaled down; PNG out
     limits      the limits of a play
 

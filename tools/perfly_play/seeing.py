@@ -8,10 +8,11 @@ import functools
 from collections.abc import Iterator
 from typing import NamedTuple
 
-from . import forms, program
+from . import forms
 from .fences import free_merges
 from .playing import Playing
 from .reading import Mistake, Reading, read_play
+from .rendering import Run
 from .sight import Instance, Sight, through
 
 
@@ -79,7 +80,7 @@ def triangle_lines(play: Reading) -> dict[int, Line]:
 
 def frames(text: bytes, wanted: int | None = None, channel: int = 0, through_glass: bool = False) -> Iterator[Frame]:
     """What is seen in each frame of a play, or in the wanted one (from 1). Raises the Mistake of a text that is no play,
-    ProgramError where perfly cannot draw it, and SeeingError where a merge has no place of its own."""
+    RenderError where perfly cannot draw it, and SeeingError where a merge has no place of its own."""
     play = read_play(text)
     if channel >= play.head.channels:
         raise SeeingError(f"there is no channel {channel}; the play has {play.head.channels}, counted from 0")
@@ -89,7 +90,7 @@ def frames(text: bytes, wanted: int | None = None, channel: int = 0, through_gla
     count = sum(step.edit.command == "frame" for step in play.application)
     if wanted and wanted > count:
         raise SeeingError(f"there is no frame {wanted}; the play has {count}")
-    images = program.draw(numbered(text, through_glass))[channel::play.head.channels]
+    images = list(Run(numbered(text, through_glass)))
     lines = triangle_lines(play)
     playing = Playing(play)
     sight = Sight(playing.graph, play.head)
@@ -97,9 +98,14 @@ def frames(text: bytes, wanted: int | None = None, channel: int = 0, through_gla
         if wanted in (None, number):
             if len(images) < number:
                 raise SeeingError(f"perfly drew {len(images)} frames of {count}")
-            image = images[number - 1]
-            seen = [r << 16 | g << 8 | b for row in image.rows for r, g, b in zip(row[::3], row[1::3], row[2::3])]
-            yield Frame(number, image.width, image.height, seen, Eye(sight, playing.views[channel], lines))
+            yield Frame(number, play.head.width, play.head.height, _numbers(images[number - 1], play.head.width, channel),
+                        Eye(sight, playing.views[channel], lines))
+
+
+def _numbers(image, width, channel):
+    """The numbers that the colours of a channel's pixels are; the channels stand side by side."""
+    rows = (row[3 * width * channel:3 * width * (channel + 1)] for row in image.rows)
+    return [r << 16 | g << 8 | b for row in rows for r, g, b in zip(row[::3], row[1::3], row[2::3])]
 
 
 class Eye:

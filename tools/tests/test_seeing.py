@@ -9,12 +9,13 @@ import tempfile
 import unittest
 from unittest import mock
 
-from perfly_play import Play, pictures, program, seeing, shapes
+from perfly_play import Play, pictures, rendering, seeing, shapes
 
 from .rows import TOP
 
 TOOLS = TOP / "tools"
-PLAIN = f"{sys.executable} -B {TOOLS / 'tests' / 'plain_perfly'}"
+PLAIN = str(TOOLS / "tests" / "data" / "plain_perfly")
+NO_CACHE = {"PYTHONDONTWRITEBYTECODE": "1"}
 GREY = (90, 90, 90)
 
 
@@ -39,12 +40,12 @@ def scene():
 def tool(name, *words, given=b"", perfly=PLAIN):
     """Runs a tool, with a program in perfly's place."""
     return subprocess.run([sys.executable, "-B", TOOLS / name, *map(str, words)], input=given, capture_output=True, check=False,
-                          env={**os.environ, "PERFLY": perfly})
+                          env={**os.environ, **NO_CACHE, "PERFLY": perfly})
 
 
 class Seeing(unittest.TestCase):
     def setUp(self):
-        patch = mock.patch.dict(os.environ, PERFLY=PLAIN)
+        patch = mock.patch.dict(os.environ, NO_CACHE, PERFLY=PLAIN)
         patch.start()
         self.addCleanup(patch.stop)
 
@@ -78,9 +79,9 @@ class Seeing(unittest.TestCase):
                                              (free, 1, 0, "merge 1 of DBASE may come before or after line 6")):
             with self.subTest(told), self.assertRaisesRegex(seeing.SeeingError, told):
                 list(seeing.frames(given, wanted, channel))
-        with mock.patch.dict(os.environ, PERFLY=" "), self.assertRaisesRegex(program.ProgramError, "set, but empty"):
+        with mock.patch.dict(os.environ, PERFLY=" "), self.assertRaisesRegex(rendering.RenderError, "set, but empty"):
             list(seeing.frames(text))
-        with mock.patch.dict(os.environ, PERFLY="false"), self.assertRaisesRegex(program.ProgramError, "ended with status 1"):
+        with mock.patch.dict(os.environ, PERFLY="false"), self.assertRaisesRegex(rendering.RenderError, "ended with status 1"):
             list(seeing.frames(text))
 
 
@@ -127,7 +128,7 @@ class Commands(unittest.TestCase):
 
     def test_perfly(self):
         """The pixel of docs/PLAY.md, by the built program."""
-        given = os.environ.get("PERFLY", str(program.BUILT))
+        given = os.environ.get("PERFLY", str(rendering.BUILT))
         perfly = next((path for path in (pathlib.Path(given), TOP / given) if path.is_file()), None)
         if perfly is None:
             self.skipTest("perfly is not built")

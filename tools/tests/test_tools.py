@@ -51,7 +51,7 @@ def ppm(width, height, pixel):
 
 class Help(unittest.TestCase):
     def test_each(self):
-        for name in ("obj2play", "frames2png", "look", "enlarge", "ids", "depth", "pick"):
+        for name in ("obj2play", "frames2png", "look", "enlarge", "render", "show", "quick", "ids", "depth", "pick"):
             with self.subTest(name):
                 done = run(name, "--help")
                 self.assertEqual((done.returncode, done.stderr), (0, b""))
@@ -142,9 +142,24 @@ class Look(unittest.TestCase):
 
     def test_refused_edits(self):
         head = b"perfly 1\nsize 3 3\nlens 3 1 9\nback 0 0 0\napp\n"
-        text = run("look", given=head + b"add 0 7\nframe\n").stdout.decode()
-        self.assertIn("line 6: add 0 7: there is no node 7\n", text)
-        self.assertEqual(run("look", given=head + b"wait 1\n").returncode, 1)
+        done = run("look", given=head + b"add 0 7\nframe\n")
+        self.assertIn("line 6: add 0 7: there is no node 7\n", done.stdout.decode())
+        self.assertEqual(done.returncode, 1)
+        done = run("look", "--check", given=head + b"group 1\nscs 2 1 0 0 0 1 0 0 0 1 0 0 0\ntrans 2 0 0 0\nframe\n")
+        self.assertEqual((done.returncode, done.stdout.decode()),
+                         (1, "line 8: trans 2 0 0 0: node 2 is of the kind scs, and trans is for a node of the kind dcs\n"))
+        done = run("look", "--check", TOP / "examples" / "glass.play")
+        self.assertEqual((done.returncode, done.stdout, done.stderr), (0, b"", b""))
+        done = run("look", given=head + b"wait 1\n")
+        self.assertEqual((done.returncode, done.stderr),
+                         (1, b"look: the play never ends: line 6 waits for a merge that never comes, since there is no section dbase\n"))
+
+    def test_nothing_to_see(self):
+        head = b"perfly 1\nsize 3 3\nlens 3 1 9\nback 0 0 0\napp\n"
+        text = run("look", given=head + b"group 1\nframe\n").stdout.decode()
+        self.assertIn("below no node, so never seen: 1; a line add", text)
+        self.assertIn("Nothing is ever in sight.", text)
+        self.assertIn("A line frame draws one.", run("look", given=head).stdout.decode())
 
 
 class Profile(unittest.TestCase):

@@ -69,7 +69,7 @@ class Refused(unittest.TestCase):
         group, geode = play.group(0), play.geode(0, 0, RED)
         with self.assertRaisesRegex(PlayError, "there is no node 9"):
             play.add(group, 9)
-        with self.assertRaisesRegex(PlayError, "not of the kind"):
+        with self.assertRaisesRegex(PlayError, "of the kind geode, which has no children"):
             play.add(geode, group)
         with self.assertRaisesRegex(PlayError, "still has a parent"):
             play.delete(group)
