@@ -13,6 +13,7 @@
     fences      which merges of a play have more than one place
     seeing      which triangle is seen at each pixel, how far away, and where
     pictures    PPM in; side by side, scaled down; PNG out
+    comparing   which pictures of two streams differ, and their sums
     limits      the limits of a play
 
 A first play:
