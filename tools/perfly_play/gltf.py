@@ -19,6 +19,7 @@ WIDTHS = {"SCALAR": 1, "VEC2": 2, "VEC3": 3, "VEC4": 4, "MAT2": 4, "MAT3": 9, "M
 FULL = {"b": 127, "B": 255, "h": 32767, "H": 65535}  # what stands for 1 where an accessor is normalized
 TRIANGLES, STRIP, FAN = 4, 5, 6
 DEEPEST = 200  # of nodes below nodes
+MOST = 1 << 24  # rows of an accessor without a buffer, and nodes that are gone through
 SAME = (1, 0, 0, 0, 0, 1, 0, 0, 0, 0, 1, 0, 0, 0, 0, 1)
 READ = {"KHR_texture_transform", "KHR_materials_pbrSpecularGlossiness", "KHR_mesh_quantization", "KHR_materials_unlit"}
 
@@ -68,6 +69,7 @@ class _Reader:
         self.model = Model()
         self.textures = Textures(self.model)
         self.buffers, self.materials = {}, {}
+        self.visits = 0  # how often a node was gone through
         self.at = ""  # where in the document, for errors
 
     def things(self, name):
@@ -88,7 +90,8 @@ class _Reader:
 
     def node(self, number, above, depth):
         self.at = f"node {number}: "
-        if depth > DEEPEST:
+        self.visits += 1
+        if depth > DEEPEST or self.visits > MOST:
             raise MeshError("nodes below nodes without an end")
         node = self.things("nodes")[number]
         matrix = _times(above, _matrix_of(node))
@@ -187,9 +190,12 @@ class _Reader:
         """The rows of an accessor; as parts of 1 where it is normalized, or where `as_parts` is asked of whole numbers."""
         accessor = self.things("accessors")[number]
         kind, width, count = KINDS[accessor["componentType"]], WIDTHS[accessor["type"]], accessor["count"]
-        rows = [(0,) * width] * count
         if "bufferView" in accessor:
             rows = self.rows(accessor["bufferView"], accessor.get("byteOffset", 0), kind, width, count)
+        elif 0 <= count <= MOST:
+            rows = [(0,) * width] * count
+        else:
+            raise MeshError(f"an accessor of {count} rows")
         if "sparse" in accessor:
             self.set_sparse(rows, accessor["sparse"], kind, width)
         if kind in FULL and (accessor.get("normalized") or as_parts):

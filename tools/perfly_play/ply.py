@@ -27,6 +27,8 @@ def read_ply(path: pathlib.Path) -> Model:
     data = path.read_bytes()
     order, elements, picture, at = _header(path, data)
     try:
+        if any(not 0 <= count <= len(data) for _, count, _ in elements):
+            raise ValueError
         table = _text(elements, data[at:]) if order is None else _binary(elements, data, at, order)
     except (ValueError, IndexError, OverflowError, struct.error):
         raise MeshError(f"{path}: the file ends too early, or has other values than its header says") from None

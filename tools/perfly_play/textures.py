@@ -12,7 +12,7 @@ from collections.abc import Sequence
 
 from .models import Model
 
-SIDE = 16384  # pixels of a texture; what is larger is refused
+SIDE, AREA = 16384, 1 << 26  # pixels of a texture to a side, and in all; what is larger is refused
 INWARD = (0.1, 0.25, 0.4)  # how far between a corner and the middle of its triangle the texture is looked at
 
 
@@ -102,7 +102,7 @@ def _by_pillow(data):
 
 
 def _sized(width, height):
-    if not (0 < width <= SIDE and 0 < height <= SIDE):
+    if not (0 < width <= SIDE and 0 < height <= SIDE and width * height <= AREA):
         raise TextureError(f"a picture of {width} by {height} pixels")
     return width, height
 
