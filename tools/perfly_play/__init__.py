@@ -1,7 +1,9 @@
 """Writes and reads perfly's plays in Python, with the standard library alone.
 
     shapes      triangles, boxes, lathed bodies, ground, and things made of them
-    writing     Play: writes a play, and refuses at once what perfly would refuse
+    writing     Play: writes a play, and refuses at once what perfly would refuse; has perfly draw it
+    paths       where an eye or a thing is at each frame, from a few stops
+    terrain     ground from a height field: PGM, ESRI ASCII
     meshes      reads models: Wavefront OBJ with its materials, and PLY
     modelling   makes the geodes of a play out of a model
     reading     reads a play as perfly does, and gives its first mistake a hint
@@ -9,6 +11,8 @@
     sight       what of a graph a view shows
     playing     plays a play without drawing it
     fences      which merges of a play have more than one place
+    parts       plays that draw some of the frames of a whole
+    rendering   has perfly draw a play: its frames, and its report
     pictures    PPM in; side by side, scaled down; PNG out
     limits      the limits of a play
 
@@ -20,10 +24,13 @@ A first play:
     ground = play.geode(0, 1, shapes.flat(-90, 0, 90, 300, 0, (92, 132, 62)))
     house = play.geode(0, 2, shapes.house(0, 40, 0, 10, 8, 6, (225, 215, 190), (170, 75, 55)))
     for k in range(24):
-        play.view(k - 12, -10, 8, pitch=-5)
+        play.look_at((k - 12, -10, 8), (0, 40, 3))
         play.frame()
-    print(play.text(), end="")
+    play.write("house.play")
+    for number, image in enumerate(play.pictures(), 1):
+        image.write(f"house{number:02}.png")
 """
+from .rendering import RenderError
 from .writing import Play, PlayError
 
-__all__ = ["Play", "PlayError"]
+__all__ = ["Play", "PlayError", "RenderError"]
