@@ -2,6 +2,7 @@
 import io
 import os
 import pathlib
+import re
 import struct
 import subprocess
 import sys
@@ -127,10 +128,12 @@ class Commands(unittest.TestCase):
         self.assertTrue(all(scene().split(b"\n")[line - 1].startswith(b"t ") for line in lines))
 
     def test_perfly(self):
-        """The pixel of docs/PLAY.md, by the built program."""
+        """The pixels of docs/PLAY.md, by the built program."""
         given = os.environ.get("PERFLY", str(rendering.BUILT))
         perfly = next((path for path in (pathlib.Path(given), TOP / given) if path.is_file()), None)
         if perfly is None:
             self.skipTest("perfly is not built")
-        done = tool("pick", TOP / "examples" / "valley.play", 156, 100, perfly=str(perfly))
-        self.assertTrue(done.stdout.startswith(b"156 100 geode 48 triangle 26 line 853 depth 71.138 at "), done)
+        text = (TOP / "docs" / "PLAY.md").read_text(encoding="utf-8")
+        words, told = re.search(r"^    tools/pick (.*)\n\n```\n(.*?)```", text, re.DOTALL | re.MULTILINE).groups()
+        play, *pixels = words.split()
+        self.assertEqual(tool("pick", TOP / play, *pixels, perfly=str(perfly)).stdout.decode(), told)

@@ -92,7 +92,7 @@ class Obj2play(unittest.TestCase):
     def test_turn(self):
         done = run("obj2play", "--frames", 5, "--picture", 64, 48, LANTERN)
         self.assertEqual(done.returncode, 0)
-        self.assertIn(b"up is y, as usual; left out: the texture wax.png, which is not there (1)\n", done.stderr)
+        self.assertIn(done.stderr.decode(), (TOP / "docs" / "PLAY.md").read_text(encoding="utf-8"))
         play = read_play(done.stdout)
         self.assertEqual((play.head.version, play.triangles), (2, 257))
         self.assertEqual(sum(step.edit.command == "frame" for step in play.application), 5)
