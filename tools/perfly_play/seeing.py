@@ -38,6 +38,15 @@ class Frame(NamedTuple):
     seen: list
     eye: "Eye"
 
+    def hit(self, x: int, y: int) -> "Hit | None":
+        """What is seen at a pixel, counted from 0 at the upper left; None where nothing is."""
+        line = self.seen[y * self.width + x]
+        return self.eye.hit(line, x, y) if line else None
+
+    def depths(self) -> list[int]:
+        """The depth at each pixel (1/4096 unit), -1 where nothing is seen; by rows from the top."""
+        return [self.eye.hit_depth(line, at % self.width, at // self.width) if line else -1 for at, line in enumerate(self.seen)]
+
 
 class Hit(NamedTuple):
     """What is seen at a pixel: its line of the play, the geometry and the number of the triangle in it, its depth along the
@@ -130,15 +139,12 @@ class Eye:
         """Whether geometry in sight is a geode or glass."""
         return self.kinds[node]
 
-    def hit(self, frame: Frame, x: int, y: int) -> Hit | None:
-        """What is seen at a pixel, counted from 0 at the upper left; None where nothing is."""
-        line = frame.seen[y * frame.width + x]
-        if line == 0:
-            return None
+    def hit(self, line: int, x: int, y: int) -> Hit:
+        """What is seen at a pixel that shows this line."""
         plane, depth, weights = self._nearest(line, x, y)
         return Hit(line, plane.line.node, plane.line.number, depth, plane.place(weights))
 
-    def depth(self, line: int, x: int, y: int) -> int:
+    def hit_depth(self, line: int, x: int, y: int) -> int:
         """The depth at a pixel that shows this line (1/4096 unit)."""
         return self._nearest(line, x, y)[1]
 
@@ -190,10 +196,4 @@ def _dot(u, v):
     return u[0] * v[0] + u[1] * v[1] + u[2] * v[2]
 
 
-def depths(frame: Frame) -> list[int]:
-    """The depth at each pixel (1/4096 unit), -1 where nothing is seen; by rows from the top."""
-    eye, width = frame.eye, frame.width
-    return [eye.depth(line, at % width, at // width) if line else -1 for at, line in enumerate(frame.seen)]
-
-
-__all__ = ["Frame", "Hit", "Mistake", "SeeingError", "depths", "frames", "numbered", "triangle_lines"]
+__all__ = ["Frame", "Hit", "SeeingError", "frames", "numbered", "triangle_lines"]

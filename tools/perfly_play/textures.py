@@ -85,7 +85,9 @@ def picture_of(data: bytes) -> tuple[int, int, list[bytes]]:
         if not data.startswith((b"\xff\xd8", b"GIF8", b"DDS ", b"RIFF", b"\xabKTX")) and data[1:2] in (b"\0", b"\1"):
             return _tga(data)
         return _by_pillow(data)
-    except (IndexError, struct.error, zlib.error):
+    except TextureError:
+        raise
+    except (LookupError, ValueError, ArithmeticError, struct.error, zlib.error):
         raise TextureError("the picture ends too early or is broken") from None
 
 
@@ -126,10 +128,12 @@ def _unpacked(row, bits, width):
 # PNG
 
 PNG_SAMPLES = {0: 1, 2: 3, 3: 1, 4: 2, 6: 4}  # by the kind of its colours
+WHOLE = ((0, 0, 1, 1),)  # the first pixel of a pass, and the steps to the next one, across and down
+INTERLACED = ((0, 0, 8, 8), (4, 0, 8, 8), (0, 4, 4, 8), (2, 0, 4, 4), (0, 2, 2, 4), (1, 0, 2, 2), (0, 1, 1, 2))
 
 
 def _png(data):
-    at, packed, palette = 8, [], b""
+    at, packed, palette, kind = 8, [], b"", None
     while at + 8 <= len(data):
         size, name = struct.unpack_from(">I4s", data, at)
         body = data[at + 8:at + 8 + size]
@@ -141,19 +145,36 @@ def _png(data):
         elif name == b"IDAT":
             packed.append(body)
         at += 12 + size
-    if interlaced or kind not in PNG_SAMPLES:
-        raise TextureError("an interlaced PNG" if interlaced else "a PNG of an unknown kind")
-    wide = (PNG_SAMPLES[kind] * bits * width + 7) // 8
-    lines = zlib.decompressobj().decompress(b"".join(packed), height * (wide + 1))
-    if len(lines) < height * (wide + 1):
+    if not packed or kind not in PNG_SAMPLES:
         raise IndexError
-    step = max(1, PNG_SAMPLES[kind] * bits // 8)
-    rows, above = [], bytes(wide)
-    for y in range(height):
-        start = y * (wide + 1)
-        above = _unfiltered(lines[start], lines[start + 1:start + 1 + wide], above, step)
-        rows.append(_png_row(above, bits, kind, width, palette))
-    return width, height, rows
+    passes = [(x, y, dx, dy, len(range(x, width, dx)), len(range(y, height, dy)))
+              for x, y, dx, dy in (INTERLACED if interlaced else WHOLE) if x < width and y < height]
+    most = sum(lines * (1 + _png_bytes(wide, bits, kind)) for *_, wide, lines in passes)
+    left, rows = zlib.decompressobj().decompress(b"".join(packed), most), [bytearray(3 * width) for _ in range(height)]
+    for x, y, dx, dy, wide, lines in passes:
+        size = lines * (1 + _png_bytes(wide, bits, kind))
+        for k, row in enumerate(_png_pass(left[:size], lines, wide, bits, kind)):
+            pixels = _png_row(row, bits, kind, wide, palette)
+            for colour in range(3):
+                rows[y + k * dy][3 * x + colour::3 * dx] = pixels[colour::3]
+        left = left[size:]
+    return width, height, [bytes(row) for row in rows]
+
+
+def _png_bytes(width, bits, kind):
+    """The bytes of a line of so many pixels, without its filter."""
+    return (PNG_SAMPLES[kind] * bits * width + 7) // 8
+
+
+def _png_pass(data, lines, width, bits, kind):
+    """The lines of a pass, as they were before they were written as differences."""
+    wide, step = _png_bytes(width, bits, kind), max(1, PNG_SAMPLES[kind] * bits // 8)
+    if len(data) < lines * (wide + 1):
+        raise IndexError
+    above = bytes(wide)
+    for start in range(0, lines * (wide + 1), wide + 1):
+        above = _unfiltered(data[start], data[start + 1:start + 1 + wide], above, step)
+        yield above
 
 
 def _unfiltered(kind, line, above, step):

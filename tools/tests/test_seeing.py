@@ -62,14 +62,14 @@ class Seeing(unittest.TestCase):
         """Every pixel's ray meets the triangle that was drawn there, also where it stands in two places or upon another."""
         for through_glass, nodes in ((False, {10, 11, 12, 13}), (True, {10, 11, 12})):
             for frame in seeing.frames(scene(), through_glass=through_glass):
-                hits = [frame.eye.hit(frame, x, y) for y in range(18) for x in range(24)]
+                hits = [frame.hit(x, y) for y in range(18) for x in range(24)]
                 self.assertEqual({hit.node for hit in hits if hit}, nodes)
-                self.assertEqual([hit.depth if hit else -1 for hit in hits], seeing.depths(frame))
+                self.assertEqual([hit.depth if hit else -1 for hit in hits], frame.depths())
 
     def test_place(self):
         """A pixel low in the picture shows the mark, on the ground; the pane has its own depth."""
         frame = next(seeing.frames(scene(), 1))
-        mark, pane = frame.eye.hit(frame, 12, 15), frame.eye.hit(frame, 22, 6)
+        mark, pane = frame.hit(12, 15), frame.hit(22, 6)
         self.assertEqual((mark.node, round(mark.place[2])), (11, -4096))
         self.assertEqual((pane.node, round(pane.place[1] / 4096)), (13, 6))
 
@@ -111,7 +111,7 @@ class Commands(unittest.TestCase):
         self.assertEqual((values[0], min(v for v in values if v), max(values)), (0, 1, 65535))
         near, step = (float(told.split()[k]) for k in (4, 6))
         with mock.patch.dict(os.environ, PERFLY=PLAIN):
-            depths = seeing.depths(next(seeing.frames(scene(), 1)))
+            depths = next(seeing.frames(scene(), 1)).depths()
         for value, depth in zip(values, depths):
             self.assertTrue(value == 0 and depth < 0 or abs(near + step * (value - 1) - depth / 4096) <= step)
         self.assertTrue((self.folder / "d.png").read_bytes().startswith(b"\x89PNG"))

@@ -10,11 +10,11 @@ ROWS = [bytes((255, 0, 0, 0, 255, 0, 0, 0, 255)), bytes((9, 99, 199, 7, 77, 177,
 TURNED = [bytes(c for k in (0, 3, 6) for c in row[k:k + 3][::-1]) for row in ROWS]  # blue first
 
 
-def png_of(kind, bits, lines, palette=b""):
-    """A PNG with these lines, each with its filter in front."""
+def png_of(kind, bits, lines, palette=b"", height=None, interlaced=0):
+    """A PNG with these lines, each with its filter in front; its height, unless it has a line for each row."""
     def chunk(name, data):
         return struct.pack(">I", len(data)) + name + data + struct.pack(">I", zlib.crc32(name + data))
-    head = struct.pack(">IIBBBBB", 3, len(lines), bits, kind, 0, 0, 0)
+    head = struct.pack(">IIBBBBB", 3, height or len(lines), bits, kind, 0, 0, interlaced)
     return (b"\x89PNG\r\n\x1a\n" + chunk(b"IHDR", head) + (chunk(b"PLTE", palette) if palette else b"")
             + chunk(b"IDAT", zlib.compress(b"".join(lines))) + chunk(b"IEND", b""))
 
@@ -30,6 +30,12 @@ class Forms(unittest.TestCase):
         self.check(png_of(2, 16, [b"\0" + bytes(c for value in row for c in (value, 1)) for row in ROWS]))
         self.check(png_of(3, 2, [b"\0\x18", b"\0\xe4"], ROWS[0] + ROWS[1][:3]), [ROWS[0], ROWS[1][:3] + ROWS[0][6:] + ROWS[0][3:6]])
         self.check(png_of(0, 1, [b"\0\xa0"]), [bytes((255,) * 3 + (0,) * 3 + (255,) * 3)])
+
+    def test_interlaced(self):
+        """Of 3 by 2 pixels four passes have some: the first pixel, the third, the second, and then the second row."""
+        first, second = ROWS
+        passes = [b"\0" + pixels for pixels in (first[:3], first[6:], first[3:6], second)]
+        self.check(png_of(2, 8, passes, height=2, interlaced=1))
 
     def test_filters_of_png(self):
         """The second line as its difference from each kind of neighbour; the first row stands above it."""
