@@ -4,12 +4,9 @@ from typing import NamedTuple
 
 from . import limits
 from .models import Colour, Facet, Model, Vector
-from .placing import box_of, centred, coarsened, drop_unseen, extent, is_flat, turned_up
+from .placing import box_of
 from .shapes import Triangle, facing, shade
 from .writing import Play, PlayError
-
-__all__ = ["Light", "add_model", "box_of", "brightness", "centred", "coarsened", "drop_unseen", "extent", "is_flat", "pieces",
-           "play_lit_views", "play_views", "shaded", "turned_up", "turntable"]
 
 GLASS_PIECES = 1000  # so many pieces at most are made of glass by itself
 MADE = 3000  # nodes that copies of a model for several lights may take

@@ -80,40 +80,58 @@ def centred(facets: list[Facet], size: float) -> list[Facet]:
 # Fewer triangles
 
 
-def _cells(facets, cells):
-    """The cell of each corner in a grid of so many cells along the longest side."""
-    side = (extent(facets) or 1) / cells
-    return {p: tuple(math.floor(c / side) for c in p) for p in {p for facet in facets for p in facet.points}}
+class _Grids:
+    """Grids about facets, of cells all alike; each corner lies in one cell of a grid."""
+
+    BITS = 14  # of a number that counts cells along a side
+
+    def __init__(self, facets):
+        self.facets = facets
+        self.points = list({p for facet in facets for p in facet.points})
+        self.low, self.side = box_of(facets)[0], extent(facets) or 1
+
+    def cells(self, count):
+        """The cell of each corner, as a number, in the grid of so many cells along the longest side."""
+        (x0, y0, z0), scale, bits = self.low, count / self.side, self.BITS
+        return {p: (int((p[0] - x0) * scale) << bits | int((p[1] - y0) * scale)) << bits | int((p[2] - z0) * scale)
+                for p in self.points}
+
+    def kept(self, cell_of):
+        """The facets that keep three corners when those in a cell become one, with their cells; of those with the same cells
+        the first."""
+        kept = {}
+        for facet in self.facets:
+            a, b, c = facet.points
+            a, b, c = cell_of[a], cell_of[b], cell_of[c]
+            if a != b != c != a:
+                kept.setdefault(tuple(sorted((a, b, c))), (facet, (a, b, c)))
+        return kept.values()
 
 
-def _kept(facets, cell_of):
-    """The facets that keep three corners when those in a cell become one; of those with the same cells the first."""
-    kept = {}
-    for facet in facets:
-        of_facet = tuple(cell_of[p] for p in facet.points)
-        if len(set(of_facet)) == 3:
-            kept.setdefault(frozenset(of_facet), (facet, of_facet))
-    return list(kept.values())
+COARSEST, FINEST = 2, 8192  # cells along the longest side
 
 
 def coarsened(facets: list[Facet], cells: int) -> list[Facet]:
     """A model with fewer triangles: corners in the same cell of a grid become one, at the mean of their places. The grid
     has so many cells along the longest side. Triangles that shrink to a line or a point fall away, and all normals."""
-    cell_of, groups = _cells(facets, cells), {}
+    grids, groups = _Grids(facets), {}
+    cell_of = grids.cells(cells)
     for p, cell in cell_of.items():
         groups.setdefault(cell, []).append(p)
     means = {cell: tuple(sum(c) / len(group) for c in zip(*group)) for cell, group in groups.items()}
     return [facet._replace(points=tuple(means[cell] for cell in of_facet), normals=None)
-            for facet, of_facet in _kept(facets, cell_of)]
+            for facet, of_facet in grids.kept(cell_of)]
 
 
-def finest(facets: list[Facet], most: int, limit: int = 8192) -> int:
-    """The number of cells of the finest grid, up to a limit, with which no more than so many triangles are left; found by
-    doubling and then halving, as if a finer grid always left more."""
+def finest(facets: list[Facet], most: int) -> int:
+    """The number of cells of the finest grid with which no more than so many triangles are left; found by doubling and then
+    halving, as if a finer grid always left more."""
+    grids = _Grids(facets)
+
     def fits(cells):
-        return len(_kept(facets, _cells(facets, cells))) <= most
-    low, high = 2, 64
-    while high < limit and fits(high):
+        return len(grids.kept(grids.cells(cells))) <= most
+    low, high = COARSEST, 64
+    while high < FINEST and fits(high):
         low, high = high, 2 * high
     while high - low > 1:
         middle = (low + high) // 2

@@ -11,7 +11,7 @@ from typing import NamedTuple
 from . import forms
 from .fences import free_merges
 from .playing import Playing
-from .reading import Mistake, Reading, read_play
+from .reading import Reading, read_play
 from .rendering import Run
 from .sight import Instance, Sight, through
 

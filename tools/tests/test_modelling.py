@@ -47,7 +47,7 @@ class Placing(unittest.TestCase):
     def test_coarsened(self):
         facets = read_model(DATA / "ring.ply").facets
         self.assertLess(len(placing.coarsened(facets, 4)), len(facets))
-        self.assertEqual(len(placing.coarsened(facets, 10000)), len(facets))
+        self.assertEqual(len(placing.coarsened(facets, placing.FINEST)), len(facets))
 
     def test_finest(self):
         facets = grid(40, lambda i, j: 0)
