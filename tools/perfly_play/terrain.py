@@ -148,8 +148,9 @@ class Ground:
         """The ground in pieces, each the triangles of a geode."""
         for j in range(0, len(self.rows) - 1, SIDE):
             for i in range(0, len(self.rows[0]) - 1, SIDE):
-                tile = [triangle for down in range(j, min(j + SIDE, len(self.rows) - 1))
-                        for across in range(i, min(i + SIDE, len(self.rows[0]) - 1)) for triangle in self._cell(across, down, paint)]
+                columns = range(i, min(i + SIDE, len(self.rows[0]) - 1))
+                rows = range(j, min(j + SIDE, len(self.rows) - 1))
+                tile = [triangle for down in rows for across in columns for triangle in self._cell(across, down, paint)]
                 if tile:
                     yield tile
 

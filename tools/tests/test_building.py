@@ -25,8 +25,9 @@ class Wheel(unittest.TestCase):
                         self.assertEqual(record[name], f"sha256={sum},{len(wheel.read(name))}")
                 self.assertLessEqual({"perfly_play/__init__.py", "perfly_play/py.typed", "perfly_play/page.html"}, set(record))
             # A wheel can be read from where it is.
-            call = [sys.executable, "-I", "-c", f"import sys; sys.path.insert(0, {str(path)!r}); import perfly_play; print(perfly_play.__file__)"]
-            self.assertIn(path.name, subprocess.run(call, capture_output=True, text=True, check=True).stdout)
+            code = f"import sys; sys.path.insert(0, {str(path)!r}); import perfly_play; print(perfly_play.__file__)"
+            done = subprocess.run([sys.executable, "-I", "-c", code], capture_output=True, text=True, check=True)
+            self.assertIn(path.name, done.stdout)
 
 
 if __name__ == "__main__":

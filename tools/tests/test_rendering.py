@@ -82,7 +82,8 @@ class Entries(unittest.TestCase):
         report = ("app geode 1 0 1 : ok\napp sync 0 : freed 0\napp frame 1 : ok\ndbase merge 1 0 : ok\napp frame 2 : ok\n"
                   "app sync 2 : freed 0\nframe 1 shown 1 states 1 visited 2\nframe 2 shown 0 states 0 visited 2\nprobe 2 none\n")
         first, second = rendering.entries(report, 2)
-        self.assertEqual(first, ["app geode 1 0 1 : ok", "app sync 0 : freed 0", "app frame 1 : ok", "frame 1 shown 1 states 1 visited 2"])
+        self.assertEqual(first, ["app geode 1 0 1 : ok", "app sync 0 : freed 0", "app frame 1 : ok",
+                                 "frame 1 shown 1 states 1 visited 2"])
         self.assertEqual(second, ["dbase merge 1 0 : ok", "app frame 2 : ok", "app sync 2 : freed 0",
                                   "frame 2 shown 0 states 0 visited 2", "probe 2 none"])
 

@@ -73,9 +73,9 @@ class Terrain(unittest.TestCase):
         self.assertEqual(read_play(play.text().encode()).triangles, 2 * 39 * 29)
 
     def test_large_and_holes(self):
-        field = terrain.Field([[x ^ y for x in range(300)] for y in range(250)])
-        ground = terrain.Ground(field, 100, 10)
-        self.assertLessEqual(sum(map(len, ground.tiles())), terrain.MOST)
+        field = terrain.Field([[x ^ y for x in range(90)] for y in range(70)])
+        ground = terrain.Ground(field, 100, 10, most=3000)
+        self.assertEqual(sum(map(len, ground.tiles())), 2 * (89 // 2) * (69 // 2))
         hole = terrain.Ground(self.read(GRID.encode()), 2, 1)
         self.assertEqual(sum(map(len, hole.tiles())), 1)
         with self.assertRaisesRegex(PlayError, "no data at 0"):

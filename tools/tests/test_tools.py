@@ -151,8 +151,8 @@ class Look(unittest.TestCase):
         done = run("look", "--check", TOP / "examples" / "glass.play")
         self.assertEqual((done.returncode, done.stdout, done.stderr), (0, b"", b""))
         done = run("look", given=head + b"wait 1\n")
-        self.assertEqual((done.returncode, done.stderr),
-                         (1, b"look: the play never ends: line 6 waits for a merge that never comes, since there is no section dbase\n"))
+        self.assertEqual(done.returncode, 1)
+        self.assertIn(b"line 6 waits for a merge that never comes, since there is no section dbase\n", done.stderr)
 
     def test_nothing_to_see(self):
         head = b"perfly 1\nsize 3 3\nlens 3 1 9\nback 0 0 0\napp\n"

@@ -11,6 +11,7 @@ from perfly_play.writing import direction
 
 from .rows import TOP
 
+CORNERS = ((0, 0, 0), (1, 0, 0), (0, 0, 1))
 DRAWS = TOP / "tools" / "tests" / "data" / "draws"
 
 RED = [shapes.triangle((-1, 10, -1), (1, 10, -1), (0, 10, 1), (255, 0, 0))]
@@ -144,8 +145,8 @@ class Refused(unittest.TestCase):
                           (lambda: play.geode(1, box, 0), "the triangles are 0, and must be a list"),
                           (lambda: play.geode(0, box, box), "state is "),
                           (lambda: play.geode(0, 0, [(1, 2)]), "must be three corners"),
-                          (lambda: play.geode(0, 0, [shapes.triangle((0, 0, 0), (1, 0, 0), (0, 0, "1"), (9, 9, 9))]), "a length is '1'"),
-                          (lambda: play.geode(0, 0, [shapes.triangle((0, 0, 0), (1, 0, 0), (0, 0, 1), (0.5, 0, 0))]), "red is 0.5"),
+                          (lambda: play.geode(0, 0, [shapes.triangle(*CORNERS[:2], (0, 0, "1"), (9, 9, 9))]), "a length is '1'"),
+                          (lambda: play.geode(0, 0, [shapes.triangle(*CORNERS, (0.5, 0, 0))]), "red is 0.5"),
                           (lambda: play.view(0, math.nan, 0), "a length is nan"),
                           (lambda: play.view(0, 0, 0, channel=-1), "no channel -1"),
                           (lambda: play.turn(geode, "left"), "an angle is 'left'"),
