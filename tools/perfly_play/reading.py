@@ -192,8 +192,8 @@ class _Reader:
             return ()
         count = fields[-1]
         if self.triangles + count > limits.TRIANGLES:
-            raise Mistake(self.line, "Count", f"the play has more than {limits.TRIANGLES:,} triangles; "
-                                              "make what stands often once, and hang it below several scs")
+            raise Mistake(self.line, "Count", f"the play has more than {limits.TRIANGLES:,} triangles, where those of verts and of "
+                                              "DBASE count too; make what stands often once, and hang it below several scs")
         self.triangles += count
         corners = []
         for k in range(count):
