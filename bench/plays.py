@@ -349,17 +349,17 @@ def panes(count=131072, glass=1):
     lines = header(64, 64, 2) + ["glass 10 0 8 1" if glass else "geode 10 0 1"]
     lines.append(triangle((-UNIT * 2, UNIT * 16, -UNIT * 2, 250, 200, 40), (UNIT * 2, UNIT * 16, -UNIT * 2, 200, 60, 40),
                           (0, UNIT * 16, UNIT * 2, 40, 60, 200)))
-    lines += ["group 1", "add 0 1"]
     below = [10]
-    for layer in range(count.bit_length()):
+    for layer in range(16):
         # both groups of a layer are reached by two to the layer ways
         here = [100 + 2 * layer, 101 + 2 * layer]
         for node in here:
             lines.append(f"group {node}")
             lines += [f"add {node} {child}" for child in below]
-        if count >> layer & 1:
-            lines.append(f"add 1 {here[0]}")
         below = here
+    for top in range(1, count // 32768 + 1):
+        lines += [f"group {top}", f"add {top} 130", f"add 0 {top}"]
+    lines += ["group 9"] + [f"add 9 {100 + 2 * layer}" for layer in range(15) if count >> layer & 1] + ["add 0 9"]
     return lines + ["frame"]
 
 
