@@ -6,6 +6,7 @@ use Rattle.pf_io.specs.Streams.{TakesFront}
 use Rattle.play_format.specs.declared.refusal.Refusal.{Refusal}
 use Rattle.play_format.specs.Plays.{Script}
 use Rattle.play_format.specs.Reads.{Reads, HasReading}
+use Rattle.pipe_plays.specs.declared.played.PlayEnd.{PlayEnd}
 use Rattle.play_check.specs.Stuck.{IsStuck}
 use Rattle.pf_history.specs.Logs.{Log}
 use Rattle.program_words.specs.declared.words.Words.{Words}
@@ -51,13 +52,13 @@ pub record IsStopped (status : ℕ) (refusal : Option Refusal) (stuck : Option (
   pub with_stuck : stuck ≡ stuck_of why
   pub message : IsTold report report' old new (message_of why)
 
--- The play that was given was begun.
-pub record IsBegun (meant : Option Words) (left left' : Bytes) (log : Log) (frames frames' : Bytes) : Type 0 where
+-- The play that was given was begun, and ended so.
+pub record IsBegun (meant : Option Words) (left left' : Bytes) (ended : PlayEnd) (log : Log) (frames frames' : Bytes) : Type 0 where
   pub words : Words
   pub play : Script
   pub given : IsGiven meant left left' words play
   pub can_end : ¬ IsStuck play.app play.dbase
-  pub part : IsPart words play log frames frames'
+  pub part : IsPart words play ended log frames frames'
 
 -- The play that was given was played to its end, and told: the headline.
 pub record IsDone (meant : Option Words) (left left' : Bytes) (log : Log) (frames frames' report report' : Bytes) : Type 0 where

@@ -7,6 +7,7 @@ ghost use Rattle.std.specs.Process.{exit_status};
 ghost use Rattle.pf_io.specs.Causes.{Calm, Rose};
 ghost use Rattle.pf_io.specs.Streams.{TakesFront};
 ghost use Rattle.pf_history.specs.Logs.{Log};
+ghost use Rattle.pipe_plays.specs.declared.played.PlayEnd.TheVariants as end;
 ghost use Rattle.play_format.specs.declared.refusal.Refusal.{Refusal};
 ghost use Rattle.program_words.specs.declared.words.Words.{Words};
 ghost use Rattle.program_words.specs.Meaning.{meaning_of_words};
@@ -104,10 +105,10 @@ pub fn run<
     ensures early { 1 ≤ exit_status result → exit_status result ≤ READ_FAULT → O.written frames.new ≡ O.written frames.old }
     ensures begun { exit_status result ≡ FRAME_FAULT → (log : Log)
         × IsBegun (meaning_of_arguments arguments) (I.left input.old) (I.left input.new)
-        log (O.written frames.old) (O.written frames.new) }
+        end.FrameFault log (O.written frames.old) (O.written frames.new) }
     ensures part { exit_status result ≡ NO_MEMORY → (O.written frames.new ≡ O.written frames.old) ⊎ ((log : Log)
         × IsBegun (meaning_of_arguments arguments) (I.left input.old) (I.left input.new)
-        log (O.written frames.old) (O.written frames.new)) }
+        end.NoMemory log (O.written frames.old) (O.written frames.new)) }
     ensures part_read { TakesFront (I.left input.old) (I.left input.new) }
     ensures unread { (w : Words) (n : ℕ) → meaning_of_arguments arguments ≡ Some w → w.make ≡ Some n
         → I.left input.new ≡ I.left input.old }

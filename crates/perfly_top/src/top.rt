@@ -38,7 +38,10 @@ fn played<
     requires stream { IfSome task.words.stream (λ n. (1 ≤ n) × (n ≤ 4096)) }
     ensures one_of { (result.status ≡ DONE) ⊎ (result.status ≡ FRAME_FAULT) ⊎ (result.status ≡ REPORT_FAULT)
         ⊎ (result.status ≡ NO_MEMORY) }
-    ensures part { IsPart task.words task.play result.history.entries (O.written frames.old) (O.written frames.new) }
+    ensures begun { result.status ≡ FRAME_FAULT
+        → IsPart task.words task.play PlayEnd.FrameFault result.history.entries (O.written frames.old) (O.written frames.new) }
+    ensures part { result.status ≡ NO_MEMORY
+        → IsPart task.words task.play PlayEnd.NoMemory result.history.entries (O.written frames.old) (O.written frames.new) }
     ensures played { (result.status ≡ DONE) ⊎ (result.status ≡ REPORT_FAULT)
         → IsPlayed task.words task.play result.history.entries (O.written frames.old) (O.written frames.new) }
     ensures whole { result.status ≡ DONE → (sum : ℕ)
@@ -119,16 +122,16 @@ pub fn perfly<
         → IsDoneUntold (meaning_of_words (map string_bytes words.now)) (I.left input.old) (I.left input.new)
         result.history.entries (O.written frames.old) (O.written frames.new) (P.written report.old) (P.written report.new) }
 
-    // What is left where the play did not come to its end.
+    // What is left where the play did not come to its end: only a fault of the frame sink cuts a picture short.
     ensures early { 1 ≤ result.status → result.status ≤ READ_FAULT
         → IsUntouched result.history.entries (O.written frames.old) (O.written frames.new) }
     ensures begun { result.status ≡ FRAME_FAULT
         → IsBegun (meaning_of_words (map string_bytes words.now)) (I.left input.old) (I.left input.new)
-        result.history.entries (O.written frames.old) (O.written frames.new) }
+        PlayEnd.FrameFault result.history.entries (O.written frames.old) (O.written frames.new) }
     ensures part { result.status ≡ NO_MEMORY
         → IsUntouched result.history.entries (O.written frames.old) (O.written frames.new)
         ⊎ IsBegun (meaning_of_words (map string_bytes words.now)) (I.left input.old) (I.left input.new)
-        result.history.entries (O.written frames.old) (O.written frames.new) }
+        PlayEnd.NoMemory result.history.entries (O.written frames.old) (O.written frames.new) }
     ensures part_read { TakesFront (I.left input.old) (I.left input.new) }
     ensures unread { (w : Words) (n : ℕ) → meaning_of_words (map string_bytes words.now) ≡ Some w → w.make ≡ Some n
         → I.left input.new ≡ I.left input.old }

@@ -1,6 +1,7 @@
 use Rattle.std.proofs.Common.{◌≡◌, ◌⊎◌, ◌∙◌, ℕ, Option, map, ap, sym, subst}
 use Rattle.std.specs.String.{string_bytes}
 use Rattle.std.specs.Process.{exit_status}
+use Rattle.pipe_plays.specs.declared.played.PlayEnd.TheVariants as end
 use Rattle.program_words.specs.declared.words.Words.{Words}
 use Rattle.program_words.specs.Meaning.{meaning_of_words}
 use Rattle.perfly_top.specs.Arguments.{meaning_of_arguments}
@@ -24,7 +25,7 @@ pub returns-in-Ok-clause-part : goal.returns-in-Ok-clause-part
 returns-in-Ok-clause-part g c = λ e.
     let same = ap (λ xs. meaning_of_words (map string_bytes xs)) c.as_slice.ensures.value ∙ c.in-Ok.ensures.meaning in
     part_by (meaning_of_arguments c.args.arguments) (meaning_of_words (map string_bytes c.as_slice.result.now)) (g.I.Source.left c.args.input.now)
-    (g.I.Source.left c.perfly-ended.new.input) c.perfly-ended.result.history.entries (g.O.Sink.written c.args.frames.now)
+    (g.I.Source.left c.perfly-ended.new.input) end.NoMemory c.perfly-ended.result.history.entries (g.O.Sink.written c.args.frames.now)
     (g.O.Sink.written c.perfly-ended.new.frames) same (c.perfly-ended.ensures.part (sym c.from-in-Ok.ensures ∙ e))
 
 pub returns-in-Err-clause-ends : goal.returns-in-Err-clause-ends

@@ -49,7 +49,7 @@ returns-in-Ok-clause-part g c = λ e.
       play = c.in-Ok.task.play;
       given = c.in-Ok.ensures.given;
       can_end = c.in-Ok.ensures.can_end;
-      part = c.played.ensures.part;
+      part = c.played.ensures.part e;
     })
 
 pub returns-in-Ok-clause-part_read : goal.returns-in-Ok-clause-part_read
