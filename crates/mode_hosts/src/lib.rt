@@ -17,6 +17,7 @@ mod parts;
 mod playing;
 mod posts;
 mod seats;
+mod words;
 mod works;
 
 pub use modes::{Mode, Setup};

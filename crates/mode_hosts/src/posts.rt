@@ -5,10 +5,10 @@ ghost use Rattle.mode_hosts.specs.Seats.{crew_state};
 ghost use Rattle.mode_hosts.specs.Crews.{all_of};
 ghost use Rattle.mode_hosts.specs.Posts.{crews_state, IsPost, ArePosts};
 
-use crate::crew::{Crew, together};
+use crate::crew::{Crew, Polled};
 use crate::hosts::{Common, Host, back, give, new_host};
 use crate::modes::Crews;
-use frame_stages::Did;
+use crate::words::Noted;
 use pf_io::Gate;
 use std::alloc::Global;
 use std::sync::{Arc, Wait};
@@ -58,12 +58,12 @@ fn post_of<
 
 impl<R: Threads + Wait + Sync + Drop> Post<R> {
     /// One poll of each stage of a crew that is with the caller.
-    fn poll<G: Gate>(&mut self, rt: &R, gate: &G) -> Did
+    fn poll<'a, G: Gate>(&mut self, rt: &R, gate: &G, noted: &'a Noted) -> Polled<'a>
         ensures { (crew : Crew R) → IsPost crew self.old → IsPost crew self.new }
     {
         match self {
-            Post::There(_) => Did::Over,
-            Post::Here(crew) => crew.poll(rt, gate),
+            Post::There(_) => Polled::nothing(noted),
+            Post::Here(crew) => crew.poll(rt, gate, noted),
         }
     }
 
@@ -102,19 +102,16 @@ pub(crate) fn posts_of<
 }
 
 impl<R: Threads + Wait + Sync + Drop> Posts<R> {
-    /// One poll of each stage that is with the caller, and what they came to.
-    pub(crate) fn poll<G: Gate>(&mut self, rt: &R, gate: &G) -> Did
+    /// One poll of each stage that is with the caller, after a note of the bell, and what they came to.
+    pub(crate) fn poll<'a, G: Gate>(&mut self, rt: &R, gate: &G, noted: &'a Noted) -> Polled<'a>
         ensures { (crews : Crews R) → ArePosts crews self.old → ArePosts crews self.new }
     {
-        let caller = self.caller.poll(rt, gate);
-        let cull = self.cull.poll(rt, gate);
-        let draw = self.draw.poll(rt, gate);
-        let dbase = self.dbase.poll(rt, gate);
-        let probe = self.probe.poll(rt, gate);
-        together(
-            together(caller, cull),
-            together(draw, together(dbase, probe)),
-        )
+        let caller = self.caller.poll(rt, gate, noted);
+        let cull = self.cull.poll(rt, gate, noted).did();
+        let draw = self.draw.poll(rt, gate, noted).did();
+        let dbase = self.dbase.poll(rt, gate, noted).did();
+        let probe = self.probe.poll(rt, gate, noted).did();
+        caller.and(cull).and(draw).and(dbase).and(probe)
     }
 
     /// All stages, as their hosts hand them back.

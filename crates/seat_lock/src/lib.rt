@@ -7,6 +7,7 @@
 //! A [`Desk`] is the right to take turns, whether over a lock ([`SeatDesk`]) or alone ([`PlainDesk`]).
 #![tactic(auto)]
 
+mod hand_over;
 mod lock;
 mod pass;
 mod plain_desk;

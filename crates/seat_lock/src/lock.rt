@@ -2,7 +2,7 @@
 ghost use Rattle.std.specs.Prelude.{◌≡◌};
 
 use crate::pass::{Pass, Token};
-use crate::rule::{Draw, HandOut, InTurn, Leave, Note, Poll, Recall, TakeIn};
+use crate::rule::{Draw, HandOut, InTurn, Note, Poll, Recall, TakeIn};
 use crate::traits::{Act, Glance, Logged};
 use crate::view::View;
 use atomic_table::Table;
@@ -13,9 +13,9 @@ use std::sync::Wait;
 type Bench<T> = Table<Option<T>, View<<T as Logged>::Entry>, u64, InTurn, Global>;
 
 // The words of the table: the ticket to be drawn next, the ticket served, and the number of noted entries.
-const TICKET: usize = 0;
+pub(crate) const TICKET: usize = 0;
 
-const SERVING: usize = 1;
+pub(crate) const SERVING: usize = 1;
 
 const NOTES: usize = 2;
 
@@ -255,18 +255,15 @@ impl<T: Logged> SeatLock<T> {
         self.table.shared.fetch_add::<Note>(seat, NOTES, 1);
     }
 
-    // Gives the value up and serves the next ticket. Those who wait are woken, where somebody has drawn that ticket.
-    // Nobody sleeps otherwise: who draws it from now on finds it served.
+    // Gives the value up and serves the next ticket, and then wakes those who wait.
     fn leave(&self, seat: &mut Token<T>)
         requires lock { seat.old.table_id ≡ lock_id self.now }
         requires holds { Holds T.log seat.old.me }
         ensures lock { seat.new.table_id ≡ seat.old.table_id }
         ensures left { seat.new.me ≡ (in_phase seat.old.me.0 Idle, []) }
     {
-        let served = self.table.shared.fetch_add::<Leave>(seat, SERVING, 1);
-        if self.table.shared.peek(TICKET) != served.wrapping_add(1) {
-            self.table.shared.wake_all(SERVING);
-        }
+        let served = self.serve_next(seat);
+        self.wake_waiting(served);
     }
 
     // Joins the other seat into this one.
