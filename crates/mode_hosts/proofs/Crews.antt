@@ -5,7 +5,7 @@ use Rattle.mode_hosts.specs.declared.modes.Mode.{Mode}
 use Rattle.mode_hosts.specs.declared.modes.Mode.TheVariants as mode
 use Rattle.mode_hosts.specs.Works.{AnyCullWork, AnyDrawWork}
 use Rattle.mode_hosts.specs.Sites.{Site, DbaseSite, ProbeSite, CrewState, AnyCullGoes, AnyDrawGoes, DbaseGoes, ProbeGoes, IfThere, CrewGoes}
-use Rattle.mode_hosts.specs.Crews.{first_of, united, all_of, full_crew, HasAll, divided}
+use Rattle.mode_hosts.specs.Crews.{first_of, united, all_of, full_crew, HasAll, CrewsState, CrewsGo, divided}
 
 -- the first that is there, and what it is seen as
 pub map_first : {X Y : Type 0} (f : X → Y) (a b : Option X) → option_map f (first_of a b) ≡ first_of (option_map f a) (option_map f b)
@@ -27,6 +27,15 @@ united_goes a b a' b' first second =
       dbase = first_there DbaseGoes a.dbase b.dbase a'.dbase b'.dbase first.dbase second.dbase;
       probe = first_there ProbeGoes a.probe b.probe a'.probe b'.probe first.probe second.probe;
     }
+
+-- all crews as one, after polls
+pub all_go : (old new : CrewsState) → CrewsGo old new → CrewGoes (all_of old) (all_of new)
+all_go old new go =
+    united_goes (united old.caller old.cull) (united old.draw (united old.dbase old.probe))
+    (united new.caller new.cull) (united new.draw (united new.dbase new.probe))
+    (united_goes old.caller old.cull new.caller new.cull go.caller go.cull)
+    (united_goes old.draw (united old.dbase old.probe) new.draw (united new.dbase new.probe) go.draw
+    (united_goes old.dbase old.probe new.dbase new.probe go.dbase go.probe))
 
 -- the crews of a mode have all stages
 pub divided_all : (m : Mode) (own : Bool) (cull : Site AnyCullWork) (draw : Site AnyDrawWork) (dbase : DbaseSite) (probe : ProbeSite) →
@@ -54,6 +63,9 @@ still_full cull draw dbase probe crew goes = (
   some_there ProbeGoes probe crew.probe goes.probe,
 )
 
--- and what is seen of them as one
-pub both_go : (a b a' b' both : CrewState) → both ≡ united a' b' → CrewGoes a a' → CrewGoes b b' → CrewGoes (united a b) both
-both_go a b a' b' both is first second = subst (CrewGoes (united a b)) (sym is) (united_goes a b a' b' first second)
+-- the crews of a mode, after polls, have all stages
+pub divided_go : (m : Mode) (own : Bool) (cull : Site AnyCullWork) (draw : Site AnyDrawWork) (dbase : DbaseSite) (probe : ProbeSite)
+    (crews : CrewsState) → CrewsGo (divided m own cull draw dbase probe) crews → CrewGoes (full_crew cull draw dbase probe) (all_of crews)
+divided_go m own cull draw dbase probe crews go =
+    subst (λ (s : CrewState). CrewGoes s (all_of crews)) (divided_all m own cull draw dbase probe)
+    (all_go (divided m own cull draw dbase probe) crews go)

@@ -1,5 +1,5 @@
 -- What one poll of APP or of DBASE comes to.
-use Rattle.std.proofs.Common.{◌≡◌, ◌⊎◌, ℕ, List, [], ◌∷◌, ◌++◌, Option, Result, inl, inr, sym, ap, subst}
+use Rattle.std.proofs.Common.{◌≡◌, ◌⊎◌, ℕ, false, List, [], ◌∷◌, ◌++◌, Option, Result, Ok, Err, inl, inr, refl, sym, ap, subst}
 use Rattle.seat_lock.specs.Log.{of, Found}
 use Rattle.frame_link.specs.Link.{Link}
 use Rattle.pf_model.specs.declared.lines.BaseLine.{BaseLine}
@@ -12,14 +12,16 @@ use Rattle.pf_scene.specs.Scenes.{SceneState}
 use Rattle.stage_parts.specs.declared.packets.Packet.{Packet}
 use Rattle.stage_parts.specs.declared.answers.Did.{Did}
 use Rattle.stage_parts.specs.declared.answers.StageError.{StageError}
+use Rattle.stage_parts.specs.declared.answers.StageError.TheVariants as error
 use Rattle.stage_parts.specs.Frames.{AreOwnFrames, RetiresJust}
 use Rattle.stage_parts.specs.Parts.{AppKeeps}
 use Rattle.frame_stages.specs.Flights.{SinkSide}
 use Rattle.frame_stages.specs.AppWorks.{AppWork}
-use Rattle.frame_stages.specs.AppAnswers.{around, AppAdds, KeepsOn, Polled}
+use Rattle.frame_stages.specs.AppAnswers.{around, AppAdds, KeepsOn, is_fault, Polled}
 use Rattle.frame_stages.specs.DbaseWorks.{DbaseHolds}
 use Rattle.frame_stages.specs.DbaseAnswers.{DbaseAdds}
 use Rattle.frame_stages.specs.Stays.{DeskPlace, EndPlace, desk_place, end_place}
+use Rattle.pipe_plays.specs.Played.{StaysWhole}
 use Rattle.mode_hosts.specs.Sites.{Place, Site, DbaseSite, IsSameDesk, AreSameLinks, AreApp, AreBase, AppGoes, DbaseGoes}
 use Rattle.mode_hosts.proofs.Logs.{GoesOn, by_others, by_own, still_front, still_own}
 
@@ -73,6 +75,12 @@ app_goes result old new told told' told_sent told_taken room sink sink' polled d
             keeps = subst (λ (k : ℕ). AppKeeps g k new.work.state new.place.seen new.taken new.sent (stream ++ on.more)) (sym desk.number) on.keeps;
           };
     }
+
+-- only a fault of the sink cuts a picture short
+pub app_uncut : (result : Result Did StageError) (before now : Option ℕ) → (is_fault result ≡ false → now ≡ before) → StaysWhole result before now
+app_uncut (Ok did) before now same = same refl
+app_uncut (Err error.NoMemory) before now same = same refl
+app_uncut (Err error.FrameFault) before now same = tt
 
 -- a poll of DBASE
 pub dbase_goes : (old new : DbaseSite) → IsSameDesk old.place new.place → DbaseAdds old.place.number old.place.seen new.place.seen →

@@ -1,5 +1,5 @@
 -- What a play leaves whose seats came home.
-use Rattle.std.proofs.Common.{◌≡◌, ℕ, ◌≤◌, Bool, true, false, not, List, [], ◌∷◌, length, drop, Option, Result, refl, sym, ap, ◌∙◌, subst, arith, length-drop}
+use Rattle.std.proofs.Common.{◌≡◌, ℕ, ◌≤◌, Bool, true, false, not, List, [], ◌∷◌, length, drop, Option, None, Result, refl, sym, ap, ◌∙◌, arith, length-drop}
 use Rattle.std.proofs.lemmas.Bool.{and_parts}
 use Rattle.atomic_table.specs.Seated.{TableId}
 use Rattle.draw_list.specs.declared.stats.Stats.{Stats}
@@ -11,13 +11,12 @@ use Rattle.frame_stages.specs.DbaseWorks.{DbaseWork, DbaseHolds, is_ended, has_e
 use Rattle.pipe_plays.specs.declared.played.PlayEnd.{PlayEnd}
 use Rattle.pipe_plays.specs.declared.played.PlayEnd.TheVariants as ends
 use Rattle.pipe_plays.specs.Plays.{setup_of, CanRun}
-use Rattle.pipe_plays.specs.Played.{Blames, end_of}
-use Rattle.pipe_plays.specs.Laws.{LeavesLaw}
-use Rattle.pipe_plays.proofs.Ended.{faulted, unfaulted}
+use Rattle.pipe_plays.specs.Played.{Blames, StaysWhole, LeavesPipe, end_of}
+use Rattle.pipe_plays.proofs.Ended.{faulted, unfaulted, uncut}
 use Rattle.stream_stages.specs.WholeFrames.{WholeFramesLaw}
 use Rattle.mode_hosts.specs.Gathering.{own_seats}
 use Rattle.mode_hosts.specs.AnySeats.{AnySites, AnySeatsKeep, pipe_around}
-use Rattle.mode_hosts.specs.Plays.{IsPlayed, EndBlames}
+use Rattle.mode_hosts.specs.Plays.{EndBlames}
 use Rattle.mode_hosts.proofs.Gathers.{AreHome, have_pipe}
 
 -- The database process at its end
@@ -47,22 +46,27 @@ pub record HaveEnded (s : AnySites) : Type 0 where
   pub app : s.app.work.state.ended ≡ true
   pub dbase : has_ended s.dbase.work ≡ true
 
-pub played : LeavesLaw → WholeFramesLaw → (play : Script) (ahead : ℕ) (lock : TableId) (s : AnySites) (end : PlayEnd) (log : Log)
-    (stats : List Stats) (bytes bytes' : Option (List ℕ)) → CanRun play ahead → AnySeatsKeep (setup_of play ahead) play.dbase s bytes bytes' →
-    AreHome lock s log → stats ≡ s.app.work.state.stats → (end ≡ ends.Done → HaveEnded s) → IsPlayed play ahead end log stats bytes bytes'
-played law whole play ahead lock s end log stats bytes bytes' can keeps home is ended =
-    let pipe = have_pipe whole play ahead lock s log bytes bytes' can keeps home in
-    let left = law play ahead own_seats (pipe_around play.dbase s pipe.between log pipe.stream) bytes bytes' can pipe.fits pipe.wrote in
-    subst (λ (ss : List Stats). IsPlayed play ahead end log ss bytes bytes') (sym is)
-    (record {
-      now = left.now;
-      all = λ done.
+pub leaves_pipe : {A : Type 0} → WholeFramesLaw → (play : Script) (ahead : ℕ) (lock : TableId) (s : AnySites) (came : Result A StageError) (end : PlayEnd)
+    (log : Log) (stats : List Stats) (bytes bytes' : Option (List ℕ)) → CanRun play ahead →
+    AnySeatsKeep (setup_of play ahead) play.dbase s bytes bytes' → AreHome lock s log → stats ≡ s.app.work.state.stats → end ≡ end_of came →
+    StaysWhole came None s.app.work.state.fault → (end ≡ ends.Done → HaveEnded s) →
+    LeavesPipe play ahead own_seats end log stats bytes bytes'
+leaves_pipe law play ahead lock s came end log stats bytes bytes' can keeps home is is_end whole ended =
+    let pipe = have_pipe law play ahead lock s log bytes bytes' can keeps home in
+    record {
+      pipe = pipe_around play.dbase s pipe.between log pipe.stream;
+      fits = pipe.fits;
+      history = refl;
+      numbers = sym is;
+      stream = pipe.wrote;
+      cut = uncut came end s.app.work.state.fault whole is_end;
+      done = λ done.
           let have = ended done in
-          left.at_end (record {
+          record {
             app = have.app;
             dbase = dbase_done play.dbase play.channels s.dbase.place.number s.dbase.work s.dbase.place.seen keeps.dbase.holds have.dbase;
-          });
-    })
+          };
+    }
 
 -- What the end says of the frame sink
 

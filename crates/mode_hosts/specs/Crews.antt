@@ -5,7 +5,7 @@ use Rattle.stage_parts.specs.declared.answers.Did.TheVariants as did
 use Rattle.mode_hosts.specs.declared.modes.Mode.{Mode}
 use Rattle.mode_hosts.specs.declared.modes.Mode.TheVariants as mode
 use Rattle.mode_hosts.specs.Works.{AnyCullWork, AnyDrawWork}
-use Rattle.mode_hosts.specs.Sites.{Site, DbaseSite, ProbeSite, CrewState}
+use Rattle.mode_hosts.specs.Sites.{Site, DbaseSite, ProbeSite, CrewState, CrewGoes}
 
 -- what the polls of two stages came to: one of them did something, or one has to wait, or both are over
 abbrev pub together : Did → Did → Did
@@ -43,6 +43,14 @@ pub record CrewsState : Type 0 where
   pub draw : CrewState
   pub dbase : CrewState
   pub probe : CrewState
+
+-- The crews of a play after polls, each of its own stages.
+pub record CrewsGo (old new : CrewsState) : Type 0 where
+  pub caller : CrewGoes old.caller new.caller
+  pub cull : CrewGoes old.cull new.cull
+  pub draw : CrewGoes old.draw new.draw
+  pub dbase : CrewGoes old.dbase new.dbase
+  pub probe : CrewGoes old.probe new.probe
 
 -- all crews as one
 abbrev pub all_of : CrewsState → CrewState

@@ -1,21 +1,12 @@
 -- What a play on hosts leaves at its end.
 use Rattle.std.specs.Prelude.{◌≡◌, ℕ, List, [], Option, IfSome, IfNone}
 use Rattle.pf_io.specs.Causes.{Calm, Rose}
-use Rattle.draw_list.specs.declared.stats.Stats.{Stats}
 use Rattle.nearest_hit.specs.declared.found.Near.{Near}
 use Rattle.nearest_hit.specs.declared.segment.Segment.{Segment}
 use Rattle.isect_stage.specs.Asking.{nearest_hits}
 use Rattle.pf_history.specs.Logs.{Log}
-use Rattle.play_format.specs.Plays.{Script}
 use Rattle.pipe_plays.specs.declared.played.PlayEnd.{PlayEnd}
 use Rattle.pipe_plays.specs.declared.played.PlayEnd.TheVariants as ends
-use Rattle.pipe_plays.specs.Laws.{Leaves, LeavesAll}
-
--- What a play leaves that came to this end, with the bytes of the frame sink before and after it.
-pub record IsPlayed (play : Script) (ahead : ℕ) (end : PlayEnd) (log : Log) (stats : List Stats)
-    (bytes bytes' : Option (List ℕ)) : Type 0 where
-  pub now : Leaves play ahead log stats bytes bytes'
-  pub all : end ≡ ends.Done → LeavesAll play ahead log stats bytes bytes'
 
 -- What a play leaves of its probe that came to this end: where all was played and a segment was asked for, its nearest hit in
 -- each Frame of the history, in turn; else nothing.

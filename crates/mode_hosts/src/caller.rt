@@ -1,17 +1,15 @@
 //! What the caller's thread does while a play runs: it polls the application, and the crews that no host has.
 ghost use Rattle.std.specs.Prelude.{◌≡◌};
-ghost use Rattle.pipe_plays.specs.Played.{Blames};
+ghost use Rattle.pipe_plays.specs.Played.{Blames, StaysWhole};
 ghost use Rattle.mode_hosts.specs.declared.modes.Crews.{Crews};
 ghost use Rattle.mode_hosts.specs.Sites.{AppGoes};
 ghost use Rattle.mode_hosts.specs.Seats.{app_site, cull_site, draw_site, dbase_site, probe_site, crew_state};
-ghost use Rattle.mode_hosts.specs.Crews.{full_crew, HasAll};
-ghost use Rattle.mode_hosts.specs.Homes.{all_sites};
-ghost use Rattle.mode_hosts.specs.Probes.{AllGo};
-ghost use Rattle.mode_hosts.specs.Posts.{ArePosts};
+ghost use Rattle.mode_hosts.specs.Crews.{full_crew, all_of, divided, HasAll, CrewsGo};
+ghost use Rattle.mode_hosts.specs.Posts.{crews_state, ArePosts};
 
 use crate::crew::{Crew, Polled};
 use crate::hosts::Common;
-use crate::modes::{Setup, crews_of};
+use crate::modes::{Crews, Setup, crews_of};
 use crate::posts::{Posts, posts_of};
 use crate::seats::{AllSeats, AppSeat, CullSeat, DbaseSeat, DrawSeat, ProbeSeat};
 use crate::words::Noted;
@@ -31,6 +29,7 @@ fn poll_app<R: Wait, O: Sink, G: Gate>(
     frames: &mut O,
 ) -> Result<Did, StageError>
     ensures goes { AppGoes (app_site app.old) (app_site app.new) (O.written frames.old) (O.written frames.new) }
+    ensures uncut { StaysWhole result (app_site app.old).work.state.fault (app_site app.new).work.state.fault }
     ensures blames { Blames result (O.faults frames.old) (O.faults frames.new) (O.at_fault frames.new) (O.written frames.new) }
 {
     match app.poll(frames, common) {
@@ -52,6 +51,7 @@ fn go_on<R: Wait, O: Sink, G: Gate>(
     noted: &Noted,
 ) -> Result<(), StageError>
     ensures goes { AppGoes (app_site app.old) (app_site app.new) (O.written frames.old) (O.written frames.new) }
+    ensures uncut { StaysWhole result (app_site app.old).work.state.fault (app_site app.new).work.state.fault }
     ensures blames { Blames result (O.faults frames.old) (O.faults frames.new) (O.at_fault frames.new) (O.written frames.new) }
 {
     for poll in 0..MORE {
@@ -76,6 +76,7 @@ fn more_where_calm<R: Wait, O: Sink, G: Gate>(
     others: Did,
 ) -> Result<(), StageError>
     ensures goes { AppGoes (app_site app.old) (app_site app.new) (O.written frames.old) (O.written frames.new) }
+    ensures uncut { StaysWhole result (app_site app.old).work.state.fault (app_site app.new).work.state.fault }
     ensures blames { Blames result (O.faults frames.old) (O.faults frames.new) (O.at_fault frames.new) (O.written frames.new) }
 {
     if did == Did::Did && others != Did::Did {
@@ -96,6 +97,7 @@ fn round<'a, R: Threads + Wait + Sync + Drop, O: Sink, G: Gate>(
     noted: &'a Noted,
 ) -> Result<Polled<'a>, StageError>
     ensures goes { AppGoes (app_site app.old) (app_site app.new) (O.written frames.old) (O.written frames.new) }
+    ensures uncut { StaysWhole result (app_site app.old).work.state.fault (app_site app.new).work.state.fault }
     ensures posts { (crews : Crews R) → ArePosts crews posts.old → ArePosts crews posts.new }
     ensures blames { Blames result (O.faults frames.old) (O.faults frames.new) (O.at_fault frames.new) (O.written frames.new) }
 {
@@ -114,6 +116,7 @@ fn turn<R: Threads + Wait + Sync + Drop, O: Sink, G: Gate>(
     frames: &mut O,
 ) -> Result<bool, StageError>
     ensures goes { AppGoes (app_site app.old) (app_site app.new) (O.written frames.old) (O.written frames.new) }
+    ensures uncut { StaysWhole result (app_site app.old).work.state.fault (app_site app.new).work.state.fault }
     ensures posts { (crews : Crews R) → ArePosts crews posts.old → ArePosts crews posts.new }
     ensures blames { Blames result (O.faults frames.old) (O.faults frames.new) (O.at_fault frames.new) (O.written frames.new) }
 {
@@ -134,6 +137,7 @@ fn run_here<R: Threads + Wait + Sync + Drop, O: Sink, G: Gate>(
     frames: &mut O,
 ) -> Result<(), StageError>
     ensures goes { AppGoes (app_site app.old) (app_site app.new) (O.written frames.old) (O.written frames.new) }
+    ensures uncut { StaysWhole result (app_site app.old).work.state.fault (app_site app.new).work.state.fault }
     ensures posts { (crews : Crews R) → ArePosts crews posts.old → ArePosts crews posts.new }
     ensures blames { Blames result (O.faults frames.old) (O.faults frames.new) (O.at_fault frames.new) (O.written frames.new) }
 {
@@ -144,13 +148,6 @@ fn run_here<R: Threads + Wait + Sync + Drop, O: Sink, G: Gate>(
         }
     }
     unreachable!()
-}
-
-/// The seats of a play, and what the application's polls came to.
-#[derive(Drop)]
-pub(crate) struct Ended<R> {
-    pub(crate) seats: AllSeats<R>,
-    pub(crate) came: Result<(), StageError>,
 }
 
 /// The stages of a crew that has all of them.
@@ -181,7 +178,38 @@ fn stages_of<R>(crew: Crew<R>) -> Stages<R>
     }
 }
 
-/// Plays with the seats of a play: starts the hosts, polls on the caller's thread what stays there, and waits for the hosts.
+/// What came back of a play: the application's seat, the crews, and what the application's polls came to.
+#[derive(Drop)]
+pub(crate) struct Ended<R> {
+    pub(crate) app: AppSeat<R>,
+    pub(crate) crews: Crews<R>,
+    pub(crate) came: Result<(), StageError>,
+}
+
+/// The seats of a play whose crews came back.
+pub(crate) fn seats_of<R: Drop>(app: AppSeat<R>, crews: Crews<R>) -> AllSeats<R>
+    requires { HasAll (all_of (crews_state crews)) }
+    ensures app { result.app ≡ app }
+    ensures crews { full_crew (cull_site result.cull) (draw_site result.draw) (dbase_site result.dbase) (probe_site result.probe)
+        ≡ all_of (crews_state crews) }
+{
+    let Stages {
+        cull,
+        draw,
+        dbase,
+        probe,
+    } = stages_of(crews.united());
+    AllSeats {
+        app,
+        cull,
+        draw,
+        dbase,
+        probe,
+    }
+}
+
+/// Plays with the seats of a play, divided into crews as the setup asks: starts the hosts, polls on the caller's thread what
+/// stays there, and waits for the hosts.
 pub(crate) fn run_all<
     R: Threads + Wait + Copy + Drop + Send + Sync + 'static,
     O: Sink,
@@ -194,7 +222,10 @@ pub(crate) fn run_all<
     seats: AllSeats<R>,
     frames: &mut O,
 ) -> Ended<R>
-    ensures go { AllGo (all_sites seats) (all_sites result.seats) (O.written frames.old) (O.written frames.new) }
+    ensures goes { AppGoes (app_site seats.app) (app_site result.app) (O.written frames.old) (O.written frames.new) }
+    ensures divided { CrewsGo (divided setup.now.mode setup.now.dbase (cull_site seats.cull) (draw_site seats.draw)
+        (dbase_site seats.dbase) (probe_site seats.probe)) (crews_state result.crews) }
+    ensures uncut { StaysWhole result.came (app_site seats.app).work.state.fault (app_site result.app).work.state.fault }
     ensures blames { Blames result.came (O.faults frames.old) (O.faults frames.new) (O.at_fault frames.new) (O.written frames.new) }
 {
     let AllSeats {
@@ -207,19 +238,6 @@ pub(crate) fn run_all<
     let crews = crews_of(setup, cull, draw, dbase, probe);
     let mut posts = posts_of(rt, alloc, common, crews);
     let came = run_here(rt, common, &mut app, &mut posts, frames);
-    let crew = posts.back(rt);
-    let Stages {
-        cull,
-        draw,
-        dbase,
-        probe,
-    } = stages_of(crew);
-    let seats = AllSeats {
-        app,
-        cull,
-        draw,
-        dbase,
-        probe,
-    };
-    Ended { seats, came }
+    let crews = posts.back(rt);
+    Ended { app, crews, came }
 }

@@ -1,15 +1,16 @@
 //! The end of a play on hosts, and what the play leaves.
-ghost use Rattle.std.specs.Prelude.{◌≡◌, ◌≢◌, ℕ, true, false, List, [], Option, OnOk};
+ghost use Rattle.std.specs.Prelude.{◌≡◌, ◌≢◌, ℕ, true, false, List, [], Option, None, OnOk};
 ghost use Rattle.std.specs.Option.{option_map};
 ghost use Rattle.seat_lock.specs.Tokens.{lock_id};
 ghost use Rattle.play_format.specs.Plays.{Script};
 ghost use Rattle.pipe_plays.specs.Plays.{CanRun, setup_of};
-ghost use Rattle.pipe_plays.specs.Played.{Blames};
+ghost use Rattle.pipe_plays.specs.Played.{Blames, StaysWhole, LeavesPipe};
 ghost use Rattle.nearest_hit.specs.declared.segment.Segment.{Segment};
-ghost use Rattle.mode_hosts.specs.Seats.{way_site};
+ghost use Rattle.mode_hosts.specs.Seats.{app_site, way_site};
+ghost use Rattle.mode_hosts.specs.Gathering.{own_seats};
 ghost use Rattle.mode_hosts.specs.Probes.{AreAllTogether, AllKeep, has_failed};
 ghost use Rattle.mode_hosts.specs.Homes.{all_sites};
-ghost use Rattle.mode_hosts.specs.Plays.{IsPlayed, IsProbed, EndBlames};
+ghost use Rattle.mode_hosts.specs.Plays.{IsProbed, EndBlames};
 
 use crate::gathering::gather;
 use crate::seats::{AllSeats, ProbeWay};
@@ -18,7 +19,7 @@ use isect_stage::laws::{answers_follow_the_application, two_links_are_one};
 use nearest_hit::Near;
 use pf_io::Sink;
 use pf_scene::Scene;
-use pipe_plays::laws::{a_pipe_shows_its_history, a_play_leaves_its_history};
+use pipe_plays::laws::a_pipe_shows_its_history;
 use pipe_plays::{PlayEnd, Played, flush_frames};
 use seat_lock::SeatLock;
 use std::alloc::Global;
@@ -49,6 +50,7 @@ fn finish<O: Sink>(
     ensures probe { OnOk result (probe_failed ≡ false) }
     ensures bytes { O.written frames.new ≡ O.written frames.old }
     ensures flushed { OnOk result (O.flushed frames.new ≡ true) }
+    ensures uncut { (fault : Option ℕ) → StaysWhole came None fault → StaysWhole result None fault }
     ensures blames { (before : ℕ)
         → Blames came before (O.faults frames.old) (O.at_fault frames.old) (O.written frames.old)
         → Blames result before (O.faults frames.new) (O.at_fault frames.new) (O.written frames.new) }
@@ -90,7 +92,8 @@ pub(crate) fn leave<R: Wait, D: Wait + Drop, O: Sink>(
     requires { AreAllTogether (lock_id lock.now) (all_sites seats) }
     ensures leaves { (play : Script) (ahead : ℕ) (probe : Option Segment) (bytes : Option (List ℕ)) → CanRun play ahead
         → AllKeep (setup_of play ahead) play.dbase probe (all_sites seats) bytes (O.written frames.old)
-        → IsPlayed play ahead result.end result.history.entries result.stats.items bytes (O.written frames.new) }
+        → StaysWhole came None (app_site seats.app).work.state.fault
+        → LeavesPipe play ahead own_seats result.end result.history.entries result.stats.items bytes (O.written frames.new) }
     ensures probes { (play : Script) (ahead : ℕ) (probe : Option Segment) (bytes : Option (List ℕ)) → CanRun play ahead
         → AllKeep (setup_of play ahead) play.dbase probe (all_sites seats) bytes (O.written frames.old)
         → IsProbed play.channels probe result.end result.history.entries result.probes.items }
@@ -99,7 +102,6 @@ pub(crate) fn leave<R: Wait, D: Wait + Drop, O: Sink>(
         → Blames came before (O.faults frames.old) (O.at_fault frames.old) (O.written frames.old)
         → EndBlames result.end before (O.faults frames.new) (O.at_fault frames.new) (O.written frames.new) }
 {
-    a_play_leaves_its_history();
     a_pipe_shows_its_history();
     answers_follow_the_application();
     two_links_are_one();

@@ -15,6 +15,7 @@ mod modes;
 mod opening;
 mod parts;
 mod playing;
+mod post;
 mod posts;
 mod seats;
 mod words;

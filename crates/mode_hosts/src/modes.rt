@@ -1,7 +1,7 @@
 //! How the stages are divided among hosts.
 ghost use Rattle.std.specs.Prelude.{◌≡◌, None, Some};
 ghost use Rattle.std.specs.Option.{option_map};
-ghost use Rattle.mode_hosts.specs.Seats.{cull_site, draw_site, dbase_site, probe_site};
+ghost use Rattle.mode_hosts.specs.Seats.{cull_site, draw_site, dbase_site, probe_site, crew_state};
 ghost use Rattle.mode_hosts.specs.Crews.{divided, unless, only_if, all_of, full_crew};
 ghost use Rattle.mode_hosts.specs.Posts.{crews_state};
 
@@ -47,6 +47,22 @@ pub(crate) struct Crews<R> {
     pub(crate) draw: Crew<R>,
     pub(crate) dbase: Crew<R>,
     pub(crate) probe: Crew<R>,
+}
+
+impl<R: Drop> Crews<R> {
+    /// All crews as one.
+    pub(crate) fn united(self) -> Crew<R>
+        ensures { crew_state result ≡ all_of (crews_state self) }
+    {
+        let Crews {
+            caller,
+            cull,
+            draw,
+            dbase,
+            probe,
+        } = self;
+        caller.united(cull).united(draw.united(dbase.united(probe)))
+    }
 }
 
 /// The database process, with the caller or with a host of its own.

@@ -1,5 +1,5 @@
 //! The seats of a play, before its first step.
-ghost use Rattle.std.specs.Prelude.{◌≡◌, ◌+◌, ◌≤◌, ℕ, [], IfOk, IfSome, List, Option};
+ghost use Rattle.std.specs.Prelude.{◌≡◌, ◌+◌, ◌≤◌, ℕ, [], IfOk, IfSome, List, Option, None};
 ghost use Rattle.std.specs.Option.{option_map};
 ghost use Rattle.std.specs.Arc.{arc_value};
 ghost use Rattle.seat_lock.specs.Tokens.{lock_id};
@@ -9,7 +9,7 @@ ghost use Rattle.pf_scene.specs.Scenes.{IsSmall};
 ghost use Rattle.pipe_plays.specs.Plays.{setup_of};
 ghost use Rattle.nearest_hit.specs.declared.segment.Segment.{Segment};
 ghost use Rattle.mode_hosts.specs.Works.{limit_of};
-ghost use Rattle.mode_hosts.specs.Seats.{any_cull, way_site};
+ghost use Rattle.mode_hosts.specs.Seats.{app_site, any_cull, way_site};
 ghost use Rattle.mode_hosts.specs.Probes.{AreAllTogether, AllKeep};
 ghost use Rattle.mode_hosts.specs.Homes.{all_sites, seats_of};
 ghost use Rattle.mode_hosts.specs.Deals.{IsNewWay};
@@ -175,6 +175,7 @@ pub(crate) fn open<D: Wait + Copy + Drop>(
     ensures play { IsPlay play }
     ensures together { IfOk result (λ o. AreAllTogether (lock_id (arc_value o.lock)) (all_sites o.seats)) }
     ensures limit { IfOk result (λ o. limit_of (any_cull o.seats.cull.stage) ≡ setup.now.stream) }
+    ensures uncut { IfOk result (λ o. (app_site o.seats.app).work.state.fault ≡ None) }
     ensures keeps { IfOk result (λ o. (bytes : Option (List ℕ))
         → AllKeep (setup_of play setup.now.ahead) play.dbase setup.now.probe (all_sites o.seats) bytes bytes) }
 {

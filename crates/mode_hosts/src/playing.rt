@@ -1,5 +1,5 @@
 //! Whole plays on hosts.
-ghost use Rattle.std.specs.Prelude.{◌≡◌, ◌≢◌, ◌≤◌, ℕ, true, List, [], Option, IfOk, IfSome, IfNone};
+ghost use Rattle.std.specs.Prelude.{◌≡◌, ◌≢◌, ◌≤◌, ℕ, true, List, [], Option, None, IfOk, IfSome, IfNone};
 ghost use Rattle.std.specs.Arc.{arc_value};
 ghost use Rattle.std.specs.List.{concat};
 ghost use Rattle.std.specs.Io.KnownBytes.{append_known};
@@ -12,20 +12,23 @@ ghost use Rattle.play_check.specs.Stuck.{IsStuck};
 ghost use Rattle.stage_parts.specs.Pictures.{pictures, frame_numbers};
 ghost use Rattle.pf_scene.specs.Scenes.{IsSmall};
 ghost use Rattle.pipe_plays.specs.Plays.{setup_of};
-ghost use Rattle.pipe_plays.specs.Played.{AddsFront, KeepsNumbers};
+ghost use Rattle.pipe_plays.specs.Played.{AddsFront, KeepsNumbers, LeavesPipe};
 ghost use Rattle.isect_stage.specs.Asking.{nearest_hits};
+ghost use Rattle.mode_hosts.specs.Works.{limit_of};
+ghost use Rattle.mode_hosts.specs.Seats.{app_site, any_cull};
+ghost use Rattle.mode_hosts.specs.Gathering.{own_seats};
 ghost use Rattle.mode_hosts.specs.Probes.{AreAllTogether, AllKeep};
 ghost use Rattle.mode_hosts.specs.Homes.{all_sites};
 
 use crate::bell::Bell;
-use crate::caller::run_all;
+use crate::caller::{Ended, run_all, seats_of};
 use crate::hosts::Common;
 use crate::leaving::leave;
 use crate::modes::Setup;
 use crate::opening::{Opened, open};
 use pf_history::History;
 use pf_io::{Gate, NoMemory, Sink};
-use pipe_plays::laws::a_play_not_begun_leaves_nothing;
+use pipe_plays::laws::{a_play_leaves_its_history, a_play_not_begun_leaves_nothing};
 use pipe_plays::{PlayEnd, Played};
 use play_format::Play;
 use std::alloc::Global;
@@ -51,6 +54,8 @@ fn get_ready<R: Wait + Copy + Drop, G: Drop>(
     requires stream { IfSome setup.now.stream (λ n. (1 ≤ n) × (n ≤ 4096)) }
     ensures play { IsPlay play }
     ensures together { IfOk result (λ r. AreAllTogether (lock_id (arc_value r.opened.lock)) (all_sites r.opened.seats)) }
+    ensures limit { IfOk result (λ r. limit_of (any_cull r.opened.seats.cull.stage) ≡ setup.now.stream) }
+    ensures uncut { IfOk result (λ r. (app_site r.opened.seats.app).work.state.fault ≡ None) }
     ensures keeps { IfOk result (λ r. (bytes : Option (List ℕ))
         → AllKeep (setup_of play setup.now.ahead) play.dbase setup.now.probe (all_sites r.opened.seats) bytes bytes) }
 {
@@ -81,15 +86,20 @@ pub fn play_all<
     ensures wholly { result.end ≡ PlayEnd.Done
         → FitsWholly play.channels setup.now.ahead play.app play.dbase result.history.entries }
 
-    // The stream is the pictures of the history, or a front of them.
-    ensures front { AddsFront play result.history.entries (O.written frames.old) (O.written frames.new) }
+    // Some pipe that fits the play, whose stages have desks of their own, has this history, these numbers and this stream.
+    ensures pipe { LeavesPipe play setup.now.ahead own_seats result.end result.history.entries result.stats.items
+        (O.written frames.old) (O.written frames.new) }
+
+    // The stream is whole pictures of the history, and a prefix of the next one only where a fault of the sink cut it short.
+    ensures front { AddsFront play result.end result.history.entries (O.written frames.old) (O.written frames.new) }
     ensures whole { result.end ≡ PlayEnd.Done → O.written frames.new ≡ append_known (O.written frames.old)
         (concat (pictures play.channels play.lens play.back result.history.entries)) }
     ensures stats { result.end ≡ PlayEnd.Done
         → result.stats.items ≡ frame_numbers play.channels play.lens result.history.entries }
 
     // Whatever the end, the numbers are those of the frames that came back: the first of the history's.
-    ensures numbers { KeepsNumbers play result.history.entries result.stats.items (O.written frames.old) (O.written frames.new) }
+    ensures numbers { KeepsNumbers play result.end result.history.entries result.stats.items
+        (O.written frames.old) (O.written frames.new) }
 
     // Where it is done, the last call on the sink was a flush that succeeded.
     ensures flushed { result.end ≡ PlayEnd.Done → O.flushed frames.new ≡ true }
@@ -106,13 +116,15 @@ pub fn play_all<
     ensures last { result.end ≡ PlayEnd.FrameFault → O.at_fault frames.new ≡ O.written frames.new }
     ensures calm { result.end ≢ PlayEnd.FrameFault → Calm (O.faults frames.old) (O.faults frames.new) }
 {
+    a_play_leaves_its_history();
     a_play_not_begun_leaves_nothing();
     match get_ready(alloc, rt, play, setup, gate) {
         Ok(ready) => {
             let Ready { opened, common } = ready;
             let Opened { lock, seats } = opened;
-            let ended = run_all(rt, alloc, &common, setup, seats, frames);
-            leave(rt, alloc, &lock, ended.seats, ended.came, frames)
+            let Ended { app, crews, came } = run_all(rt, alloc, &common, setup, seats, frames);
+            let seats = seats_of(app, crews);
+            leave(rt, alloc, &lock, seats, came, frames)
         }
         Err(NoMemory) => Played {
             end: PlayEnd::NoMemory,

@@ -1,6 +1,6 @@
 //! Each stage at its desk, between its links.
 ghost use Rattle.std.specs.Prelude.{◌≡◌};
-ghost use Rattle.pipe_plays.specs.Played.{Blames};
+ghost use Rattle.pipe_plays.specs.Played.{Blames, StaysWhole};
 ghost use Rattle.mode_hosts.specs.Sites.{AppGoes, AnyCullGoes, AnyDrawGoes, DbaseGoes, Rests, WayGoes, ProbeGoes};
 ghost use Rattle.mode_hosts.specs.Seats.{place_of, app_site, cull_site, draw_site, dbase_site, way_site, probe_site};
 
@@ -81,6 +81,7 @@ impl<R: Wait> AppSeat<R> {
         gate: &G,
     ) -> Result<Did, StageError>
         ensures goes { AppGoes (app_site self.old) (app_site self.new) (O.written frames.old) (O.written frames.new) }
+        ensures uncut { StaysWhole result (app_site self.old).work.state.fault (app_site self.new).work.state.fault }
         ensures blames { Blames result (O.faults frames.old) (O.faults frames.new) (O.at_fault frames.new) (O.written frames.new) }
     {
         self.stage

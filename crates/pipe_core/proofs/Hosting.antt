@@ -14,9 +14,9 @@ use Rattle.stage_parts.specs.Pictures.{pictures, streamed}
 use Rattle.pipe_plays.specs.declared.played.PlayEnd.{PlayEnd}
 use Rattle.pipe_plays.specs.declared.played.PlayEnd.TheVariants as ends
 use Rattle.pipe_plays.specs.Plays.{CanRun}
-use Rattle.pipe_plays.specs.Played.{end_of}
-use Rattle.pipe_plays.specs.Laws.{ShownLaw, Leaves, LeavesAll, LeavesLaw}
-use Rattle.pipe_plays.proofs.Ended.{done_only}
+use Rattle.pipe_plays.specs.Played.{end_of, StaysWhole, LeavesPipe}
+use Rattle.pipe_plays.specs.Laws.{ShownLaw}
+use Rattle.pipe_plays.proofs.Ended.{done_only, uncut}
 use Rattle.pipe_core.specs.declared.events.Event.{Event}
 use Rattle.pipe_core.specs.declared.events.Event.TheVariants as event
 use Rattle.pipe_core.specs.Cores.{CoreState, CoreFits, HasEnded, HaveAllEnded, one_seat}
@@ -173,30 +173,21 @@ gives_stream law play ahead p q bytes bytes' can keeps log goes =
     goes.wrote.stream ∙ ap (λ (l : List ℕ). l ++ more) (opens_empty law play ahead p can keeps log) in
     goes.wrote.wrote ∙ ap (append_known bytes) (sym all)
 
--- What a play that came to this leaves.
-pub record IsTold (play : Script) (ahead : ℕ) (end : PlayEnd) (log : Log) (stats : List Stats) (bytes bytes' : Option (List ℕ)) : Type 0 where
-  pub now : Leaves play ahead log stats bytes bytes'
-  pub all : end ≡ ends.Done → LeavesAll play ahead log stats bytes bytes'
-
-tells : {A : Type 0} → ShownLaw → LeavesLaw → (play : Script) (ahead : ℕ) (p q : PipeWork) (came : Result A StageError) (bytes bytes' : Option (List ℕ)) →
-    CanRun play ahead → PipeKeeps play ahead p → p.scene.shared.log ≡ [] → GoesOn play ahead p q bytes bytes' →
-    OnOk came (HaveAllEnded play (core_of play q).pipe) → IsTold play ahead (end_of came) q.scene.shared.log q.app.state.stats bytes bytes'
-tells law leaves play ahead p q came bytes bytes' can keeps log goes ended =
-    let left = leaves play ahead one_seat (core_of play q).pipe bytes bytes' can goes.keeps.core.pipe
-    (gives_stream law play ahead p q bytes bytes' can keeps log goes) in
-    record {
-      now = left.now;
-      all = λ is.
-          let all = done_only came (HaveAllEnded play (core_of play q).pipe) ended is in
-          left.at_end (record { app = all event.App; dbase = all event.Dbase });
-    }
-
-pub told : {A : Type 0} → ShownLaw → LeavesLaw → (play : Script) (ahead : ℕ) (p q : PipeWork) (came : Result A StageError) (bytes bytes' : Option (List ℕ))
+-- what a play leaves that came to this
+pub leaves_pipe : {A : Type 0} → ShownLaw → (play : Script) (ahead : ℕ) (p q : PipeWork) (came : Result A StageError) (bytes bytes' : Option (List ℕ))
     (end : PlayEnd) (log : Log) (stats : List Stats) → CanRun play ahead → PipeKeeps play ahead p → p.scene.shared.log ≡ [] →
-    GoesOn play ahead p q bytes bytes' → OnOk came (HaveAllEnded play (core_of play q).pipe) →
-    end ≡ end_of came → log ≡ q.scene.shared.log → stats ≡ q.app.state.stats → IsTold play ahead end log stats bytes bytes'
-told law leaves play ahead p q came bytes bytes' end log stats can keeps none goes ended is_end is_log is_stats =
-    subst (λ (e : PlayEnd). IsTold play ahead e log stats bytes bytes') (sym is_end)
-    (subst (λ (l : Log). IsTold play ahead (end_of came) l stats bytes bytes') (sym is_log)
-    (subst (λ (s : List Stats). IsTold play ahead (end_of came) q.scene.shared.log s bytes bytes') (sym is_stats)
-    (tells law leaves play ahead p q came bytes bytes' can keeps none goes ended)))
+    p.app.state.fault ≡ None → GoesOn play ahead p q bytes bytes' → StaysWhole came p.app.state.fault q.app.state.fault →
+    OnOk came (HaveAllEnded play (core_of play q).pipe) → end ≡ end_of came → log ≡ q.scene.shared.log → stats ≡ q.app.state.stats →
+    LeavesPipe play ahead one_seat end log stats bytes bytes'
+leaves_pipe law play ahead p q came bytes bytes' end log stats can keeps none whole goes uncut_now ended is_end is_log is_stats =
+    record {
+      pipe = (core_of play q).pipe;
+      fits = goes.keeps.core.pipe;
+      history = sym is_log;
+      numbers = sym is_stats;
+      stream = gives_stream law play ahead p q bytes bytes' can keeps none goes;
+      cut = uncut came end q.app.state.fault (subst (λ (f : Option ℕ). StaysWhole came f q.app.state.fault) whole uncut_now) is_end;
+      done = λ is.
+          let all = done_only came (HaveAllEnded play (core_of play q).pipe) ended (sym is_end ∙ is) in
+          record { app = all event.App; dbase = all event.Dbase };
+    }

@@ -17,9 +17,10 @@ use Rattle.stage_parts.specs.Answers.{is_over}
 use Rattle.frame_stages.specs.Looks.{log_of, FoundMark}
 use Rattle.frame_stages.specs.Flights.{SinkSide}
 use Rattle.frame_stages.specs.AppWorks.{AppWork, is_done}
-use Rattle.frame_stages.specs.AppAnswers.{Ends, Around, AppAnswers, Polled}
+use Rattle.frame_stages.specs.AppAnswers.{Ends, Around, AppAnswers, is_fault, Polled}
 use Rattle.frame_stages.specs.DbaseWorks.{DbaseHolds, is_ended}
 use Rattle.frame_stages.specs.DbaseAnswers.{IsDbaseAnswer}
+use Rattle.pipe_plays.specs.Played.{StaysWhole}
 use Rattle.pipe_core.specs.declared.events.Event.TheVariants as event
 use Rattle.pipe_core.specs.Pipes.{PipeWork, PipeKeeps, Lifted, AppLifted}
 use Rattle.pipe_core.proofs.AppLifts.{before_poll, after_poll, applied, app_lifts}
@@ -38,6 +39,12 @@ app_calm (Ok did.NotYet) k old new before after answer none = ap (λ (x : Ends).
 app_calm (Ok did.Over) k old new before after answer none = ap (λ (x : Ends). x.sink.faults) answer.ends
 app_calm (Err error.NoMemory) k old new before after answer none = ap (λ (x : Ends). x.sink.faults) answer.ends
 app_calm (Err error.FrameFault) k old new before after answer none = absurd (none refl)
+
+-- only a fault of the sink cuts a picture short
+pub app_uncut : (result : Result Did StageError) (before now : Option ℕ) → (is_fault result ≡ false → now ≡ before) → StaysWhole result before now
+app_uncut (Ok did) before now same = same refl
+app_uncut (Err error.NoMemory) before now same = same refl
+app_uncut (Err error.FrameFault) before now same = tt
 
 -- nothing was written after a fault
 pub app_last : (result : Result Did StageError) (k : ℕ) (old new : AppWork) (before after : Around) → AppAnswers result k old new before after →

@@ -9,10 +9,10 @@ ghost use Rattle.play_format.specs.Plays.{Script, IsPlay};
 ghost use Rattle.play_check.specs.Stuck.{IsStuck};
 ghost use Rattle.stage_parts.specs.Pictures.{pictures, frame_numbers};
 ghost use Rattle.pipe_plays.specs.Plays.{CanRun};
-ghost use Rattle.pipe_core.specs.Cores.{HaveAllEnded};
+ghost use Rattle.pipe_core.specs.Cores.{one_seat, HaveAllEnded};
 ghost use Rattle.pipe_core.specs.Laws.{steps_in};
 ghost use Rattle.pipe_core.specs.Pipes.{core_of, PipeKeeps};
-ghost use Rattle.pipe_plays.specs.Played.{AddsFront, KeepsNumbers, Blames};
+ghost use Rattle.pipe_plays.specs.Played.{AddsFront, KeepsNumbers, LeavesPipe, Blames, StaysWhole};
 ghost use Rattle.pipe_core.specs.Hosts.{all_events, GoesOn, ArePolled};
 
 use crate::events::Event;
@@ -47,6 +47,7 @@ fn poll_each<R: Threads + Sync, O: Sink, G: Gate>(
         → GoesOn play ahead pipe.old pipe.new (O.written frames.old) (O.written frames.new) }
     ensures polled { (play : Script) (ahead : ℕ) → CanRun play ahead → PipeKeeps play ahead pipe.old
         → IfOk result (λ over. ArePolled play ahead events.now over (core_of play pipe.old) (core_of play pipe.new)) }
+    ensures uncut { StaysWhole result pipe.old.app.state.fault pipe.new.app.state.fault }
     ensures blames { Blames result (O.faults frames.old) (O.faults frames.new) (O.at_fault frames.new) (O.written frames.new) }
 {
     let mut over = true;
@@ -68,6 +69,7 @@ fn round<R: Threads + Sync, O: Sink, G: Gate>(
         → GoesOn play ahead pipe.old pipe.new (O.written frames.old) (O.written frames.new) }
     ensures polled { (play : Script) (ahead : ℕ) → CanRun play ahead → PipeKeeps play ahead pipe.old
         → IfOk result (λ over. ArePolled play ahead all_events over (core_of play pipe.old) (core_of play pipe.new)) }
+    ensures uncut { StaysWhole result pipe.old.app.state.fault pipe.new.app.state.fault }
     ensures blames { Blames result (O.faults frames.old) (O.faults frames.new) (O.at_fault frames.new) (O.written frames.new) }
 {
     poll_each(
@@ -92,6 +94,7 @@ fn rounds<R: Threads + Sync, O: Sink, G: Gate>(
     ensures ended { (play : Script) (ahead : ℕ) → CanRun play ahead → (IsStuck play.app play.dbase → ⊥)
         → PipeKeeps play ahead pipe.old → (core_of play pipe.old).stopped ≡ false → 16 * (steps_in play + 1) ≤ most
         → OnOk result (HaveAllEnded play (core_of play pipe.new).pipe) }
+    ensures uncut { StaysWhole result pipe.old.app.state.fault pipe.new.app.state.fault }
     ensures blames { Blames result (O.faults frames.old) (O.faults frames.new) (O.at_fault frames.new) (O.written frames.new) }
 {
     for _made in 0..most {
@@ -117,6 +120,7 @@ fn run<R: Threads + Sync, O: Sink, G: Gate>(
         → PipeKeeps play ahead pipe.old → (core_of play pipe.old).stopped ≡ false → 16 * (steps_in play + 1) ≤ most
         → OnOk result (HaveAllEnded play (core_of play pipe.new).pipe) }
     ensures flushed { OnOk result (O.flushed frames.new ≡ true) }
+    ensures uncut { StaysWhole result pipe.old.app.state.fault pipe.new.app.state.fault }
     ensures blames { Blames result (O.faults frames.old) (O.faults frames.new) (O.at_fault frames.new) (O.written frames.new) }
 {
     rounds(pipe, rt, most, frames, gate)?;
@@ -151,15 +155,20 @@ pub fn play_all<R: Threads + Sync, O: Sink, G: Gate>(
     ensures wholly { result.end ≡ PlayEnd.Done
         → FitsWholly play.channels ahead play.app play.dbase result.history.entries }
 
-    // The stream is the pictures of the history, or a front of them.
-    ensures front { AddsFront play result.history.entries (O.written frames.old) (O.written frames.new) }
+    // Some pipe that fits the play, whose stages have one desk, has this history, these numbers and this stream.
+    ensures pipe { LeavesPipe play ahead one_seat result.end result.history.entries result.stats.items
+        (O.written frames.old) (O.written frames.new) }
+
+    // The stream is whole pictures of the history, and a prefix of the next one only where a fault of the sink cut it short.
+    ensures front { AddsFront play result.end result.history.entries (O.written frames.old) (O.written frames.new) }
     ensures whole { result.end ≡ PlayEnd.Done → O.written frames.new ≡ append_known (O.written frames.old)
         (concat (pictures play.channels play.lens play.back result.history.entries)) }
     ensures stats { result.end ≡ PlayEnd.Done
         → result.stats.items ≡ frame_numbers play.channels play.lens result.history.entries }
 
     // Whatever the end, the numbers are those of the frames that came back: the first of the history's.
-    ensures numbers { KeepsNumbers play result.history.entries result.stats.items (O.written frames.old) (O.written frames.new) }
+    ensures numbers { KeepsNumbers play result.end result.history.entries result.stats.items
+        (O.written frames.old) (O.written frames.new) }
 
     // There is no probe.
     ensures probes { result.probes.items ≡ [] }

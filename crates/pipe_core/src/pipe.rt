@@ -1,10 +1,11 @@
 //! The pipe on one thread.
-ghost use Rattle.std.specs.Prelude.{◌≡◌, ℕ, ◌+◌, ◌≤◌, false, [], Err, IfOk, OnOk, IfErr};
+ghost use Rattle.std.specs.Prelude.{◌≡◌, ℕ, ◌+◌, ◌≤◌, false, [], None, Err, IfOk, OnOk, IfErr};
 ghost use Rattle.pf_io.specs.Causes.{Rose, Calm};
 ghost use Rattle.play_format.specs.Plays.{Script};
 ghost use Rattle.pf_scene.specs.Scenes.{IsSmall};
 ghost use Rattle.stage_parts.specs.declared.answers.StageError.TheVariants as error;
 ghost use Rattle.pipe_plays.specs.Plays.{CanRun};
+ghost use Rattle.pipe_plays.specs.Played.{StaysWhole};
 ghost use Rattle.pipe_core.specs.Runs.{Ran};
 ghost use Rattle.pipe_core.specs.Pipes.{core_of, PipeKeeps, Lifted, IsWritten, AppLifted, FailsAt, link_work, opening_link, opening_scene};
 ghost use Rattle.pipe_core.specs.declared.events.Event.TheVariants as event;
@@ -97,6 +98,7 @@ impl Pipe {
         ensures keeps { IfOk result (λ p. PipeKeeps play ahead p) }
         ensures unset { IfOk result (λ p. (core_of play p).stopped ≡ false) }
         ensures log { IfOk result (λ p. p.scene.shared.log ≡ []) }
+        ensures uncut { IfOk result (λ p. p.app.state.fault ≡ None) }
     {
         let lens = play.lens();
         let back = play.back();
@@ -139,6 +141,7 @@ impl Pipe {
     fn app_event<O: Sink, G: Gate>(&mut self, frames: &mut O, gate: &G) -> Result<Did, StageError>
         ensures lifted { (play : Script) (ahead : ℕ) → 1 ≤ ahead → PipeKeeps play ahead self.old
             → AppLifted play ahead result self.old self.new (O.written frames.old) (O.written frames.new) }
+        ensures uncut { StaysWhole result self.old.app.state.fault self.new.app.state.fault }
         ensures fault { result ≡ Err error.FrameFault → Rose (O.faults frames.old) (O.faults frames.new) }
         ensures last { result ≡ Err error.FrameFault → O.at_fault frames.new ≡ O.written frames.new }
         ensures calm { (result ≡ Err error.FrameFault → ⊥) → Calm (O.faults frames.old) (O.faults frames.new) }
@@ -159,6 +162,7 @@ impl Pipe {
         ensures lifted { (play : Script) (ahead : ℕ) → PipeKeeps play ahead self.old
             → Lifted play ahead event.Cull result self.old self.new }
         ensures stream { (play : Script) → (core_of play self.new).pipe.stream ≡ (core_of play self.old).pipe.stream }
+        ensures uncut { self.new.app.state.fault ≡ self.old.app.state.fault }
         ensures whole { result ≡ Err error.FrameFault → ⊥ }
     {
         self.cull
@@ -174,6 +178,7 @@ impl Pipe {
         ensures lifted { (play : Script) (ahead : ℕ) → PipeKeeps play ahead self.old
             → Lifted play ahead event.Draw result self.old self.new }
         ensures stream { (play : Script) → (core_of play self.new).pipe.stream ≡ (core_of play self.old).pipe.stream }
+        ensures uncut { self.new.app.state.fault ≡ self.old.app.state.fault }
         ensures whole { result ≡ Err error.FrameFault → ⊥ }
     {
         self.draw.poll(rt, &mut self.desk, &mut self.to_draw, &mut self.back, gate)
@@ -184,6 +189,7 @@ impl Pipe {
         ensures lifted { (play : Script) (ahead : ℕ) → PipeKeeps play ahead self.old
             → Lifted play ahead event.Dbase result self.old self.new }
         ensures stream { (play : Script) → (core_of play self.new).pipe.stream ≡ (core_of play self.old).pipe.stream }
+        ensures uncut { self.new.app.state.fault ≡ self.old.app.state.fault }
         ensures whole { result ≡ Err error.FrameFault → ⊥ }
     {
         let result = self.dbase.poll(&mut self.desk, gate);
@@ -203,6 +209,7 @@ impl Pipe {
             → Lifted play ahead event result self.old self.new }
         ensures wrote { (play : Script) (ahead : ℕ) → CanRun play ahead → PipeKeeps play ahead self.old
             → IsWritten (O.written frames.old) (O.written frames.new) (core_of play self.old) (core_of play self.new) }
+        ensures uncut { StaysWhole result self.old.app.state.fault self.new.app.state.fault }
         ensures fault { result ≡ Err error.FrameFault → Rose (O.faults frames.old) (O.faults frames.new) }
         ensures last { result ≡ Err error.FrameFault → O.at_fault frames.new ≡ O.written frames.new }
         ensures calm { (result ≡ Err error.FrameFault → ⊥) → Calm (O.faults frames.old) (O.faults frames.new) }

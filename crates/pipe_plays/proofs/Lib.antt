@@ -1,5 +1,4 @@
 pub mod Counts
 pub mod Ranges
-pub mod Nothing
 pub mod Shows
 pub mod Ended

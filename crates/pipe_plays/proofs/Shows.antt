@@ -1,6 +1,6 @@
 -- What a pipe that fits its play shows, and what the play leaves.
-use Rattle.std.proofs.Common.{◌≡◌, ℕ, suc, ◌≤◌, false, cond, List, [], ◌∷◌, ◌++◌, map, take, drop, slice_get, Some, None, refl, sym, ap, ◌∙◌, subst, arith}
-use Rattle.std.proofs.lemmas.List.{take-append-drop}
+use Rattle.std.proofs.Common.{◌≡◌, ◌≢◌, ℕ, suc, ◌≤◌, false, cond, List, [], ◌∷◌, ◌++◌, map, take, drop, replicate, slice_get, Option, Some, None, refl, sym, ap, ◌∙◌, subst, arith}
+use Rattle.std.proofs.lemmas.List.{take-append-drop, length-replicate}
 use Rattle.std.specs.Io.KnownBytes.{append_known}
 use Rattle.pf_io.proofs.Known.{append_known-nil}
 use Rattle.pf_model.specs.declared.lines.AppLine.{AppLine}
@@ -17,14 +17,18 @@ use Rattle.stage_parts.specs.Laws.{CullingKeepsPictures, HasEditsInRange, HasPic
 use Rattle.stage_parts.specs.Pictures.{frame_numbers}
 use Rattle.stage_parts.specs.States.{Seats, PipeState, still_asked}
 use Rattle.stage_parts.specs.Gathering.{IsCounted}
-use Rattle.stage_parts.proofs.DbaseSteps.{lines_law, take_get}
+use Rattle.stage_parts.specs.Loads.{LoadState}
+use Rattle.stage_parts.specs.DbaseSteps.{opening_pipe}
+use Rattle.stage_parts.proofs.DbaseSteps.{lines_law, take_get, opening_law}
 use Rattle.stage_parts.proofs.Gathering.{gathering_law}
 use Rattle.stage_parts.proofs.Counting.{counting_law}
 use Rattle.stage_parts.proofs.Streams.{stream_law}
-use Rattle.pipe_plays.specs.Plays.{setup_of, CanRun, FitsItsPlay}
+use Rattle.draw_list.specs.declared.stats.Stats.{Stats}
+use Rattle.pipe_plays.specs.declared.played.PlayEnd.{PlayEnd}
+use Rattle.pipe_plays.specs.declared.played.PlayEnd.TheVariants as ends
+use Rattle.pipe_plays.specs.Plays.{setup_of, CanRun, FitsItsPlay, AreDone}
 use Rattle.pipe_plays.specs.Played.{AddsFront}
-use Rattle.pipe_plays.specs.Laws.{ShownLaw, AreDone, LeavesLaw, NothingLaw, FreedLaw}
-use Rattle.pipe_plays.proofs.Nothing.{nothing_fits}
+use Rattle.pipe_plays.specs.Laws.{ShownLaw, IsLeft, LeavesLaw, NothingLaw, FreedLaw}
 use Rattle.pipe_plays.proofs.Ranges.{asked_right, merges_right, log_right}
 
 counted : (play : Script) (ahead : ℕ) (seats : Seats) (s : PipeState) → FitsItsPlay play ahead seats s → IsCounted (setup_of play ahead) seats s
@@ -72,18 +76,22 @@ shown_law culling play ahead seats s can fits =
 
 -- What a play leaves
 
-pub leaves_law : CullingKeepsPictures → LeavesLaw
-leaves_law culling play ahead seats s old new can fits is =
+-- what is left of a pipe that fits
+left_of : CullingKeepsPictures → (play : Script) (ahead : ℕ) (seats : Seats) (end : PlayEnd) (s : PipeState) (old new : Option (List ℕ)) →
+    CanRun play ahead → FitsItsPlay play ahead seats s → new ≡ append_known old s.stream → (end ≢ ends.FrameFault → s.app.fault ≡ None) →
+    (end ≡ ends.Done → AreDone play s) → IsLeft play ahead end s.log s.app.stats old new
+left_of culling play ahead seats end s old new can fits is cut done =
     let shown = shown_law culling play ahead seats s can fits in
     let shows = shown.now.shows in
     let many = fits.stream.all in
     let begun = fits.stream.begun in
     let frames = (counted play ahead seats s fits).state.frames in
-    let front : AddsFront play s.log old new =
+    let front : AddsFront play end s.log old new =
     record {
       written = s.app.written;
       fault = s.app.fault;
       bytes = is ∙ ap (append_known old) shows.front;
+      cut = cut;
       begun = shows.written;
       retired = shows.retired;
     } in
@@ -98,20 +106,42 @@ leaves_law culling play ahead seats s old new can fits is =
           numbers = shows.numbers ∙ ap (λ (n : ℕ). take n (frame_numbers play.channels play.lens s.log)) (sym many);
         };
       };
-      at_end = λ done.
-          let all = shown.at_end done in
+      all = λ end_is.
+          let all = shown.at_end (done end_is) in
           record { wholly = all.wholly; whole = is ∙ ap (append_known old) all.stream; all_numbers = all.numbers };
     }
 
-pub nothing_law : NothingLaw
-nothing_law play ahead bytes =
-    let front : AddsFront play [] bytes bytes =
-    record { written = 0; fault = None; bytes = sym (append_known-nil bytes); begun = omega arith; retired = omega arith } in
+pub leaves_law : CullingKeepsPictures → LeavesLaw
+leaves_law culling play ahead seats end log stats old new can left =
+    let s = left.pipe in
+    subst (λ (l : Log). IsLeft play ahead end l stats old new) left.history
+    (subst (λ (kept : List Stats). IsLeft play ahead end s.log kept old new) left.numbers
+    (left_of culling play ahead seats end s old new can left.fits left.stream left.cut left.done))
+
+-- a load of nothing
+no_load : LoadState
+no_load =
     record {
-      legal = tt;
-      fits = nothing_fits play.channels ahead play.app play.dbase;
-      front = front;
-      numbers = record { front = front; begun = omega arith; numbers = refl };
+      cut = record { frame = 0; views = []; size = 0; tris = 0; updates = [] };
+      lists = [];
+      images = [];
+      bytes = [];
+      stats = record { shown = 0; states = 0; visited = 0 };
+    }
+
+pub nothing_law : NothingLaw
+nothing_law play ahead seats bytes =
+    let g = setup_of play ahead in
+    let loads = replicate ahead no_load in
+    record {
+      pipe = opening_pipe loads;
+      fits = (gathering_law g play.dbase seats (opening_pipe loads)).fits
+          (opening_law g play.dbase seats loads refl (length-replicate ahead no_load));
+      history = refl;
+      numbers = refl;
+      stream = sym (append_known-nil bytes);
+      cut = λ other. refl;
+      done = λ is. absurd (let clash : ends.NoMemory ≡ ends.Done = is in cc);
     }
 
 -- Freed serials

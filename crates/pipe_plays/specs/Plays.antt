@@ -1,5 +1,5 @@
 -- What a pipe is given of a play.
-use Rattle.std.specs.Prelude.{ℕ, length}
+use Rattle.std.specs.Prelude.{◌≡◌, ℕ, ◌≤◌, true, length}
 use Rattle.pf_history.specs.Asks.{asked_dbase}
 use Rattle.play_format.specs.Plays.{Script, IsPlay}
 use Rattle.pf_scene.specs.Scenes.{IsSmall}
@@ -26,3 +26,8 @@ pub record CanRun (play : Script) (ahead : ℕ) : Type 0 where
 -- a pipe fits its play
 abbrev pub FitsItsPlay : Script → ℕ → Seats → PipeState → Type 0
 FitsItsPlay play ahead seats s = PipeFits (setup_of play ahead) play.dbase seats s
+
+-- APP has sent its End, and DBASE's list is done.
+pub record AreDone (play : Script) (s : PipeState) : Type 0 where
+  pub app : s.app.ended ≡ true
+  pub dbase : length play.dbase ≤ s.dbase.at

@@ -7,14 +7,17 @@ pub loop-poll-init : goal.loop-poll-init
 loop-poll-init g c =
     record {
       calm = refl;
+      uncut = refl;
       goes = app_self (app_site c.args.app.now) (g.O.Sink.written c.args.frames.now);
     }
 
 pub loop-poll-preserved : goal.loop-poll-preserved
 loop-poll-preserved g c =
     let calm : g.O.Sink.faults c.poll_app.new.frames ≡ g.O.Sink.faults c.loop-poll.frames = c.in_ok-did.ensures.blames in
+    let uncut : (app_site c.poll_app.new.app).work.state.fault ≡ (app_site c.loop-poll.app).work.state.fault = c.in_ok-did.ensures.uncut in
     record {
       calm = calm ∙ c.loop-poll.invariant.calm;
+      uncut = uncut ∙ c.loop-poll.invariant.uncut;
       goes = app_on (app_site c.args.app.now) (app_site c.loop-poll.app) (app_site c.poll_app.new.app) (g.O.Sink.written c.args.frames.now)
           (g.O.Sink.written c.loop-poll.frames) (g.O.Sink.written c.poll_app.new.frames) c.loop-poll.invariant.goes c.poll_app.ensures.goes;
     }

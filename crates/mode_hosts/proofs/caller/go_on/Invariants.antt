@@ -8,5 +8,6 @@ abbrev pub invariant-loop-poll : goal.invariant-loop-poll
 invariant-loop-poll g l =
     record {
       calm : Calm (g.O.Sink.faults l.fn.frames) (g.O.Sink.faults l.frames);
+      uncut : (app_site l.app).work.state.fault ≡ (app_site l.fn.app).work.state.fault;
       goes : AppGoes (app_site l.fn.app) (app_site l.app) (g.O.Sink.written l.fn.frames) (g.O.Sink.written l.frames);
     }

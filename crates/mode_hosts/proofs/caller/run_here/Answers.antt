@@ -7,6 +7,7 @@ pub loop-init : goal.loop-init
 loop-init g c =
     record {
       calm = refl;
+      uncut = refl;
       goes = app_self (app_site c.args.app.now) (g.O.Sink.written c.args.frames.now);
       posts = λ crews are. are;
     }
@@ -14,8 +15,10 @@ loop-init g c =
 pub loop-preserved : goal.loop-preserved
 loop-preserved g c =
     let calm : g.O.Sink.faults c.turn.new.frames ≡ g.O.Sink.faults c.loop.frames = c.in_ok-over.ensures.blames in
+    let uncut : (app_site c.turn.new.app).work.state.fault ≡ (app_site c.loop.app).work.state.fault = c.in_ok-over.ensures.uncut in
     record {
       calm = calm ∙ c.loop.invariant.calm;
+      uncut = uncut ∙ c.loop.invariant.uncut;
       goes = app_on (app_site c.args.app.now) (app_site c.loop.app) (app_site c.turn.new.app) (g.O.Sink.written c.args.frames.now)
           (g.O.Sink.written c.loop.frames) (g.O.Sink.written c.turn.new.frames) c.loop.invariant.goes c.turn.ensures.goes;
       posts = λ crews are. c.turn.ensures.posts crews (c.loop.invariant.posts crews are);

@@ -10,6 +10,7 @@ abbrev pub invariant-loop : goal.invariant-loop
 invariant-loop g l =
     record {
       calm : Calm (g.O.Sink.faults l.fn.frames) (g.O.Sink.faults l.frames);
+      uncut : (app_site l.app).work.state.fault ≡ (app_site l.fn.app).work.state.fault;
       goes : AppGoes (app_site l.fn.app) (app_site l.app) (g.O.Sink.written l.fn.frames) (g.O.Sink.written l.frames);
       posts : (crews : Crews g.row.R.Denot) → ArePosts crews l.fn.posts → ArePosts crews l.posts;
     }

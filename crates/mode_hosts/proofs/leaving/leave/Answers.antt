@@ -4,12 +4,12 @@ use Rattle.pipe_plays.specs.Plays.{setup_of}
 use Rattle.pipe_plays.proofs.Ended.{done_only}
 use Rattle.mode_hosts.specs.Probes.{AllKeep}
 use Rattle.mode_hosts.specs.Homes.{all_sites}
-use Rattle.mode_hosts.proofs.Tells.{played}
+use Rattle.mode_hosts.proofs.Tells.{leaves_pipe}
 use Rattle.mode_hosts.proofs.Probes.{four_home, probed}
 use Rattle.mode_hosts.proofs.leaving.leave.Goals as goal
 
 pub returns-clause-leaves : goal.returns-clause-leaves
-returns-clause-leaves g c = λ play ahead probe bytes can keeps.
+returns-clause-leaves g c = λ play ahead probe bytes can keeps whole.
     let s = all_sites c.args.seats in
     let lock = lock_id c.args.lock.now in
     let log = c.gather-gathered.result.history.entries in
@@ -18,8 +18,9 @@ returns-clause-leaves g c = λ play ahead probe bytes can keeps.
     let kept = subst (λ (now : Option (List ℕ)). AllKeep (setup_of play ahead) play.dbase probe s bytes now) (sym came.bytes) keeps in
     let home = four_home c.two_links_are_one.ensures (setup_of play ahead) play.dbase probe lock s log bytes written c.requires kept
     c.gather-gathered.ensures.home in
-    played c.a_play_leaves_its_history.ensures c.streamed_frames_are_whole_ones.ensures play ahead lock s.four c.of-end.result log
-    c.gather-gathered.result.stats.items bytes written can kept.four home c.gather-gathered.ensures.stats
+    leaves_pipe c.streamed_frames_are_whole_ones.ensures play ahead lock s.four c.finish-came.result c.of-end.result log
+    c.gather-gathered.result.stats.items bytes written can kept.four home c.gather-gathered.ensures.stats c.of-end.ensures
+    (came.uncut s.four.app.work.state.fault whole)
     (λ done.
     let end = sym c.of-end.ensures ∙ done in
     record {

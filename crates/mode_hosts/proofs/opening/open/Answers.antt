@@ -6,6 +6,7 @@ use Rattle.pf_history.specs.declared.commands.Entry.{Entry}
 use Rattle.pf_history.specs.Asks.{asked_dbase}
 use Rattle.stage_parts.specs.States.{Setup}
 use Rattle.frame_stages.specs.AppWorks as app
+use Rattle.frame_stages.specs.AppWorks.{AppWork}
 use Rattle.frame_stages.specs.DbaseWorks as base
 use Rattle.frame_stages.specs.DbaseWorks.{DbaseHolds}
 use Rattle.pipe_plays.specs.Plays.{setup_of}
@@ -43,6 +44,10 @@ returns-clause-together g c =
 pub returns-clause-limit : goal.returns-clause-limit
 returns-clause-limit g c =
     rw c.seated.ensures.seats ((of_ok _ c.in_ok-parts.ensures.works c.new_works.ensures).limited)
+
+pub returns-clause-uncut : goal.returns-clause-uncut
+returns-clause-uncut g c =
+    rw c.seated.ensures.seats (ap (λ (w : AppWork). w.state.fault) (of_ok _ c.in_ok-parts.ensures.app c.new.ensures.opens))
 
 pub returns-clause-keeps : goal.returns-clause-keeps
 returns-clause-keeps g c = λ bytes.

@@ -6,8 +6,8 @@ pub returns : goal.returns
 returns g c =
     record {
       caller = crew_self (crew_state c.args.crews.caller);
-      cull = c.post_of.ensures;
-      draw = c.post_of-2.ensures;
-      dbase = c.post_of-3.ensures;
-      probe = c.post_of-4.ensures;
+      cull = c.post_of.ensures.post;
+      draw = c.post_of-2.ensures.post;
+      dbase = c.post_of-3.ensures.post;
+      probe = c.post_of-4.ensures.post;
     }

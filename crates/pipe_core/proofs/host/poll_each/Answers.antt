@@ -19,9 +19,11 @@ pub loop-event-preserved : goal.loop-event-preserved
 loop-event-preserved g c =
     let calm : g.O.Sink.faults c.poll_with.new.frames ≡ g.O.Sink.faults c.loop-event.frames =
     c.in_ok-did.ensures.calm (λ is. absurd (cc)) in
+    let uncut : c.poll_with.new.self.app.state.fault ≡ c.loop-event.pipe.app.state.fault = c.in_ok-did.ensures.uncut in
     let over = c.loop-event.over && c.is_over-over.result in
     record {
       calm = calm ∙ c.loop-event.invariant.calm;
+      uncut = uncut ∙ c.loop-event.invariant.uncut;
       goes = λ play ahead can keeps.
           let before = c.loop-event.invariant.goes play ahead can keeps in
           gone_on play ahead c.args.pipe.now c.loop-event.pipe c.poll_with.new.self

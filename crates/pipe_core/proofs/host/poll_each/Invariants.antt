@@ -1,4 +1,4 @@
-use Rattle.std.proofs.Common.{ℕ, take}
+use Rattle.std.proofs.Common.{◌≡◌, ℕ, take}
 use Rattle.pf_io.specs.Causes.{Calm}
 use Rattle.play_format.specs.Plays.{Script}
 use Rattle.pipe_plays.specs.Plays.{CanRun}
@@ -11,6 +11,7 @@ abbrev pub invariant-loop-event : goal.invariant-loop-event
 invariant-loop-event g l =
     record {
       calm : Calm (g.O.Sink.faults l.fn.frames) (g.O.Sink.faults l.frames);
+      uncut : l.pipe.app.state.fault ≡ l.fn.pipe.app.state.fault;
       goes : (play : Script) (ahead : ℕ) → CanRun play ahead → PipeKeeps play ahead l.fn.pipe →
           GoesOn play ahead l.fn.pipe l.pipe (g.O.Sink.written l.fn.frames) (g.O.Sink.written l.frames);
       polled : (play : Script) (ahead : ℕ) → CanRun play ahead → PipeKeeps play ahead l.fn.pipe →

@@ -26,8 +26,10 @@ returns-then-over-clause-ended g c = λ play ahead can free keeps unset enough.
 pub loop-made-preserved : goal.loop-made-preserved
 loop-made-preserved g c =
     let calm : g.O.Sink.faults c.round.new.frames ≡ g.O.Sink.faults c.loop-made.frames = c.in_ok-over.ensures.blames in
+    let uncut : c.round.new.pipe.app.state.fault ≡ c.loop-made.pipe.app.state.fault = c.in_ok-over.ensures.uncut in
     record {
       calm = calm ∙ c.loop-made.invariant.calm;
+      uncut = uncut ∙ c.loop-made.invariant.uncut;
       goes = λ play ahead can keeps.
           let before = c.loop-made.invariant.goes play ahead can keeps in
           gone_on play ahead c.args.pipe.now c.loop-made.pipe c.round.new.pipe

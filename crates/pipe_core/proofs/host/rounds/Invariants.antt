@@ -12,6 +12,7 @@ abbrev pub invariant-loop-made : goal.invariant-loop-made
 invariant-loop-made g l =
     record {
       calm : Calm (g.O.Sink.faults l.fn.frames) (g.O.Sink.faults l.frames);
+      uncut : l.pipe.app.state.fault ≡ l.fn.pipe.app.state.fault;
       goes : (play : Script) (ahead : ℕ) → CanRun play ahead → PipeKeeps play ahead l.fn.pipe →
           GoesOn play ahead l.fn.pipe l.pipe (g.O.Sink.written l.fn.frames) (g.O.Sink.written l.frames);
       played : (play : Script) (ahead : ℕ) → CanRun play ahead → (IsStuck play.app play.dbase → ⊥) → PipeKeeps play ahead l.fn.pipe →

@@ -2,7 +2,7 @@ use Rattle.std.proofs.Common.{None}
 use Rattle.frame_link.specs.Ends.{ring_send_room}
 use Rattle.frame_stages.specs.Flights.{SinkSide}
 use Rattle.mode_hosts.specs.Seats.{app_site}
-use Rattle.mode_hosts.proofs.Polls.{app_goes, same_desk, same_link}
+use Rattle.mode_hosts.proofs.Polls.{app_goes, app_uncut, same_desk, same_link}
 use Rattle.mode_hosts.proofs.seats.AppSeat.poll.Goals as goal
 
 pub returns-clause-goes : goal.returns-clause-goes
@@ -28,3 +28,6 @@ returns-clause-goes g c =
     }))
     None None None None (ring_send_room seat.to) sink sink' poll.polled (same_desk _ _ poll.desk)
     (record { take_at = same_link poll.from_draw; send_at = same_link poll.to_cull })
+
+pub returns-clause-uncut : goal.returns-clause-uncut
+returns-clause-uncut g c = app_uncut c.poll.result _ _ c.poll.ensures.polled.whole

@@ -4,10 +4,11 @@ use Rattle.frame_stages.specs.Flights.{SinkSide}
 use Rattle.frame_stages.specs.AppAnswers.{Polled}
 use Rattle.pf_scene.specs.Scenes.{SceneState}
 use Rattle.frame_stages.specs.Stays.{EndPlace}
+use Rattle.pipe_plays.specs.Played.{StaysWhole}
 use Rattle.pipe_core.specs.Pipes.{PipeWork, core_of, PipeKeeps, AppLifted, link_work}
 use Rattle.pipe_core.proofs.Polls.{in_order}
 use Rattle.pipe_core.proofs.AppLifts.{before_poll, after_poll}
-use Rattle.pipe_core.proofs.Turns.{app_calm, app_last, app_rose, seen_legal, app_polls, IsSeenLegal}
+use Rattle.pipe_core.proofs.Turns.{app_uncut, app_calm, app_last, app_rose, seen_legal, app_polls, IsSeenLegal}
 use Rattle.pipe_core.proofs.pipe.Pipe.app_event.Goals as goal
 
 pub returns-clause-lifted : goal.returns-clause-lifted
@@ -75,3 +76,8 @@ returns-clause-last g c = app_last _ _ _ _ _ _ c.poll-result.ensures.polled.answ
 
 pub returns-clause-calm : goal.returns-clause-calm
 returns-clause-calm g c = app_calm _ _ _ _ _ _ c.poll-result.ensures.polled.answer
+
+pub returns-clause-uncut : goal.returns-clause-uncut
+returns-clause-uncut g c =
+    subst (λ (x : PipeWork). StaysWhole c.poll-result.result x.app.state.fault c.poll-result.new.self.state.fault) c.self.view_is
+    (app_uncut c.poll-result.result _ _ c.poll-result.ensures.polled.whole)

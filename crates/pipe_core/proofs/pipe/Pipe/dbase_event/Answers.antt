@@ -54,3 +54,6 @@ returns-clause-stream g c = λ play. ap (λ (x : PipeWork). (core_of play x).pip
 
 pub returns-clause-whole : goal.returns-clause-whole
 returns-clause-whole g c = base_whole _ _ _ _ _ _ c.poll-result.ensures.answer
+
+pub returns-clause-uncut : goal.returns-clause-uncut
+returns-clause-uncut g c = ap (λ (x : PipeWork). x.app.state.fault) c.self.view_is

@@ -2,6 +2,7 @@ use Rattle.std.proofs.Common.{◌≡◌, false, [], length, None, ap, ◌∙◌,
 use Rattle.pf_history.specs.Asks.{asked_dbase}
 use Rattle.stage_parts.specs.States.{Setup}
 use Rattle.frame_stages.specs.AppWorks as app
+use Rattle.frame_stages.specs.AppWorks.{AppWork}
 use Rattle.frame_stages.specs.DbaseWorks as base
 use Rattle.frame_stages.specs.DbaseWorks.{DbaseHolds}
 use Rattle.pipe_plays.specs.Plays.{setup_of}
@@ -42,3 +43,6 @@ returns-clause-keeps c =
       b = of_ok _ made.to_draw c.new_link-2.ensures;
       c = of_ok _ made.back c.new_link-3.ensures;
     })
+
+pub returns-clause-uncut : goal.returns-clause-uncut
+returns-clause-uncut c = ap (λ (w : AppWork). w.state.fault) (of_ok _ c.in_ok-parts.ensures.app c.new.ensures.opens)

@@ -1,3 +1,4 @@
+use Rattle.pipe_plays.proofs.Ended.{stays_whole}
 use Rattle.pipe_core.proofs.Openings.{nothing_written}
 use Rattle.pipe_core.proofs.pipe.Pipe.poll_with.Goals as goal
 
@@ -27,3 +28,12 @@ returns-in-Draw-clause-last g c = λ is. absurd (c.draw_event.ensures.whole is)
 
 pub returns-in-Dbase-clause-last : goal.returns-in-Dbase-clause-last
 returns-in-Dbase-clause-last g c = λ is. absurd (c.dbase_event.ensures.whole is)
+
+pub returns-in-Cull-clause-uncut : goal.returns-in-Cull-clause-uncut
+returns-in-Cull-clause-uncut g c = stays_whole c.cull_event.result _ _ (λ other. c.cull_event.ensures.uncut)
+
+pub returns-in-Draw-clause-uncut : goal.returns-in-Draw-clause-uncut
+returns-in-Draw-clause-uncut g c = stays_whole c.draw_event.result _ _ (λ other. c.draw_event.ensures.uncut)
+
+pub returns-in-Dbase-clause-uncut : goal.returns-in-Dbase-clause-uncut
+returns-in-Dbase-clause-uncut g c = stays_whole c.dbase_event.result _ _ (λ other. c.dbase_event.ensures.uncut)
