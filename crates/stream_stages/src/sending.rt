@@ -1,5 +1,5 @@
 //! A frame whose pieces are sent.
-ghost use Rattle.std.specs.Prelude.{◌≡◌, ℕ, ◌<◌, List, None, Some, IfSome, slice_index_or};
+ghost use Rattle.std.specs.Prelude.{◌≡◌, ℕ, ◌<◌, List, None, Some, IfSome, slice_get, slice_index_or};
 ghost use Rattle.multibuffer.specs.StageCopies.{CopyState};
 ghost use Rattle.stage_parts.specs.Loads.{LoadState};
 ghost use Rattle.stream_stages.specs.PieceFrames.{PieceLists, with_piece};
@@ -14,7 +14,7 @@ use pf_model::{Steps, View};
 use stage_parts::Load;
 use std::marker::Brand;
 use std::sync::ledger::{Blank, Ledger};
-use update_lists::Cut;
+use update_lists::{Cut, Views};
 
 /// The most channels that pieces are sent for.
 const CHANNELS: usize = 4;
@@ -27,6 +27,13 @@ pub(crate) struct Sending {
     pub(crate) channel: usize,
 }
 
+/// The view of a channel, or none where there is no such channel.
+fn view_at(views: &Views, channel: usize) -> Option<View>
+    ensures { result ≡ slice_get views.now channel }
+{
+    views.at(channel).copied()
+}
+
 impl Sending {
     /// The frame of a cut, of which nothing is sent.
     pub(crate) fn of(cut: &Cut) -> Sending
@@ -37,7 +44,12 @@ impl Sending {
         let views = &cut.views;
         Sending {
             time: cut.frame,
-            views: [views.at(0), views.at(1), views.at(2), views.at(3)],
+            views: [
+                view_at(views, 0),
+                view_at(views, 1),
+                view_at(views, 2),
+                view_at(views, 3),
+            ],
             channel: 0,
         }
     }
