@@ -1,3 +1,4 @@
+use Rattle.std.proofs.Common.{◌≡◌}
 use Rattle.pf_io.specs.Causes.{Calm}
 use Rattle.mode_hosts.specs.Sites.{AppGoes}
 use Rattle.mode_hosts.specs.Seats.{app_site}

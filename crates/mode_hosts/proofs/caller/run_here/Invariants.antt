@@ -1,3 +1,4 @@
+use Rattle.std.proofs.Common.{◌≡◌}
 use Rattle.pf_io.specs.Causes.{Calm}
 use Rattle.mode_hosts.specs.declared.modes.Crews.{Crews}
 use Rattle.mode_hosts.specs.Sites.{AppGoes}
