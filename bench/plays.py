@@ -344,8 +344,24 @@ def instances(size=1024):
     return lines + ["frame"]
 
 
+def panes(count=130048, glass=1):
+    """256 small panes at one place in a picture of 64 x 64, seen so many times in all: a multiple of 512, at most 130,048, since the
+    scene has 131,072 nodes at most, each as often as it stands there. With 0 for glass they are opaque geometry."""
+    lines = header(64, 64, 2)
+    pane = triangle((-UNIT * 2, UNIT * 16, -UNIT * 2, 250, 200, 40), (UNIT * 2, UNIT * 16, -UNIT * 2, 200, 60, 40),
+                    (0, UNIT * 16, UNIT * 2, 40, 60, 200))
+    for node in range(256):
+        lines += [f"glass {1000 + node} 0 8 1" if glass else f"geode {1000 + node} 0 1", pane]
+    for bundle in (2, 3):
+        lines += [f"group {bundle}"] + [f"add {bundle} {1000 + node}" for node in range(256)]
+    lines.append("group 1")
+    for node in range(count // 512):
+        lines += [f"group {100 + node}", f"add {100 + node} 2", f"add {100 + node} 3", f"add 1 {100 + node}"]
+    return lines + ["add 0 1", "frame"]
+
+
 PLAYS = {play.__name__: play for play in (flight, city, town, traffic, signs, fill, edits, empty, parked, merges, children,
-                                          waiting, large, instances)}
+                                          waiting, large, instances, panes)}
 
 
 def main():

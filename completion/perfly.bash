@@ -2,7 +2,9 @@
 
 # The words of perfly, and those that fly adds.
 _perfly_words="--mode --dbase --ahead --make --probe --stream"
-_fly_words="--jobs --quick --help --version"
+_fly_words="--jobs --quick --into --install --help --version"
+# Those of fly render.
+_render_words="-o --smooth --rate --frame --report"
 
 # The values that may follow a word; of --jobs, as many as there are processors, and of --stream some of those that may. Those of
 # --probe only its user knows.
@@ -12,8 +14,17 @@ _perfly_values() {
         --ahead) echo {1..4} ;;
         --make) echo {1..256} ;;
         --stream) echo 1 4 16 64 256 1024 4096 ;;
+        --smooth) echo 2 3 4 ;;
+        --rate) echo 24 25 30 60 ;;
         --jobs) seq -s ' ' "$(nproc 2> /dev/null || echo 4)" ;;
     esac
+}
+
+# Whether the word before the cursor can be the file of a play: behind render or --into.
+_perfly_names_play() {
+    local before=" ${COMP_WORDS[*]:1:COMP_CWORD-1} " prev=${COMP_WORDS[COMP_CWORD - 1]}
+    [[ $1 != [-=]* && $prev != = && $prev != --probe && -z $(_perfly_values "$prev") ]] || return 1
+    [[ $before == " render "* || ($before == *" --into "* && -n $1) ]]
 }
 
 # Offers the values of the word before the cursor, else the words that don't stand yet; files behind a redirection alone.
@@ -25,9 +36,14 @@ _perfly() {
     elif [ "$prev" = "=" ]; then
         prev=${COMP_WORDS[COMP_CWORD - 2]}
     fi
-    [[ ${1##*/} != fly ]] || offered+=" $_fly_words"
+    if [[ ${1##*/} == fly && ${COMP_WORDS[1]} == render && $COMP_CWORD -gt 1 ]]; then
+        offered="$_render_words ${_perfly_words/--make /} --jobs"
+    elif [[ ${1##*/} == fly ]]; then
+        offered+=" $_fly_words"
+        [[ $COMP_CWORD -gt 1 || $cur != r* ]] || offered=render
+    fi
     COMPREPLY=()
-    if [[ $prev == *[\<\>] ]]; then
+    if [[ $prev == *[\<\>] || $prev == -o || $prev == --report || $prev == --in* ]] || _perfly_names_play "$cur"; then
         compopt -o filenames 2> /dev/null
         mapfile -t COMPREPLY < <(compgen -f -- "$cur")
         return

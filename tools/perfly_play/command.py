@@ -20,18 +20,54 @@ def whole_number(low, high=None):
     return whole_number_word
 
 
-def run(main, *errors):
-    """Runs a command; an error of these kinds, or of a file, ends it with a line and the status 1."""
+def number(low, high):
+    """The kind of a word that is a number from low to high."""
+    def number_word(word):
+        value = float(word)
+        if not low <= value <= high:
+            raise argparse.ArgumentTypeError(f"{word} is not from {low} to {high}")
+        return value
+    number_word.__name__ = "number"
+    return number_word
+
+
+def run(main, *errors, trouble=1):
+    """Runs a command, whose status main returns; an error of these kinds, or of a file, ends it with a line and the status for
+    trouble."""
     name = os.path.basename(sys.argv[0])
     try:
-        main()
+        status = main()
         sys.stdout.flush()
+        sys.exit(status)
     except BrokenPipeError:  # who reads the output has seen enough
         os.dup2(os.open(os.devnull, os.O_WRONLY), sys.stdout.fileno())
     except KeyboardInterrupt:
         sys.exit(130)
     except (OSError, *errors) as error:
-        sys.exit(f"{name}: {error}")
+        print(f"{name}: {error}", file=sys.stderr)
+        sys.exit(trouble)
+
+
+class Bar:
+    """A bar of how much is done, on standard error where that is a terminal; else nothing."""
+
+    WIDTH = 40
+
+    def __init__(self, total, name):
+        self.total, self.name = max(1, total), name
+        self.is_shown = sys.stderr.isatty()
+
+    def show(self, done):
+        """Shows that so much is done."""
+        if self.is_shown:
+            filled = min(self.WIDTH, self.WIDTH * done // self.total)
+            print(f"\r[{'#' * filled}{'.' * (self.WIDTH - filled)}] {done:,} of {self.total:,} {self.name}", end="",
+                  file=sys.stderr, flush=True)
+
+    def end(self):
+        """Takes the bar away."""
+        if self.is_shown:
+            print("\r\033[K", end="", file=sys.stderr, flush=True)
 
 
 def plural(count, name):

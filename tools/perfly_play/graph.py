@@ -6,30 +6,60 @@ SCENE = 0
 
 
 class Fault(Exception):
-    """Why an edit cannot be made, as a report says it: "Cycle 1 2"."""
+    """Why an edit cannot be made, as a report says it: "Cycle 1 2". With the kind of the node that is at fault, and the edit."""
+
+    def __init__(self, text, kind=None, edit=None):
+        super().__init__(text)
+        self.kind, self.edit = kind, edit
 
 
 EXPLANATIONS = {
     "Absent": "there is no node {}",
     "Taken": "the id {} is in use",
-    "Kind": "node {} is not of the kind for this",
     "Place": "there is no place {}",
     "NotChild": "node {1} is no child of node {0}",
     "Cycle": "node {1} is node {0}, or above it",
-    "Many": f"{{}} are too many: there are at most {limits.NODES:,} nodes and {limits.CHILDREN} children of one, and verts "
-            "has as many triangles as the geode",
     "Deep": f"a chain of {{}} nodes; at most {limits.CHAIN}",
     "Large": f"a node with all that is below it, each as often as it stands there, is above {limits.UNFOLDED:,} nodes",
     "InUse": "node {} still has a parent",
+}
+WANTED = {  # the kinds of node that an edit is for
+    "sw": "switch", "mat": "dcs", "trans": "dcs", "rot": "dcs", "scale": "dcs", "centre": "lod", "range": "lod", "times": "seq",
+    "run": "seq", "stop": "seq", "verts": "geode or glass",
 }
 
 
 def explain(fault):
     """What a fault says, in words."""
     words = str(fault).split(" ")
+    where = ""
     if words[0] == "at":
-        return f"edit {words[1]} of the buffer: {explain(' '.join(words[3:]))}"
-    return EXPLANATIONS[words[0]].format(*words[1:])
+        where, words = f"edit {words[1]} of the buffer: ", words[3:]
+    command = fault.edit.command
+    if words[0] == "Kind":
+        return where + _explain_kind(command, int(words[1]), fault.kind)
+    if words[0] == "Many":
+        return where + _explain_many(command, words[1])
+    return where + EXPLANATIONS[words[0]].format(*words[1:])
+
+
+def _explain_kind(command, name, kind):
+    """What is wrong with a node that is not of the kind for an edit."""
+    if command in WANTED:
+        is_kind = "0 is the scene" if name == SCENE else f"{name} is of the kind {kind}"
+        return f"node {is_kind}, and {command} is for a node of the kind {WANTED[command]}"
+    if name == SCENE:
+        return "the scene is nobody's child" if command != "delete" else "the scene cannot be deleted"
+    return f"node {name} is of the kind {kind}, which has no children"
+
+
+def _explain_many(command, count):
+    """What is above a limit."""
+    if command == "verts":
+        return f"verts brings {count} triangles, and must bring as many as the geometry has"
+    if command in MAKERS:
+        return f"too many nodes: at most {limits.NODES:,} besides the scene"
+    return f"too many children: at most {limits.CHILDREN} of one node"
 
 
 class Node:
@@ -82,10 +112,14 @@ class Graph:
 
     def make(self, edit):
         """Makes an edit, or raises its Fault and changes nothing."""
-        if edit.command in MAKERS:
-            self._make_node(edit)
-        else:
-            getattr(self, "_" + edit.command)(edit)
+        try:
+            if edit.command in MAKERS:
+                self._make_node(edit)
+            else:
+                getattr(self, "_" + edit.command)(edit)
+        except Fault as fault:
+            fault.edit = edit
+            raise
         self.changed.add(edit.fields[0])
 
     def make_all(self, edits):
@@ -95,7 +129,7 @@ class Graph:
             try:
                 trial.make(edit)
             except Fault as fault:
-                raise Fault(f"at {place} fault {fault}") from None
+                raise Fault(f"at {place} fault {fault}", fault.kind, edit) from None
         self.take_over(trial)
 
     def above(self, name):
@@ -137,7 +171,7 @@ class Graph:
     def _of_kind(self, name, *kinds):
         self._there(name)
         if self.nodes[name].kind not in kinds:
-            raise Fault(f"Kind {name}")
+            raise Fault(f"Kind {name}", self.nodes[name].kind)
         return self.nodes[name]
 
     def _delete(self, edit):
@@ -173,7 +207,7 @@ class Graph:
     def _may_be_below(self, parent, child, between):
         """Kind, then the rules between, then Cycle."""
         if self.nodes[parent].is_geode():
-            raise Fault(f"Kind {parent}")
+            raise Fault(f"Kind {parent}", self.nodes[parent].kind)
         if child == SCENE:
             raise Fault(f"Kind {SCENE}")
         between()
@@ -192,7 +226,7 @@ class Graph:
         parent, child = edit.fields
         self._there(parent, child)
         if self.nodes[parent].is_geode():
-            raise Fault(f"Kind {parent}")
+            raise Fault(f"Kind {parent}", self.nodes[parent].kind)
         self._is_child(parent, child)
         children = list(self.nodes[parent].children)
         children.remove(child)

@@ -4,6 +4,8 @@ UNIT = 4096  # of a coordinate: this many make one unit of length
 WHOLE = 65536  # of a scale or an entry of a matrix: this is 1
 TURN = 3600  # of an angle, which is counted in tenths of a degree; also the greatest angle
 
+LAYER = 16  # of a depth: so much nearer is each further child of a layer
+
 COORDINATE = 1073741823
 ENTRY = 1048576
 RANGE = 2147483647

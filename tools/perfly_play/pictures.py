@@ -1,4 +1,5 @@
 """Pictures: reads a stream of PPM images, puts them side by side, scales them down, writes PNG."""
+import pathlib
 import struct
 import zlib
 
@@ -14,6 +15,15 @@ class Image:
 
     def __init__(self, width, height, rows):
         self.width, self.height, self.rows = width, height, rows
+
+    def ppm(self):
+        """The bytes of the image as a PPM file (P6)."""
+        return b"P6\n%d %d\n255\n" % (self.width, self.height) + b"".join(self.rows)
+
+    def write(self, path):
+        """Writes the image as a file: PPM where the name ends so, else PNG."""
+        path = pathlib.Path(path)
+        path.write_bytes(self.ppm() if path.suffix == ".ppm" else png(self))
 
 
 def read_images(stream):

@@ -2,25 +2,37 @@
 from typing import NamedTuple
 
 from .forms import Edit, line
-from .graph import SCENE, Fault, Graph
+from .graph import SCENE, Fault, Graph, explain
 from .sight import View
 
 
 class Refusal(NamedTuple):
-    """An edit that could not be made: the line of the play, its text, its fault, and whether it was refused in a buffer,
-    which drops it and goes on."""
+    """An edit that could not be made: the line of the play, its text, its fault, that fault in words, and whether it was
+    refused in a buffer, which drops it and goes on."""
 
     line: int
     text: str
     fault: str
+    told: str
     is_dropped: bool
+
+    def __str__(self):
+        return f"line {self.line}: {self.text}: {self.told}" + (" (its buffer drops it)" if self.is_dropped else "")
 
 
 class Stuck(Exception):
     """The play never ends: the lines at which the application and DBASE wait, 0 where one is over."""
 
-    def __init__(self, application, dbase):
-        super().__init__(f"the play never ends: the application waits in line {application}, DBASE in line {dbase}")
+    def __init__(self, application, dbase, has_dbase=True):
+        merge = f"line {application} waits for a merge"
+        frame = f"line {dbase} awaits a frame"
+        if application and dbase:
+            why = f"{merge}, and {frame} that comes behind it"
+        elif application:
+            why = f"{merge} that never comes, " + ("since DBASE is over" if has_dbase else "since there is no section dbase")
+        else:
+            why = f"{frame} that never comes, since the application is over"
+        super().__init__(f"the play never ends: {why}")
 
 
 class Playing:
@@ -54,6 +66,12 @@ class Playing:
         if self.next_of_dbase:
             raise Stuck(0, self.next_of_dbase.line)
 
+    def to_end(self):
+        """Plays all frames; returns the edits that were refused."""
+        for _ in self.frames():
+            pass
+        return self.refusals
+
     def _play_line(self, step):
         command, fields = step.edit.command, step.edit.fields
         if command == "view":
@@ -63,7 +81,7 @@ class Playing:
         elif command == "wait":
             self._play_dbase()
             if self.merged < fields[0]:
-                raise Stuck(step.line, self.next_of_dbase.line if self.next_of_dbase else 0)
+                raise Stuck(step.line, self.next_of_dbase.line if self.next_of_dbase else 0, bool(self.play.dbase))
         elif command != "sync":
             self._try(step, lambda: self.graph.make(step.edit))
 
@@ -72,7 +90,7 @@ class Playing:
         try:
             act()
         except Fault as fault:
-            self.refusals.append(Refusal(step.line, line(step.edit), str(fault), is_in_buffer))
+            self.refusals.append(Refusal(step.line, line(step.edit), str(fault), explain(fault), is_in_buffer))
             return False
         self._measure(step.edit)
         return True

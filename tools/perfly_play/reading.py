@@ -129,7 +129,7 @@ class _Reader:
     def version(self):
         words = self.next_words("perfly 1 or perfly 2")
         if words not in (["perfly", "1"], ["perfly", "2"]):
-            shape = _shape_hint(words) if words[0].startswith("perfly") else None
+            shape = _shape_hint(words) if words[0].startswith("perfly") else _mark_hint(self.whole[0])
             raise Mistake(self.line, "Version", shape or "a play begins with the line perfly 1, or perfly 2")
         return int(words[1])
 
@@ -192,8 +192,8 @@ class _Reader:
             return ()
         count = fields[-1]
         if self.triangles + count > limits.TRIANGLES:
-            raise Mistake(self.line, "Count", f"the play has more than {limits.TRIANGLES:,} triangles; "
-                                              "make what stands often once, and hang it below several scs")
+            raise Mistake(self.line, "Count", f"the play has more than {limits.TRIANGLES:,} triangles, where those of verts and of "
+                                              "DBASE count too; make what stands often once, and hang it below several scs")
         self.triangles += count
         corners = []
         for k in range(count):
@@ -226,6 +226,15 @@ def _briefly(text):
     return text if len(text) < 90 else text[:87].rsplit(" ", 1)[0] + " .."
 
 
+def _mark_hint(line):
+    """Of a first line that begins with a byte order mark: what to do; None where it has none."""
+    if line.startswith(b"\xef\xbb\xbf"):
+        return "the text begins with a byte order mark, which is not seen; save it without one (as UTF-8, not UTF-8 with BOM)"
+    if line.startswith((b"\xff\xfe", b"\xfe\xff")) or b"\0" in line:
+        return "the text is UTF-16; save it as ASCII or UTF-8"
+    return None
+
+
 def _shape_hint(words):
     """What is wrong with the shape of a line, whatever it means; None where nothing is."""
     line = " ".join(words)
@@ -254,7 +263,21 @@ def _number_hint(word, field):
     return f"{field.name} is {word}; a number is written without + and without leading zeros: {int(value)}"
 
 
+MEANT = {  # words that others use, and what a play has for them
+    "move": "trans", "translate": "trans", "position": "trans", "pos": "trans", "rotate": "rot", "turn": "rot",
+    "matrix": "mat", "camera": "view", "eye": "view", "look": "view", "lookat": "view", "draw": "frame",
+    "render": "frame", "step": "frame", "mesh": "geode", "geometry": "geode", "triangle": "t", "tri": "t",
+    "show": "sw", "hide": "sw", "select": "sw", "sequence": "seq", "start": "run", "free": "delete",
+    "destroy": "delete", "link": "add", "append": "add", "attach": "add", "unlink": "remove", "detach": "remove",
+    "transform": "dcs", "vertices": "verts", "decal": "layer", "center": "centre", "distance": "range",
+}
+HEAD = ("perfly", "size", "lens", "back", "channels")
+
+
 def _command_hint(command, allowed, version):
+    if command in HEAD and "frame" in allowed:
+        return f"{command} stands in the head, before app" + (" (and a play with it begins with perfly 2)"
+                                                              if command == "channels" and version == 1 else "")
     if command in forms.SECOND_VERSION and version == 1:
         return f"{command} is of version 2: begin the play with perfly 2"
     if command == "t":
@@ -265,5 +288,7 @@ def _command_hint(command, allowed, version):
         return f"{command} stands in a buffer of DBASE: open one with buffer"
     if command in {**forms.EDITS, **forms.APPLICATION, **forms.DBASE}:
         return f"{command} may not stand here"
-    close = difflib.get_close_matches(command, allowed, 1)
+    if command.lower() in allowed:
+        return f"there is no command {command}; commands are in small letters: {command.lower()}"
+    close = [MEANT[command.lower()]] if MEANT.get(command.lower()) in allowed else difflib.get_close_matches(command, allowed, 1)
     return f"there is no command {command}" + (f"; {close[0]} is near to it" if close else "")

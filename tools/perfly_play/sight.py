@@ -24,6 +24,16 @@ class Occurrence(NamedTuple):
     in_sight: bool
 
 
+class Instance(NamedTuple):
+    """Geometry at one of its places: its id, the steps from its corners to the eye, how many of these are the view's, and by
+    how much layers lessen its depths (1/4096 unit)."""
+
+    name: int
+    steps: tuple
+    of_view: int
+    shift: int
+
+
 class Shown(NamedTuple):
     """What a view shows of a graph: the geometry in sight, in the order of the walk, and the numbers of a report."""
 
@@ -117,6 +127,11 @@ def steps_to_eye(view):
     return tuple(step for step in steps if step != SAME)
 
 
+def through(steps, point):
+    """A point taken through steps, one after the other."""
+    return _through(carry_point, steps, point)
+
+
 def _through(carry, steps, thing):
     for step in steps:
         thing = carry(step, thing)
@@ -164,6 +179,22 @@ class Sight:
             below = steps_of(node) + steps
             for place in self.chosen(node, steps):
                 yield from self._walk(node.children[place], (*path, place), below)
+
+    def instances(self, view):
+        """The geometry whose own box is in sight, in the order of the walk; geometry with several parents comes for each."""
+        self._forget_changed()
+        steps = steps_to_eye(view)
+        yield from self._instances(SCENE, steps, len(steps), 0)
+
+    def _instances(self, name, steps, of_view, shift):
+        node, box = self.graph.nodes[name], self._box(name)
+        if box is None or self.is_outside(_through(carry_box, steps, box)):
+            return
+        if node.is_geode():
+            yield Instance(name, steps, of_view, shift)
+        for place in self.chosen(node, steps):
+            more = limits.LAYER * place if node.kind == "layer" else 0
+            yield from self._instances(node.children[place], steps_of(node) + steps, of_view, shift + more)
 
     def chosen(self, node, steps):
         """The places of the children that a node shows, its coordinates taken through these steps to the eye."""

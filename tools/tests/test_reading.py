@@ -88,6 +88,13 @@ class Hints(unittest.TestCase):
         self.assertIn("group is near", self.hint(b"grup 1\n"))
         self.assertIn("perfly 2", self.hint(b"glass 1 0 9 0\n"))
         self.assertIn("more triangle lines", self.hint(b"geode 1 0 0\nt 1\n"))
+        self.assertIn("in the head, before app", self.hint(b"channels 2\n"))
+        self.assertIn("small letters: add", self.hint(b"ADD 0 1\n"))
+        self.assertIn("trans is near", self.hint(b"move 1 0 0 0\n"))
+
+    def test_marks(self):
+        self.assertIn("byte order mark", mistake_of(b"\xef\xbb\xbf" + HEAD).hint)
+        self.assertIn("UTF-16", mistake_of(HEAD.decode().encode("utf-16")).hint)
 
 
 class Enlarged(unittest.TestCase):

@@ -51,7 +51,7 @@ def ppm(width, height, pixel):
 
 class Help(unittest.TestCase):
     def test_each(self):
-        for name in ("obj2play", "frames2png", "look", "enlarge"):
+        for name in ("obj2play", "frames2png", "look", "enlarge", "render", "show", "quick", "ids", "depth", "pick", "compare"):
             with self.subTest(name):
                 done = run(name, "--help")
                 self.assertEqual((done.returncode, done.stderr), (0, b""))
@@ -92,7 +92,7 @@ class Obj2play(unittest.TestCase):
     def test_turn(self):
         done = run("obj2play", "--frames", 5, "--picture", 64, 48, LANTERN)
         self.assertEqual(done.returncode, 0)
-        self.assertIn(b"left out: textures (1)\n", done.stderr)
+        self.assertIn(done.stderr.decode(), (TOP / "docs" / "PLAY.md").read_text(encoding="utf-8"))
         play = read_play(done.stdout)
         self.assertEqual((play.head.version, play.triangles), (2, 257))
         self.assertEqual(sum(step.edit.command == "frame" for step in play.application), 5)
@@ -104,6 +104,21 @@ class Obj2play(unittest.TestCase):
             play = read_play(run("obj2play", "--cameras", cameras.name, LANTERN).stdout)
         views = [step.edit.fields for step in play.application if step.edit.command == "view"]
         self.assertEqual(views[1], (40 * 4096, 0, 5 * 4096, 900, -50, 100))
+
+    def test_words(self):
+        """Words as people write them; words out of their ranges are refused."""
+        for words, told in ((("--picture", "64x48", "--up", "-y", "--light", "eye", "--frames", 3), (b"size 64 48\n", b"\nsw 1 2\n")),
+                            (("--coarse", "auto", "--opaque", "--smooth", "--color", 9, 9, 9), (b"perfly 1\n",))):
+            done = run("obj2play", *words, LANTERN)
+            self.assertEqual(done.returncode, 0)
+            for line in told:
+                self.assertIn(line, done.stdout)
+        for words in (("--units", -5), ("--tilt", 95), ("--light", 0, 0, 0), ("--up", "w"), ("--coarse", "fine"), ("--most", 0),
+                      ("--units", "nan"), ("--smooth", "--facets")):
+            with self.subTest(words):
+                done = run("obj2play", *words, LANTERN)
+                self.assertEqual((done.returncode, done.stdout), (2, b""))
+                self.assertIn(b"obj2play: error: argument ", done.stderr)
 
     def test_errors(self):
         done = run("obj2play", "nothing.obj")
@@ -127,9 +142,24 @@ class Look(unittest.TestCase):
 
     def test_refused_edits(self):
         head = b"perfly 1\nsize 3 3\nlens 3 1 9\nback 0 0 0\napp\n"
-        text = run("look", given=head + b"add 0 7\nframe\n").stdout.decode()
-        self.assertIn("line 6: add 0 7: there is no node 7\n", text)
-        self.assertEqual(run("look", given=head + b"wait 1\n").returncode, 1)
+        done = run("look", given=head + b"add 0 7\nframe\n")
+        self.assertIn("line 6: add 0 7: there is no node 7\n", done.stdout.decode())
+        self.assertEqual(done.returncode, 1)
+        done = run("look", "--check", given=head + b"group 1\nscs 2 1 0 0 0 1 0 0 0 1 0 0 0\ntrans 2 0 0 0\nframe\n")
+        self.assertEqual((done.returncode, done.stdout.decode()),
+                         (1, "line 8: trans 2 0 0 0: node 2 is of the kind scs, and trans is for a node of the kind dcs\n"))
+        done = run("look", "--check", TOP / "examples" / "glass.play")
+        self.assertEqual((done.returncode, done.stdout, done.stderr), (0, b"", b""))
+        done = run("look", given=head + b"wait 1\n")
+        self.assertEqual(done.returncode, 1)
+        self.assertIn(b"line 6 waits for a merge that never comes, since there is no section dbase\n", done.stderr)
+
+    def test_nothing_to_see(self):
+        head = b"perfly 1\nsize 3 3\nlens 3 1 9\nback 0 0 0\napp\n"
+        text = run("look", given=head + b"group 1\nframe\n").stdout.decode()
+        self.assertIn("below no node, so never seen: 1; a line add", text)
+        self.assertIn("Nothing is ever in sight.", text)
+        self.assertIn("A line frame draws one.", run("look", given=head).stdout.decode())
 
 
 class Profile(unittest.TestCase):

@@ -1,5 +1,6 @@
 //! The graves of deleted nodes.
-ghost use Rattle.std.specs.Prelude.{◌≡◌, ◌+◌, ◌≤◌, ◌<◌, [], ◌∷◌, ◌++◌, length, map, OnOk, OnErr};
+ghost use Rattle.std.specs.Prelude.{◌≡◌, ◌+◌, ◌≤◌, ◌<◌, max, [], ◌∷◌, ◌++◌, length, OnOk, OnErr};
+ghost use Rattle.std.specs.List.{count_by};
 ghost use Rattle.std.specs.Vec.{vec_len, vec_capacity};
 ghost use Rattle.pf_model.specs.Copies.{is_due, freed_by, graves_kept};
 ghost use Rattle.async_delete.specs.Burials.{grave};
@@ -40,9 +41,16 @@ impl Grave {
     }
 }
 
+/// How many graves are due once so many frames are retired.
+fn count_due(graves: &[Grave], retired: u32) -> usize
+    ensures { result ≡ count_by (is_due retired) graves.now }
+{
+    graves.iter().filter(|grave| grave.is_due(retired)).count()
+}
+
 /// Appends the serials of the graves that are due once so many frames are retired, in their order.
 fn tell_due(graves: &[Grave], retired: u32, out: &mut SerialsBuilder)
-    requires { length graves.now ≤ out.old.spare }
+    requires { length (freed_by retired graves.now) ≤ out.old.spare }
     ensures serials { out.new.items ≡ out.old.items ++ freed_by retired graves.now }
     ensures spare { out.new.spare + length (freed_by retired graves.now) ≡ out.old.spare }
 {
@@ -58,26 +66,23 @@ fn tell_due(graves: &[Grave], retired: u32, out: &mut SerialsBuilder)
 #[derive(Debug)]
 pub struct Graves {
     graves: Vec<Grave>,
-    room: usize,
 }
 
 /// Written out, so that to drop one is a single call.
 impl Drop for Graves {
     fn drop(self) {
-        let Self { graves: _, room: _ } = self;
+        let Self { graves: _ } = self;
     }
 }
 
 impl Model for Graves {
-    ghost use Rattle.std.specs.Prelude.{◌-◌, ◌≤◌};
+    ghost use Rattle.std.specs.Prelude.{◌-◌};
     ghost use Rattle.std.specs.Vec.{vec_len, vec_capacity};
     ghost use Rattle.async_delete.specs.Burials.{GravesSoFar};
 
     ghost Value = { GravesSoFar };
 
-    ghost view = { λ g. record { graves = g.graves.items; spare = g.room - vec_len g.graves } };
-
-    ghost invariant = { λ g. (vec_len g.graves ≤ g.room) × (g.room ≤ vec_capacity g.graves) };
+    ghost view = { λ g. record { graves = g.graves.items; spare = vec_capacity g.graves - vec_len g.graves } };
 }
 
 impl Graves {
@@ -87,19 +92,25 @@ impl Graves {
     {
         Graves {
             graves: Vec::new(alloc),
-            room: 0,
         }
     }
 
-    /// Makes room for this many more graves.
+    /// Makes room for this many more graves. Where there is none yet, it makes room beside for as many as there are, so
+    /// that room is made seldom.
     pub fn reserve(&mut self, n: usize) -> Result<(), NoMemory>
         ensures room { OnOk result (n ≤ self.new.spare) }
+        ensures few { self.new.spare ≤ max self.old.spare (length self.old.graves + n) }
         ensures more { self.old.spare ≤ self.new.spare }
         ensures graves { self.new.graves ≡ self.old.graves }
         ensures unchanged { OnErr result (self.new ≡ self.old) }
     {
-        self.graves.reserve(n)?;
-        self.room = self.graves.capacity();
+        if n <= self.spare() {
+            return Ok(());
+        }
+        let Some(more) = self.graves.len().checked_add(n) else {
+            return Err(NoMemory);
+        };
+        self.graves.reserve_exact(more)?;
         Ok(())
     }
 
@@ -114,7 +125,7 @@ impl Graves {
     pub fn spare(&self) -> usize
         ensures { result ≡ self.now.spare }
     {
-        self.room - self.graves.len()
+        self.graves.capacity() - self.graves.len()
     }
 
     /// Buries a deleted node that the frame `last` is the last to name. It takes no memory.
@@ -123,16 +134,20 @@ impl Graves {
         ensures graves { self.new.graves ≡ self.old.graves ++ grave gone.serial last ∷ [] }
         ensures spare { self.new.spare + 1 ≡ self.old.spare }
     {
-        match self.graves.push(Grave { gone, last }) {
-            Ok(()) => {}
-            Err(_) => unreachable!(),
-        }
+        self.graves.push_reserved(Grave { gone, last });
+    }
+
+    /// How many graves a sweep drops once so many frames are retired.
+    pub fn due(&self, retired: u32) -> usize
+        ensures { result ≡ length (freed_by retired self.now.graves) }
+    {
+        count_due(self.graves.as_slice(), retired)
     }
 
     /// Drops the graves of the nodes that no frame names once so many frames are retired, and appends their serials in
     /// the order of burial. It takes no memory, and time in proportion to the number of graves.
     pub fn sweep(&mut self, retired: u32, out: &mut SerialsBuilder)
-        requires { length self.old.graves ≤ out.old.spare }
+        requires { length (freed_by retired self.old.graves) ≤ out.old.spare }
         ensures freed { out.new.items ≡ out.old.items ++ freed_by retired self.old.graves }
         ensures room { out.new.spare + length (freed_by retired self.old.graves) ≡ out.old.spare }
         ensures kept { self.new.graves ≡ graves_kept retired self.old.graves }

@@ -43,7 +43,7 @@ pub record IsToBe (s : Strip) : Type 0 where
   pub made : 0 < length s.tiles.items → IsTiled s
   pub room : length s.tiles.items ≡ 0 → div_ceil s.band.width 16 ≤ vec_capacity s.tiles
 
--- the strip has its tiles
+-- the strip has its tiles, and its band as before
 pub record IsMade (before after : Strip) : Type 0 where
   pub band : after.band ≡ before.band
   pub tiles : IsTiled after

@@ -12,7 +12,7 @@ ghost use Rattle.depth_raster.specs.Strips.{AreStrips};
 use crate::batch::Batch;
 use crate::faces::{Face, at_eye};
 use crate::glass_strips::glaze_strips;
-use crate::panes::next_pane;
+use crate::panes::{are_in_order, next_pane};
 use crate::recent::Recent;
 use crate::strip::Strip;
 use crate::work::{processors_for, work_of_pieces};
@@ -33,9 +33,10 @@ pub(crate) fn draw_glass<R: Threads + Sync>(
     ensures glass { Glazes lens.now strips.old.items batch.old.pieces strips.new.items batch.new.pieces
         (glass_glazed lens.now (sorted is_drawn_before (filter is_glass (instances_in list.now)))) }
 {
+    let in_order = are_in_order(list);
     let mut last = None;
     for count in 0..list.len() {
-        let pane = match next_pane(list, last) {
+        let pane = match next_pane(list, in_order, last) {
             Some(pane) => pane,
             None => return,
         };

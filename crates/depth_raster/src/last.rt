@@ -1,5 +1,5 @@
 //! The mark of a tile that comes last, by depth, place and number.
-ghost use Rattle.std.specs.Prelude.{◌≡◌, false, IsTrue};
+ghost use Rattle.std.specs.Prelude.{◌≡◌, true, false, IsTrue, is_some};
 ghost use Rattle.depth_raster.specs.Later.{mark_at, ComesLast};
 ghost use Rattle.depth_raster.specs.Marks.{goes_before};
 ghost use Rattle.depth_raster.specs.Tiles.{marks_of, IsKept};
@@ -14,6 +14,7 @@ use crate::tile::Tile;
 pub(crate) fn is_after(tile: &mut Tile, face: &Face) -> bool
     ensures kept { IsKept tile.old tile.new }
     ensures after { IsTrue result → ComesLast (mark_at face.now tile.old.top) (marks_of tile.old) }
+    ensures known { IsTrue result → is_some tile.new.last ≡ true }
 {
     let mark = face.mark_at(tile.top);
     match tile.last {
@@ -26,6 +27,7 @@ pub(crate) fn is_after(tile: &mut Tile, face: &Face) -> bool
 fn is_after_all(tile: &mut Tile, mark: &Mark) -> bool
     ensures kept { IsKept tile.old tile.new }
     ensures after { IsTrue result → ComesLast mark.now (marks_of tile.old) }
+    ensures known { IsTrue result → is_some tile.new.last ≡ true }
 {
     pay(tile);
     if is_before_any(mark, &tile.marks) {

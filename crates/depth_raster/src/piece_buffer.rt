@@ -10,6 +10,7 @@ use crate::idle::Idle;
 use crate::pieces::{Piece, make_ready, prepare};
 use crate::slots::{Slot, wait};
 use crate::waiting::Waiting;
+use crate::work::levels_of;
 use draw_list::DrawList;
 use fx_math::Lens;
 use pf_io::NoMemory;
@@ -180,6 +181,7 @@ fn prepare_behind<R: Threads + Sync>(
     prepare(
         rt,
         &Idle::new(),
+        levels_of(waiting.len()),
         u64::from(others),
         waiting,
         fresh,

@@ -1,5 +1,5 @@
 //! Faces made ready to be drawn.
-ghost use Rattle.std.specs.Prelude.{◌≡◌, ◌<◌, All, length};
+ghost use Rattle.std.specs.Prelude.{◌≡◌, ◌+◌, ◌*◌, ◌<◌, ◌≤◌, All, length};
 ghost use Rattle.std.specs.Thread.{IsSync};
 ghost use Rattle.tri_cover.specs.Readiness.{IsReady};
 ghost use Rattle.depth_raster.specs.Around.{IsAround, IsBoxOf};
@@ -115,10 +115,12 @@ fn about_dividend(ready: &Option<tri_cover::Face>) -> f64 {
 
 /// Prepares the pieces of triangles of a list that wait, and their slots. So many other processors that have nothing to do get their
 /// shares first. The rest is prepared a few after the others; who has nothing to do meanwhile gets its share of those that are left.
+/// It goes so many levels deep at most, one for each few pieces.
 #[cycle(preparing)]
 pub(crate) fn prepare<R: Threads + Sync>(
     rt: &R,
     idle: &Idle,
+    levels: usize,
     others: u64,
     waiting: &[Waiting],
     pieces: &mut [Piece],
@@ -126,6 +128,7 @@ pub(crate) fn prepare<R: Threads + Sync>(
     list: &DrawList,
     lens: &Lens,
 )
+    requires levels { length waiting.now ≤ 256 * (levels + 1) }
     requires count { length waiting.now ≡ length pieces.old }
     requires slots { length waiting.now ≡ length slots.old }
     requires listed { AreThere list.now waiting.now }
@@ -149,6 +152,7 @@ pub(crate) fn prepare<R: Threads + Sync>(
     prepare_both(
         rt,
         idle,
+        levels - 1,
         others,
         first,
         later,
@@ -167,6 +171,7 @@ pub(crate) fn prepare<R: Threads + Sync>(
 fn prepare_both<R: Threads + Sync>(
     rt: &R,
     idle: &Idle,
+    levels: usize,
     others: u64,
     first: &[Waiting],
     later: &[Waiting],
@@ -177,8 +182,8 @@ fn prepare_both<R: Threads + Sync>(
     list: &DrawList,
     lens: &Lens,
 )
-    requires some_first { 0 < length first.now }
-    requires some_later { 0 < length later.now }
+    requires first_levels { length first.now ≤ 256 * (levels + 1) }
+    requires later_levels { length later.now ≤ 256 * (levels + 1) }
     requires front_count { length first.now ≡ length front.old }
     requires rest_count { length later.now ≡ length rest.old }
     requires front_slots { length first.now ≡ length front_slots.old }
@@ -192,22 +197,22 @@ fn prepare_both<R: Threads + Sync>(
 {
     if others == 0 {
         prepare_in_turn(first, front, front_slots, list, lens);
-        prepare(rt, idle, 0, later, rest, rest_slots, list, lens);
+        prepare(rt, idle, levels, 0, later, rest, rest_slots, list, lens);
         return;
     }
     let more = others - 1;
     let mut one = ||
-        requires { IsSync R.row × AreThere list.now first.now × (length first.now ≡ length front.now)
-            × (length first.now ≡ length front_slots.now) }
+        requires { IsSync R.row × AreThere list.now first.now × (length first.now ≤ 256 * (levels + 1))
+            × (length first.now ≡ length front.now) × (length first.now ≡ length front_slots.now) }
         ensures { ArePrepared list.entry.now lens.entry.now first.entry.now front.exit.now
             × AreTaken front.exit.now front_slots.entry.now front_slots.exit.now }
-    { prepare(rt, idle, 0, first, front, front_slots, list, lens) };
+    { prepare(rt, idle, levels, 0, first, front, front_slots, list, lens) };
     let mut all = ||
-        requires { IsSync R.row × AreThere list.now later.now × (length later.now ≡ length rest.now)
-            × (length later.now ≡ length rest_slots.now) }
+        requires { IsSync R.row × AreThere list.now later.now × (length later.now ≤ 256 * (levels + 1))
+            × (length later.now ≡ length rest.now) × (length later.now ≡ length rest_slots.now) }
         ensures { ArePrepared list.entry.now lens.entry.now later.entry.now rest.exit.now
             × AreTaken rest.exit.now rest_slots.entry.now rest_slots.exit.now }
-    { prepare(rt, idle, more, later, rest, rest_slots, list, lens) };
+    { prepare(rt, idle, levels, more, later, rest, rest_slots, list, lens) };
     join_mut(rt, &mut one, &mut all);
 }
 

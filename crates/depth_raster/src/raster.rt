@@ -22,8 +22,9 @@ use std::alloc::Global;
 use std::marker::Model;
 use std::thread::Threads;
 
-/// A renderer with a depth buffer for the pictures of one lens, which it is seen as. Its tiles are made for the first picture, in
-/// the threads that draw it: until then their memory was not touched.
+/// A renderer with a depth buffer for the pictures of one lens, which it is seen as. Its tiles are made for the first picture, before
+/// anything of it is drawn: those of a large one in several threads, which claim its strips for that. Until then their memory was
+/// not touched.
 pub struct Raster {
     lens: Lens,
     strips: Vec<Strip>,

@@ -1,5 +1,6 @@
 //! The order in which pieces are drawn.
 ghost use Rattle.std.specs.Prelude.{◌≡◌, ℕ, ◌≤◌, List, All, length, take};
+ghost use Rattle.std.specs.List.Sorted.{IsNonDecreasingBy};
 ghost use Rattle.std.specs.Vec.{vec_capacity};
 ghost use Rattle.fx_math.specs.declared.lenses.Lens.{Lens};
 ghost use Rattle.depth_raster.specs.Pieces.{IsLeast};
@@ -89,6 +90,7 @@ pub(crate) fn complete(slots: &mut Vec<Slot>, pieces: &[Piece])
 pub(crate) fn sort(slots: &mut Vec<Slot>)
     ensures capacity { vec_capacity slots.new ≡ vec_capacity slots.old }
     ensures count { length slots.new.items ≡ length slots.old.items }
+    ensures rising { IsNonDecreasingBy (λ s. s.least) slots.new.items }
     ensures all { (lens : Lens) (ps : List Piece) → AreSlotsOf lens ps slots.old.items → AreSlotsOf lens ps slots.new.items }
 {
     slots.sort_unstable_by_key(|slot| slot.least);

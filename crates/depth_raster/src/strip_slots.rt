@@ -1,5 +1,6 @@
 //! The slots of a strip, in the order in which it draws their pieces.
 ghost use Rattle.std.specs.Prelude.{◌≡◌, List, length};
+ghost use Rattle.std.specs.List.Sorted.{IsNonDecreasingBy};
 ghost use Rattle.std.specs.Vec.{vec_capacity};
 ghost use Rattle.fx_math.specs.declared.lenses.Lens.{Lens};
 ghost use Rattle.depth_raster.specs.Shares.{AreSlotsFor};
@@ -44,6 +45,7 @@ impl StripSlot {
 pub(crate) fn sort_strip(slots: &mut Vec<StripSlot>)
     ensures capacity { vec_capacity slots.new ≡ vec_capacity slots.old }
     ensures count { length slots.new.items ≡ length slots.old.items }
+    ensures rising { IsNonDecreasingBy (λ s. s.least) slots.new.items }
     ensures same { (lens : Lens) (ps : List Piece) (b : Block) → AreSlotsFor lens ps b slots.old.items
         → AreSlotsFor lens ps b slots.new.items }
 {

@@ -3,7 +3,8 @@
 //! A unit of work is a pixel of a piece's box. One processor does some three million of them in a millisecond, in pictures of towns,
 //! where most are never looked at.
 
-ghost use Rattle.std.specs.Prelude.{◌<◌};
+ghost use Rattle.std.specs.Prelude.{◌≡◌, ◌+◌, ◌-◌, ◌/◌, ◌<◌, ◌≤◌, max, IfSome, Some};
+ghost use Rattle.std.specs.Option.{ForSome};
 
 use crate::pieces::Piece;
 use crate::slots::Slot;
@@ -41,6 +42,7 @@ const MANY_PIXELS: u32 = 196_608;
 #[derive(Clone, Copy)]
 pub(crate) struct Processors {
     others: Option<u8>,
+    ghost few: { ForSome others (λ n. n < 4) },
 }
 
 impl Processors {
@@ -50,7 +52,11 @@ impl Processors {
     }
 
     /// How many there are besides the caller's; the most where it cannot be told.
-    fn others<R: Threads>(&mut self, rt: &R) -> u8 {
+    fn others<R: Threads>(&mut self, rt: &R) -> u8
+        ensures few { result < 4 }
+        ensures again { IfSome self.old.others (λ n. result ≡ n) }
+        ensures counted { self.new.others ≡ Some result }
+    {
         if let Some(others) = self.others {
             return others;
         }
@@ -60,13 +66,18 @@ impl Processors {
     }
 
     /// How many there are.
-    fn count<R: Threads>(&mut self, rt: &R) -> usize {
+    fn count<R: Threads>(&mut self, rt: &R) -> usize
+        ensures few { result ≤ 4 }
+        ensures counted { IfSome self.new.others (λ n. result ≡ n + 1) }
+    {
         usize::from(self.others(rt)) + 1
     }
 }
 
 /// How many processors there are besides the caller's, at most one less than `MOST_PROCESSORS`; so many too where it cannot be told.
-fn counted_others<R: Threads>(rt: &R) -> u8 {
+fn counted_others<R: Threads>(rt: &R) -> u8
+    ensures { result < 4 }
+{
     match available_parallelism(rt) {
         Ok(count) => (count.get().min(MOST_PROCESSORS) - 1) as u8,
         Err(_) => (MOST_PROCESSORS - 1) as u8,
@@ -79,11 +90,9 @@ fn are_many(count: usize) -> bool {
 }
 
 /// How many other processors prepare pieces too, where there are so many pieces.
-pub(crate) fn others_to_prepare<R: Threads>(
-    rt: &R,
-    processors: &mut Processors,
-    count: usize,
-) -> u8 {
+pub(crate) fn others_to_prepare<R: Threads>(rt: &R, processors: &mut Processors, count: usize) -> u8
+    ensures { result < 4 }
+{
     if are_many(count) {
         processors.others(rt)
     } else {
@@ -96,7 +105,9 @@ pub(crate) fn processors_to_make_ready<R: Threads>(
     rt: &R,
     processors: &mut Processors,
     count: usize,
-) -> usize {
+) -> usize
+    ensures { result ≤ 4 }
+{
     if are_many(count) {
         processors.count(rt)
     } else {
@@ -110,21 +121,31 @@ pub(crate) fn is_more_to_prepare(count: usize) -> bool {
 }
 
 /// How many of so many pieces are prepared next: the share of one processor of so many others and this one, or a few where there
-/// are no others.
+/// are no others. At least a few come next, and, unless it is just a few, at least a few are left.
 pub(crate) fn next_pieces(count: usize, others: u64) -> usize
     requires { 256 < count }
-    ensures some { 0 < result }
+    ensures some { 256 ≤ result }
     ensures rest { result < count }
+    ensures share { result ≤ max 256 (count - 256) }
 {
     if others == 0 {
         return FEW_PIECES;
     }
     let share = count as u64 / others.saturating_add(1);
-    (share as usize).clamp(1, count - 1)
+    (share as usize).min(count - FEW_PIECES).max(FEW_PIECES)
+}
+
+/// How many levels deep the preparation of so many pieces goes at most: one for each few of them.
+pub(crate) fn levels_of(count: usize) -> usize
+    ensures { result ≡ count / 256 }
+{
+    count / FEW_PIECES
 }
 
 /// By how many processors pieces are drawn: as many as there are, where it is much work, and else one.
-pub(crate) fn processors_for<R: Threads>(rt: &R, processors: &mut Processors, work: u64) -> usize {
+pub(crate) fn processors_for<R: Threads>(rt: &R, processors: &mut Processors, work: u64) -> usize
+    ensures { result ≤ 4 }
+{
     if work < MUCH_WORK {
         1
     } else {
@@ -132,9 +153,11 @@ pub(crate) fn processors_for<R: Threads>(rt: &R, processors: &mut Processors, wo
     }
 }
 
-/// How many threads besides the caller's claim strips that so many processors draw: one more than there are other processors, since a
-/// new thread is often put where its maker runs, or begins late; the claims keep all of them busy. None where one processor draws.
-pub(crate) fn others_to_claim(processors: usize) -> u8 {
+/// How many threads besides the caller's claim strips that so many processors draw: one more than there are other processors, with
+/// which large triangles took less time than with just as many; why is not known. None where one processor draws.
+pub(crate) fn others_to_claim(processors: usize) -> u8
+    ensures { result ≤ processors }
+{
     if processors < 2 {
         0
     } else {
@@ -187,7 +210,9 @@ pub(crate) fn processors_to_show<R: Threads>(
     rt: &R,
     processors: &mut Processors,
     lens: &Lens,
-) -> usize {
+) -> usize
+    ensures { result ≤ 4 }
+{
     if u32::from(lens.w) * u32::from(lens.h) < MANY_PIXELS {
         1
     } else {

@@ -76,6 +76,7 @@ came_back k a f packet seen told taken taken' told_sent sink sink' ends took bar
           subst (λ (t : List Packet). HasHome g k after seen t) (sym took)
           (home_back g k (work_of a) after seen taken ends.sent stream packet given keeps away whole refl came.kept.home has);
       counted = λ holds right. holds;
+      passes = λ enough. enough;
       waited = λ enough. enough;
       whole = λ ok. refl;
       adds = record { found = seen; goes_on = found-self k seen; adds = inl refl };
@@ -135,6 +136,7 @@ came_short k a f packet seen seen' told told' taken taken' told_sent sink sink' 
           (home_found g k after seen seen' (taken ++ packet ∷ []) marks.goes_on
           (home_back g k (work_of a) after seen taken ends.sent stream packet given keeps away whole refl came.kept.home has));
       counted = λ holds right. counted holds;
+      passes = λ enough. enough;
       waited = λ enough. let more = merges_found k seen seen' marks.goes_on in omega (arith, enough, more);
       whole = λ ok. absurd (cc);
       adds = record { found = seen'; goes_on = marks.goes_on; adds = inl refl };
@@ -182,6 +184,7 @@ was_sent k a packet last seen told sent sent' room told_taken ends bare going la
       home = λ g stream given own keeps has.
           home_same g k (holding packet (work_of a)) (work_of (record a { ended = last })) seen ends.taken refl refl has;
       counted = λ holds right. holds;
+      passes = λ enough. enough;
       waited = λ enough. enough;
       whole = λ ok. refl;
       adds = record { found = seen; goes_on = found-self k seen; adds = inl refl };
@@ -232,6 +235,7 @@ passes_wait k wanted w seen told ends bare going next here before =
           ∙ sym (asked_next g w (app.Wait wanted) given going next)));
       home = λ g stream given own keeps has. home_same g k w after seen ends.taken refl refl has;
       counted = λ holds right. holds;
+      passes = λ fewer. omega (arith, fewer);
       waited = λ old. enough;
       whole = λ ok. refl;
       adds = record { found = seen; goes_on = found-self k seen; adds = inl refl };

@@ -71,6 +71,7 @@ edit_goes k e ends w found going next enough =
       at = omega arith;
       line = let lines : own_lines (next_step w.rest) w.state.synced ≡ 1 = lines_of w (Some (app.Edit e)) next in omega (arith, lines);
       need = refl;
+      passes = λ enough. omega (arith, enough);
       fault = refl;
       given = λ g given. given_past g w (app.Edit e) given next;
       part = λ g stream given own keeps.
@@ -97,6 +98,7 @@ view_goes k channel v ends w found going next enough =
       at = omega arith;
       line = let lines : own_lines (next_step w.rest) w.state.synced ≡ 1 = lines_of w (Some (app.View channel v)) next in omega (arith, lines);
       need = refl;
+      passes = λ enough. omega (arith, enough);
       fault = refl;
       given = λ g given. given_past g w (app.View channel v) given next;
       part = λ g stream given own keeps.
@@ -132,6 +134,7 @@ sync_goes true k ends w found going whole next enough room =
       at = omega arith;
       line = let lines : own_lines (next_step w.rest) w.state.synced ≡ 1 = lines_of w (Some app.Sync) next in omega (arith, lines);
       need = refl;
+      passes = λ enough. omega (arith, enough);
       fault = refl;
       given = λ g given. given_passed g w (synced_work true w) app.Sync given next refl refl;
       part = λ g stream given own keeps.
@@ -156,6 +159,7 @@ sync_goes false k ends w found going whole next enough room =
       at = omega arith;
       line = let lines : own_lines (next_step w.rest) w.state.synced ≡ 0 = lines_of w (Some app.Frame) next.0 ∙ ap (λ t. if t then 1 else 0) next.1 in omega (arith, lines);
       need = refl;
+      passes = λ enough. enough;
       fault = refl;
       given = given_same;
       part = λ g stream given own keeps.
@@ -200,6 +204,7 @@ close_goes k ends w found going whole bare next enough back room all =
       at = omega arith;
       line = let lines : own_lines (next_step w.rest) w.state.synced ≡ 0 = lines_of w None next in omega (arith, lines);
       need = refl;
+      passes = λ enough. enough;
       fault = refl;
       given = λ g given.
           record {
@@ -335,6 +340,7 @@ frame_goes k old load load' ends w found going bare synced next enough fit may c
       at = omega arith;
       line = let lines : own_lines (next_step w.rest) w.state.synced ≡ 1 = lines_of w (Some app.Frame) next ∙ ap (λ t. if t then 1 else 0) synced in omega (arith, lines);
       need = refl;
+      passes = λ enough. omega (arith, enough);
       fault = refl;
       given = given_begun;
       part = λ g stream given own keeps.

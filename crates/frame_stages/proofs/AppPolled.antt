@@ -24,9 +24,9 @@ use Rattle.stage_parts.specs.declared.answers.StageError.{StageError}
 use Rattle.stage_parts.specs.declared.answers.StageError.TheVariants as error
 use Rattle.frame_stages.specs.Scripts.{next_step, is_sync_due, own_lines}
 use Rattle.frame_stages.specs.AppTurns.{Tells, Made, Wanting, IsMarked, Marks}
-use Rattle.frame_stages.specs.AppWorks.{AppWork, IsGiven, merges_in}
+use Rattle.frame_stages.specs.AppWorks.{AppWork, IsGiven, PassesEnough, merges_in}
 use Rattle.frame_stages.specs.Copies.{HoldsCopies, IsHomeRight, HasHome}
-use Rattle.frame_stages.specs.AppAnswers.{Ends, Around, around, IsLonger, AppWaits, AppAnswers, AppAdds, KeepsOn, Polled}
+use Rattle.frame_stages.specs.AppAnswers.{Ends, Around, around, IsLonger, MayWant, AppWaits, AppAnswers, AppAdds, KeepsOn, Polled}
 use Rattle.frame_stages.proofs.AppLogs.{keeps_found, merges_more, merges_found, one_more}
 use Rattle.frame_stages.proofs.AppHome.{home_found, home_same}
 
@@ -62,6 +62,7 @@ idle k w w' seen seen' told told' ends found same still waits =
           kept_on g k w.state seen' told ends stream (keeps_found g k w.state seen seen' ends.taken ends.sent stream found keeps);
       home = λ g stream given own keeps has. home_found g k w seen seen' ends.taken found has;
       counted = λ holds right. holds;
+      passes = λ enough. enough;
       waited = λ enough. let more = merges_found k seen seen' found in omega (arith, enough, more);
       whole = λ ok. refl;
       adds = record { found = seen'; goes_on = found; adds = inl refl };
@@ -79,6 +80,7 @@ over k w seen seen' told told' ends found still =
           kept_on g k w.state seen' told ends stream (keeps_found g k w.state seen seen' ends.taken ends.sent stream found keeps);
       home = λ g stream given own keeps has. home_found g k w seen seen' ends.taken found has;
       counted = λ holds right. holds;
+      passes = λ enough. enough;
       waited = λ enough. let more = merges_found k seen seen' found in omega (arith, enough, more);
       whole = λ ok. refl;
       adds = record { found = seen'; goes_on = found; adds = inl refl };
@@ -104,10 +106,10 @@ respare g k a log ends stream spare many keeps =
     }
 
 -- there was no memory, and the mark is set
-pub out : (k : ℕ) (w w' : AppWork) (seen seen' : Log) (told told' : Option SceneState) (ends : Ends) → w.state.held ≡ None →
+pub out : (k : ℕ) (w w' : AppWork) (seen seen' : Log) (told told' : Option SceneState) (ends : Ends) → MayWant (next_step w.rest) → w.state.held ≡ None →
     Marks k seen told seen' told' → (HoldsCopies told → IsHomeRight w told → HoldsCopies told') → IsRespared w w' →
     Polled k (Err error.NoMemory) w w' (around seen told ends) (around seen' told' ends)
-out k w w' seen seen' told told' ends bare marks counted as_before =
+out k w w' seen seen' told told' ends wanted bare marks counted as_before =
     subst (λ (v : AppWork). Polled k (Err error.NoMemory) w v (around seen told ends) (around seen' told' ends)) (sym as_before.same)
     (record {
       given = λ g given. record {
@@ -127,10 +129,11 @@ out k w w' seen seen' told told' ends bare marks counted as_before =
           home_same g k w (record w { state = record w.state { spare = w'.state.spare } }) seen' ends.taken refl refl
           (home_found g k w seen seen' ends.taken marks.goes_on has);
       counted = counted;
+      passes = λ enough. enough;
       waited = λ enough. let more = merges_found k seen seen' marks.goes_on in omega (arith, enough, more);
       whole = λ ok. refl;
       adds = record { found = seen'; goes_on = marks.goes_on; adds = inl refl };
-      answer = record { at = refl; own = of_found k seen seen' marks.goes_on; told = marks.tells; ends = refl; bare = bare };
+      answer = record { wanted = wanted; at = refl; own = of_found k seen seen' marks.goes_on; told = marks.tells; ends = refl; bare = bare };
     })
 
 marked_later : (k : ℕ) (told told' told'' : Option SceneState) → Tells (λ old new. new ≡ seated k old) told told' →
@@ -167,6 +170,7 @@ pub record GoesOnBy (k : ℕ) (c : Command) (ends : Ends) (w w' : AppWork) (foun
   pub at : w.state.at ≤ w'.state.at
   pub line : w'.state.at ≡ w.state.at + own_lines (next_step w.rest) w.state.synced
   pub need : w'.state.need ≡ w.state.need
+  pub passes : PassesEnough w.state → PassesEnough w'.state
   pub fault : w'.state.fault ≡ w.state.fault
   pub given : (g : Setup) → IsGiven g w → IsGiven g w'
   pub part : (g : Setup) (stream : List ℕ) → IsGiven g w → AreOwnFrames k found.log →
@@ -207,6 +211,7 @@ by_entry k c May w w' seen seen' told told' ends m bare back counted by =
           (by.home g stream given (keeps_found g k w.state seen log ends.taken ends.sent stream m.goes_on keeps)
           (home_found g k w seen log ends.taken m.goes_on has));
       counted = counted;
+      passes = by.passes;
       waited = λ enough.
           let first = merges_found k seen log m.goes_on in
           let second : merges_in log ≤ merges_in seen' = subst (λ (l : Log). merges_in log ≤ merges_in l) (sym m.adds) (merges_more log (e ∷ [])) in
@@ -270,7 +275,7 @@ looked_answer (Err error.FrameFault) k w w' first seen told ends after own s =
       due = s.due;
     }
 looked_answer (Err error.NoMemory) k w w' first seen told ends after own s =
-    record { at = s.at; own = s.own ∙ own; told = s.told; ends = s.ends; bare = s.bare }
+    record { wanted = s.wanted; at = s.at; own = s.own ∙ own; told = s.told; ends = s.ends; bare = s.bare }
 
 adds_later : (k written : ℕ) (first seen seen' : Log) → Found k first seen → AppAdds k written seen seen' → AppAdds k written first seen'
 adds_later k written first seen seen' found adds =
@@ -288,6 +293,7 @@ looked r k w w' first seen told ends after found polled =
           polled.home g stream given own (keeps_found g k w.state first seen ends.taken ends.sent stream found keeps)
           (home_found g k w first seen ends.taken found has);
       counted = polled.counted;
+      passes = polled.passes;
       waited = λ enough.
           let more = merges_found k first seen found in
           polled.waited (omega (arith, enough, more));

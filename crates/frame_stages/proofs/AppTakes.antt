@@ -20,12 +20,13 @@ use Rattle.stage_parts.specs.declared.answers.Did.TheVariants as did
 use Rattle.stage_parts.specs.declared.answers.StageError.TheVariants as error
 use Rattle.frame_stages.specs.declared.application.Application.{Application}
 use Rattle.stage_parts.specs.Answers.{IsFull, IsDry}
-use Rattle.frame_stages.specs.Scripts.{ScriptState, next_step, is_sync_due, passed, SyncIsNext, synced_script}
+use Rattle.frame_stages.specs.Scripts.{ScriptState, next_step, IsNext, is_sync_due, passed, SyncIsNext, synced_script}
+use Rattle.frame_stages.specs.declared.script.Next.TheVariants as next
 use Rattle.frame_stages.specs.Flights.{FlightState, IsFitFor, begun}
 use Rattle.frame_stages.specs.AppTurns.{Bars, Made, Barred, Wanting, Marks, Begun}
 use Rattle.frame_stages.specs.AppWorks.{AppWork, work_of, holds_end, holding, with_load, merges_in}
 use Rattle.frame_stages.specs.Copies.{HoldsCopies, AreHomeward, IsHomeRight}
-use Rattle.frame_stages.specs.AppAnswers.{Ends, around, AppWaits, StepWaits, FrameWaits, SyncWaits, CloseWaits, Polled}
+use Rattle.frame_stages.specs.AppAnswers.{Ends, around, MayWant, AppWaits, StepWaits, FrameWaits, SyncWaits, CloseWaits, Polled}
 use Rattle.frame_stages.proofs.AppLogs.{merges_found}
 use Rattle.frame_stages.proofs.AppPolled.{idle, out, IsRespared, marks_later, by_entry}
 use Rattle.frame_stages.proofs.AppBack.{passes_wait}
@@ -71,19 +72,28 @@ need_waits k w seen told ends bare fewer =
 -- a step that is barred
 pub barred : (k : ℕ) (w w' : AppWork) (May : Shared → Type 0) (seen seen' : Log) (told told' : Option SceneState) (ends : Ends) (step : Option AppStep) →
     w.state.held ≡ None → next_step w.rest ≡ step → w' ≡ w → Barred k May seen told seen' told' →
-    (Bars May told → StepWaits step w told ends seen') →
+    (Bars May told seen' → StepWaits step w told ends seen') →
     Polled k (Ok did.NotYet) w w' (around seen told ends) (around seen' told' ends)
 barred k w w' May seen seen' told told' ends step bare next same b waits =
     idle k w w' seen seen' told told' ends b.goes_on same b.same
     (step_waits w seen' told ends step bare next (waits b.bars))
 
+-- an edit may want memory
+pub edit_wants : (step : Option AppStep) → IsNext next.Edit step → MayWant step
+edit_wants step (e, is) = subst MayWant (sym is) tt
+
+-- so may a Sync
+pub sync_wants : (asked synced : Bool) (step : Option AppStep) → SyncIsNext asked synced step → MayWant step
+sync_wants true synced step is = subst MayWant (sym is) tt
+sync_wants false synced step is = subst MayWant (sym is.0) tt
+
 -- a step that found no memory
-pub wanting : (k : ℕ) (w w' : AppWork) (seen seen' seen'' : Log) (told told' told'' : Option SceneState) (ends : Ends) → w.state.held ≡ None →
-    w' ≡ w →
+pub wanting : (k : ℕ) (w w' : AppWork) (seen seen' seen'' : Log) (told told' told'' : Option SceneState) (ends : Ends) → MayWant (next_step w.rest) →
+    w.state.held ≡ None → w' ≡ w →
     Wanting k seen told seen' told' → Marks k seen' told' seen'' told'' → (HoldsCopies told → IsHomeRight w told → HoldsCopies told'') →
     Polled k (Err error.NoMemory) w w' (around seen told ends) (around seen'' told'' ends)
-wanting k w w' seen seen' seen'' told told' told'' ends bare same want marks counted =
-    out k w w' seen seen'' told told'' ends bare (marks_later k seen seen' seen'' told told' told'' want marks) counted
+wanting k w w' seen seen' seen'' told told' told'' ends wanted bare same want marks counted =
+    out k w w' seen seen'' told told'' ends wanted bare (marks_later k seen seen' seen'' told told' told'' want marks) counted
     (subst (λ (v : AppWork). IsRespared w v) (sym same) (record { same = refl; many = refl }))
 
 -- before this step no Sync is due
@@ -209,12 +219,12 @@ put_same a f load load' same is =
 
 -- a Sync has to wait
 pub sync_step : (asked : Bool) (w : AppWork) (seen' : Log) (told : Option SceneState) (ends : Ends) → w.state.held ≡ None →
-    SyncIsNext asked w.state.synced (next_step w.rest) → SyncWaits w told ends → AppWaits w told ends seen'
+    SyncIsNext asked w.state.synced (next_step w.rest) → SyncWaits w told ends seen' → AppWaits w told ends seen'
 sync_step true w seen' told ends bare next waits =
     step_waits w seen' told ends (Some app.Sync) bare next waits
 sync_step false w seen' told ends bare next waits =
     step_waits w seen' told ends (Some app.Frame) bare next.0
-    (subst (λ t. FrameWaits t w told ends) (sym next.1) waits)
+    (subst (λ t. FrameWaits t w told ends seen') (sym next.1) waits)
 
 pub sync_waits : (k : ℕ) (asked : Bool) (w : AppWork) (seen : Log) (told : Option SceneState) (ends : Ends) → w.state.held ≡ None →
     SyncIsNext asked w.state.synced (next_step w.rest) →
@@ -244,7 +254,7 @@ pub frame_waits : (k : ℕ) (w w' : AppWork) (seen seen' : Log) (told told' : Op
     Polled k (Ok did.NotYet) w w' (around seen told ends) (around seen' told' ends)
 frame_waits k w w' seen seen' told told' ends bare next synced same b =
     barred k w w' (λ s. MayFrame s w.ahead w.channels) seen seen' told told' ends (Some app.Frame) bare next same b
-    (λ bars. subst (λ t. FrameWaits t w told ends) (sym synced) bars)
+    (λ bars. subst (λ t. FrameWaits t w told ends seen') (sym synced) bars)
 
 -- a frame that was barred, by the numbers of the stage
 pub frame_barred : (k ahead ahead' : ℕ) (load : LoadState) (seen seen' : Log) (told told' : Option SceneState) (channels : ℕ) →
@@ -254,18 +264,21 @@ frame_barred k ahead ahead' load seen seen' told told' channels same many b =
     subst (λ n. Barred k (λ s. MayFrame s n channels) seen told seen' told') same
     (subst (λ n. Barred k (λ s. MayFrame s ahead n) seen told seen' told') many b)
 
--- no load was taken out of hand
-pub taken_none : (a : Application) (f : FlightState) → f ≡ record a.flight { spare = f.spare; room = f.room } → f.spare ≡ a.flight.spare →
+-- room was made for the numbers of a frame, or not, and the loads in hand stay
+pub taken_none : (a : Application) (f : FlightState) → f ≡ record a.flight { room = f.room } →
     IsRespared (work_of a) (work_of (record a { flight = f }))
-taken_none a f is none =
-    record { same = ap (λ (v : FlightState). work_of (record a { flight = v })) is; many = ap length none }
+taken_none a f is =
+    subst (λ (v : FlightState). IsRespared (work_of a) (work_of (record a { flight = v }))) (sym is)
+    (record { same = refl; many = refl })
 
--- a load was taken out of hand
-pub taken_some : (a : Application) (f : FlightState) (load : LoadState) → f ≡ record a.flight { spare = f.spare; room = f.room } →
-    a.flight.spare ≡ f.spare ++ load ∷ [] → with_load load (work_of (record a { flight = f })) ≡ work_of a
-taken_some a f load is spare =
+-- a load was taken out of hand after room was made
+pub taken_some : (a : Application) (m f : FlightState) (load : LoadState) → m ≡ record a.flight { room = m.room } → f ≡ record m { spare = f.spare } →
+    m.spare ≡ f.spare ++ load ∷ [] → with_load load (work_of (record a { flight = f })) ≡ work_of a
+taken_some a m f load roomy is spare =
+    let w = work_of (record a { flight = m }) in
     ap (λ (v : FlightState). with_load load (work_of (record a { flight = v }))) is
-    ∙ ap (λ (s : List LoadState). record (work_of a) { state = record (work_of a).state { spare = s } }) (sym spare)
+    ∙ ap (λ (s : List LoadState). record w { state = record w.state { spare = s } }) (sym spare)
+    ∙ ap (λ (v : FlightState). work_of (record a { flight = v })) roomy
 
 -- the packet that was held is to be sent
 pub held_again : (a : Application) (packet : Packet) → a.held ≡ Some packet → holding packet (work_of (record a { held = None })) ≡ work_of a

@@ -59,8 +59,8 @@ turned_barred k May seen seen' told told' found left goes_on same not seen_is te
     still None tells = tells
     still (Some scene) (is, is') = is' ∙ ap Some (same ∙ sym is)
 
-    bars : (t : Option SceneState) → Told t told' found left → Bars May t
-    bars None tells = tt
+    bars : (t : Option SceneState) → Told t told' found left → Bars May t seen'
+    bars None tells = (found.shared, sym (seen_is ∙ ap (λ (s : SceneState). s.shared.log) same), not)
     bars (Some scene) (is, is') = λ may. not (subst (λ (s : SceneState). May s.shared) is may)
 
 -- there was no memory

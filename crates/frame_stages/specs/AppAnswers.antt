@@ -1,5 +1,5 @@
 -- What a poll of the application's stage says.
-use Rattle.std.specs.Prelude.{◌≡◌, ◌⊎◌, ℕ, ◌+◌, ◌<◌, ◌≤◌, Bool, true, false, List, [], ◌∷◌, ◌++◌, length, Option, None, Some, IsSome, MatchOption, Result, Ok, Err}
+use Rattle.std.specs.Prelude.{◌≡◌, ⊤, ◌⊎◌, ℕ, ◌+◌, ◌<◌, ◌≤◌, Bool, true, false, List, [], ◌∷◌, ◌++◌, length, Option, None, Some, IsSome, MatchOption, Result, Ok, Err}
 use Rattle.std.specs.Io.KnownBytes.{append_known}
 use Rattle.seat_lock.specs.Log.{of, Found}
 use Rattle.pf_io.specs.Causes.{Rose}
@@ -22,7 +22,7 @@ use Rattle.stage_parts.specs.Answers.{IsFull, IsDry}
 use Rattle.frame_stages.specs.Flights.{FlightState, SinkSide}
 use Rattle.frame_stages.specs.Scripts.{next_step, is_sync_due, own_lines}
 use Rattle.frame_stages.specs.AppTurns.{Tells, Bars, IsMarked}
-use Rattle.frame_stages.specs.AppWorks.{AppWork, IsGiven, merges_in}
+use Rattle.frame_stages.specs.AppWorks.{AppWork, IsGiven, PassesEnough, merges_in}
 use Rattle.frame_stages.specs.Copies.{HoldsCopies, IsHomeRight, HasHome}
 
 -- What is known of the links and of the sink: what was received and sent, what the other ends sent and received, and the
@@ -129,8 +129,14 @@ pub record CutsShort (k : ℕ) (old new : AppWork) (before after : Around) : Typ
   pub bare : old.state.held ≡ None
   pub due : is_sync_due (next_step old.rest) old.state.synced ≡ true
 
--- There was no memory.
+-- a step that may want memory: each but a wait, and the end of the section
+abbrev pub MayWant : Option AppStep → Type 0
+MayWant (Some (app.Wait n)) = ⊥
+MayWant _ = ⊤
+
+-- There was no memory for the next step.
 pub record RunsOut (k : ℕ) (old new : AppWork) (before after : Around) : Type 0 where
+  pub wanted : MayWant (next_step old.rest)
   pub at : new.state.at ≡ old.state.at
   pub own : of k after.seen ≡ of k before.seen
   pub told : Tells IsMarked before.told after.told
@@ -138,29 +144,29 @@ pub record RunsOut (k : ℕ) (old new : AppWork) (before after : Around) : Type 
   pub bare : old.state.held ≡ None
 
 -- A Sync has to wait: more frames are away than may be, and no packet came back.
-abbrev pub SyncWaits : AppWork → Option SceneState → Ends → Type 0
-SyncWaits w told ends =
+abbrev pub SyncWaits : AppWork → Option SceneState → Ends → Log → Type 0
+SyncWaits w told ends seen' =
     ((w.state.written < w.state.frames → IsDry ends.told_sent ends.taken) × (w.state.written + w.ahead ≤ w.state.frames))
-    ⊎ Bars (λ s. MaySync s w.state.written) told
+    ⊎ Bars (λ s. MaySync s w.state.written) told seen'
 
 -- the close has to wait: frames are away, and no packet came back; or merges of the play are not made
 abbrev pub CloseWaits : AppWork → Option SceneState → Ends → Log → Type 0
 CloseWaits w told ends seen' =
     (IsDry ends.told_sent ends.taken × (w.state.written < w.state.frames))
-    ⊎ ((merges_in seen' < w.merges) ⊎ SyncWaits w told ends)
+    ⊎ ((merges_in seen' < w.merges) ⊎ SyncWaits w told ends seen')
 
 -- a Frame has to wait, behind a Sync or before one
-abbrev pub FrameWaits : Bool → AppWork → Option SceneState → Ends → Type 0
-FrameWaits true w told ends = Bars (λ s. MayFrame s w.ahead w.channels) told
-FrameWaits false w told ends = SyncWaits w told ends
+abbrev pub FrameWaits : Bool → AppWork → Option SceneState → Ends → Log → Type 0
+FrameWaits true w told ends seen' = Bars (λ s. MayFrame s w.ahead w.channels) told seen'
+FrameWaits false w told ends seen' = SyncWaits w told ends seen'
 
 -- the next step has to wait
 abbrev pub StepWaits : Option AppStep → AppWork → Option SceneState → Ends → Log → Type 0
 StepWaits None w told ends seen' = CloseWaits w told ends seen'
-StepWaits (Some (app.Edit e)) w told ends seen' = Bars (λ s. MayEdit s e) told
-StepWaits (Some (app.View channel v)) w told ends seen' = Bars (λ s. MayView s channel v) told
-StepWaits (Some app.Sync) w told ends seen' = SyncWaits w told ends
-StepWaits (Some app.Frame) w told ends seen' = FrameWaits w.state.synced w told ends
+StepWaits (Some (app.Edit e)) w told ends seen' = Bars (λ s. MayEdit s e) told seen'
+StepWaits (Some (app.View channel v)) w told ends seen' = Bars (λ s. MayView s channel v) told seen'
+StepWaits (Some app.Sync) w told ends seen' = SyncWaits w told ends seen'
+StepWaits (Some app.Frame) w told ends seen' = FrameWaits w.state.synced w told ends seen'
 StepWaits (Some (app.Wait n)) w told ends seen' = merges_in seen' < n
 
 -- Why the stage has to wait, where the log seen is then this: the link has no room for the packet that it holds; fewer
@@ -220,6 +226,8 @@ pub record Polled (k : ℕ) (result : Result Did StageError) (old new : AppWork)
       HasHome g k old before.seen before.ends.taken → HasHome g k new after.seen after.ends.taken
   -- the scene's copies stay accounted for, where the lists that go home are right
   pub counted : HoldsCopies before.told → IsHomeRight old before.told → HoldsCopies after.told
+  -- it passed a line for each frame
+  pub passes : PassesEnough old.state → PassesEnough new.state
   -- the merges that it waited for stand in the log
   pub waited : old.state.need ≤ merges_in before.seen → new.state.need ≤ merges_in after.seen
   -- only a fault of the sink makes it keep one

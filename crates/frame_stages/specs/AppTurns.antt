@@ -1,5 +1,5 @@
 -- What a turn of the application came to.
-use Rattle.std.specs.Prelude.{◌≡◌, ℕ, true, List, [], ◌∷◌, ◌++◌, map, length, Option, None, Some, IfSome, MatchOption}
+use Rattle.std.specs.Prelude.{◌≡◌, ℕ, true, List, [], ◌∷◌, ◌++◌, map, length, Option, None, Some, MatchOption}
 use Rattle.seat_lock.specs.Log.{Found}
 use Rattle.pf_model.specs.declared.edits.Edit.{Edit}
 use Rattle.pf_model.specs.declared.lines.AppStep.TheVariants as app
@@ -31,16 +31,17 @@ pub record Made (k : ℕ) (c : Command) (May : Shared → Type 0) (seen : Log) (
   pub adds : seen' ≡ found.log ++ own_entry found.channels found.log k c ∷ []
   pub tells : Tells (λ old new. new ≡ entered c (seated k old)) told told'
 
--- the command might not be made in the scene, where that is told
-abbrev pub Bars : (Shared → Type 0) → Option SceneState → Type 0
-Bars May told = IfSome told (λ scene. May scene.shared → ⊥)
+-- the command might not be made in the scene that was found: in the one that is told, or else in one whose log is now seen
+abbrev pub Bars : (Shared → Type 0) → Option SceneState → (seen' : Log) → Type 0
+Bars May told seen' =
+    MatchOption told ((found : Shared) × (found.log ≡ seen') × (May found → ⊥)) (λ scene. May scene.shared → ⊥)
 
 -- A command was not entered, since it might not be made in the scene that was found. Nothing changed.
 pub record Barred (k : ℕ) (May : Shared → Type 0) (seen : Log) (told : Option SceneState) (seen' : Log)
     (told' : Option SceneState) : Type 0 where
   pub goes_on : Found k seen seen'
   pub same : told' ≡ told
-  pub bars : Bars May told
+  pub bars : Bars May told seen'
 
 -- A command was not entered for want of memory.
 pub record Wanting (k : ℕ) (seen : Log) (told : Option SceneState) (seen' : Log) (told' : Option SceneState) : Type 0 where

@@ -94,6 +94,10 @@ opening_work g loads =
 abbrev pub is_done : AppState → Bool
 is_done a = a.ended || is_some a.fault
 
+-- it passed a line for each frame that it began
+abbrev pub PassesEnough : AppState → Type 0
+PassesEnough a = a.frames ≤ a.at
+
 -- how many merges stand in a log
 abbrev pub merges_in : Log → ℕ
 merges_in log = how_many is_merge log

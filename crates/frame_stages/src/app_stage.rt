@@ -40,11 +40,13 @@ impl Drop for AppStage {
 }
 
 impl Model for AppStage {
-    ghost use Rattle.frame_stages.specs.AppWorks.{AppWork, work_of};
+    ghost use Rattle.frame_stages.specs.AppWorks.{AppWork, PassesEnough, work_of};
 
     ghost Value = { AppWork };
 
     ghost view = { λ a. work_of a.parts };
+
+    ghost invariant = { λ a. PassesEnough (work_of a.parts).state };
 }
 
 impl AppStage {

@@ -1,5 +1,5 @@
 //! The steps of the application, each to be taken where the scene was just looked at.
-ghost use Rattle.std.specs.Prelude.{◌≡◌, ◌≤◌, ℕ, true, false, Option, None, Some, Ok, Err};
+ghost use Rattle.std.specs.Prelude.{◌≡◌, ◌<◌, ◌≤◌, ℕ, true, false, Option, None, Some, Ok, Err};
 ghost use Rattle.pf_model.specs.declared.lines.AppStep.TheVariants as app;
 ghost use Rattle.pf_history.specs.Logs.{Log};
 ghost use Rattle.pf_scene.specs.Scenes.{SceneState};
@@ -8,7 +8,7 @@ ghost use Rattle.stage_parts.specs.declared.packets.Packet.TheVariants as packet
 ghost use Rattle.frame_stages.specs.declared.script.Next.TheVariants as next;
 ghost use Rattle.stage_parts.specs.declared.answers.Did.TheVariants as did;
 ghost use Rattle.stage_parts.specs.Answers.{did_of, is_over};
-ghost use Rattle.frame_stages.specs.Scripts.{next_step, IsNext, passed, SyncIsNext, synced_script};
+ghost use Rattle.frame_stages.specs.Scripts.{next_step, IsNext, passed, SyncIsNext, synced_script, most_lines};
 ghost use Rattle.frame_stages.specs.Flights.{HaveFirst, begun, IsTaken, IsFitFor};
 ghost use Rattle.frame_stages.specs.Looks.{FoundMark};
 ghost use Rattle.frame_stages.specs.AppWorks.{work_of, is_done, merges_in, holding, with_load};
@@ -385,11 +385,17 @@ impl Application {
         requires bare { self.old.held ≡ None }
         requires going { self.old.ended ≡ false }
         requires waited { self.old.script.need ≤ merges_in (D.seen desk.old) }
+        requires lines { self.old.script.at < most_lines }
+        requires few { self.old.flight.frames ≤ self.old.script.at }
         ensures polled { (ends : Ends) → Polled (D.number desk.old) result (work_of self.old) (work_of self.new)
             (around (D.seen desk.old) (D.told desk.old) ends) (around (D.seen desk.new) (D.told desk.new) ends) }
         ensures on { is_over result ≡ false }
         ensures desk { desk_place (D.number desk.new) (D.stands desk.new) ≡ desk_place (D.number desk.old) (D.stands desk.old) }
     {
+        let Ok(()) = self.flight.make_room() else {
+            stop(desk);
+            return Err(StageError::NoMemory);
+        };
         match self.flight.take_load() {
             None => {
                 stop(desk);
@@ -420,6 +426,7 @@ impl Application {
         requires whole { self.old.flight.fault ≡ None }
         requires waited { self.old.script.need ≤ merges_in (D.seen desk.old) }
         requires merges { merges ≡ merges_in (D.seen desk.old) }
+        requires few { self.old.flight.frames ≤ self.old.script.at }
         ensures polled { (ends : Ends) → Polled (D.number desk.old) result (work_of self.old) (work_of self.new)
             (around (D.seen desk.old) (D.told desk.old) (with_back (T.taken from.old) (T.told_sent from.old)
             (record { bytes = O.written frames.old; faults = O.faults frames.old; at_fault = O.at_fault frames.old }) ends))
@@ -459,6 +466,7 @@ impl Application {
         requires going { self.old.ended ≡ false }
         requires whole { self.old.flight.fault ≡ None }
         requires merges { merges ≡ merges_in (D.seen desk.old) }
+        requires few { self.old.flight.frames ≤ self.old.script.at }
         ensures polled { (ends : Ends) → Polled (D.number desk.old) result (work_of self.old) (work_of self.new)
             (around (D.seen desk.old) (D.told desk.old) (with_back (T.taken from.old) (T.told_sent from.old)
             (record { bytes = O.written frames.old; faults = O.faults frames.old; at_fault = O.at_fault frames.old }) ends))
@@ -488,6 +496,7 @@ impl Application {
         requires going { self.old.ended ≡ false }
         requires whole { self.old.flight.fault ≡ None }
         requires merges { merges ≡ merges_in (D.seen desk.old) }
+        requires few { self.old.flight.frames ≤ self.old.script.at }
         ensures polled { Polled (D.number desk.old) result (work_of self.old) (work_of self.new)
             (around (D.seen desk.old) (D.told desk.old) (record {
               taken = T.taken from.old;
@@ -546,6 +555,7 @@ impl Application {
         frames: &mut O,
         gate: &G,
     ) -> Result<Did, StageError>
+        requires few { self.old.flight.frames ≤ self.old.script.at }
         ensures polled { Polled (D.number desk.old) result (work_of self.old) (work_of self.new)
             (around (D.seen desk.old) (D.told desk.old) (record {
               taken = T.taken from.old;

@@ -27,7 +27,8 @@ use std::alloc::Global;
 use std::marker::Model;
 
 /// The cull: it takes the loads that the application sends, keeps its copy of the scene by their update lists, fills
-/// their draw lists with what is in sight, and sends them on. Only `new` takes memory.
+/// their draw lists with what is in sight, and sends them on. No poll
+/// answers want of memory.
 ///
 /// Contracts see the lens, the copy with its boxes, whether the End was passed on, and the packet that it holds to send.
 pub struct CullStage {
@@ -205,7 +206,7 @@ impl CullStage {
         self.ended
     }
 
-    /// One step: sends the packet that it holds, or takes one and holds what it makes of it. It takes no memory.
+    /// One step: sends the packet that it holds, or takes one and holds what it makes of it.
     pub fn poll<D: Desk<Scene>, S: SendEnd<Packet>, T: TakeEnd<Packet>, G: Gate>(
         &mut self,
         desk: &mut D,

@@ -83,7 +83,7 @@ fn cull_channel(
     counted::<Brand>(Blank::new(1), copy, time, view, lens, list)
 }
 
-/// Culls all channels over a copy by its boxes, each into its list, and answers the numbers of the frame. It takes no memory.
+/// Culls all channels over a copy by its boxes, each into its list, and answers the numbers of the frame.
 fn cull_all(
     copy: &StageCopy,
     time: u32,
@@ -105,7 +105,7 @@ fn cull_all(
 }
 
 /// Takes the update list of a load into the copy, which leaves in its place what stood there, and culls all channels of
-/// the load. It takes no memory.
+/// the load.
 pub(crate) fn cull_load(alloc: Global, copy: &mut StageCopy, lens: &Lens, load: &mut Load)
     ensures { CullsLoad lens.now copy.old copy.new load.old load.new }
 {

@@ -24,7 +24,8 @@ use std::alloc::Global;
 use std::marker::Model;
 use std::thread::Threads;
 
-/// The draw: it takes the loads that the cull sends, draws their pictures, and sends them back. Only `new` takes memory.
+/// The draw: it takes the loads that the cull sends, draws their pictures, and sends them back. No poll
+/// answers want of memory: a picture that several processors draw takes some, and is the same without.
 ///
 /// Contracts see the lens, the background, whether the End was taken, and the packet that it holds to send.
 pub struct DrawStage {
@@ -181,7 +182,7 @@ impl DrawStage {
         self.ended
     }
 
-    /// One step: sends the packet that it holds, or takes one and holds what it makes of it. It takes no memory.
+    /// One step: sends the packet that it holds, or takes one and holds what it makes of it.
     pub fn poll<R: Threads + Sync, D: Desk<Scene>, S: SendEnd<Packet>, T: TakeEnd<Packet>, G: Gate>(
         &mut self,
         rt: &R,

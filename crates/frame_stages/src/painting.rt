@@ -10,7 +10,7 @@ use stage_parts::Load;
 use std::thread::Threads;
 
 /// Draws the picture of a channel's list into an image of the lens's size, and exchanges it with that of the channel,
-/// where this has the lens's size too. It takes no memory.
+/// where this has the lens's size too.
 pub(crate) fn paint_channel<R: Threads + Sync>(
     rt: &R,
     raster: &mut Raster,
@@ -30,7 +30,7 @@ pub(crate) fn paint_channel<R: Threads + Sync>(
     let _ = load.swap_image(channel, image);
 }
 
-/// Draws the pictures of all channels of a load, and puts their bytes in its buffer. It takes no memory.
+/// Draws the pictures of all channels of a load, and puts their bytes in its buffer.
 pub(crate) fn paint<R: Threads + Sync>(
     rt: &R,
     raster: &mut Raster,

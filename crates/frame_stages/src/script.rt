@@ -1,5 +1,5 @@
 //! The lines of the application's section, and how it goes through them.
-ghost use Rattle.std.specs.Prelude.{◌≡◌, ◌<◌, ◌≤◌, max, length, slice_get, slice_set, Some, drop};
+ghost use Rattle.std.specs.Prelude.{◌≡◌, ◌+◌, ◌<◌, ◌≤◌, max, length, slice_get, slice_set, Some, drop};
 ghost use Rattle.pf_model.specs.declared.lines.AppLine.{AppLine};
 ghost use Rattle.frame_stages.specs.Scripts.{next_step, IsNext, passed, Exchanged, most_lines};
 
@@ -90,7 +90,8 @@ impl Script {
 
     /// What the next line asks for.
     pub(crate) fn next(&self) -> Next
-        ensures { IsNext result (next_step self.now.rest) }
+        ensures next { IsNext result (next_step self.now.rest) }
+        ensures few { self.now.at + length self.now.rest ≤ most_lines }
     {
         match self.lines.get(self.at as usize) {
             Some(line) => next_of(line),

@@ -9,7 +9,7 @@ ghost use Rattle.frame_stages.specs.AppTurns.{Comes, LeavesHome};
 ghost use Rattle.frame_stages.specs.Copies.{HoldsCopies, AreHomeward};
 ghost use Rattle.pf_history.specs.declared.commands.Command.TheVariants as command;
 ghost use Rattle.pf_scene.specs.Acts.{MaySync};
-ghost use Rattle.frame_stages.specs.Flights.{HaveFirst, IsFitFor, begun, IsTaken, IsKeptOf, CameBack, CameShort, Brings};
+ghost use Rattle.frame_stages.specs.Flights.{HaveFirst, IsFitFor, begun, most_frames, IsTaken, IsKeptOf, CameBack, CameShort, Brings};
 
 use crate::app_turns::{Came, make_sync};
 use draw_list::{DrawList, Stats};
@@ -23,9 +23,6 @@ use stage_parts::{Load, Packet};
 use std::alloc::Global;
 use std::marker::Model;
 use update_lists::Updates;
-
-/// No more frames than this are begun: a play has at most so many lines.
-const MOST_FRAMES: u32 = 262_144;
 
 /// What came of bringing a packet back.
 #[derive(Clone, Copy, Debug, PartialEq, Eq)]
@@ -228,7 +225,7 @@ impl Flight {
         self.stats
     }
 
-    /// Keeps a load that came back, its numbers, and the update list that goes home. It takes no memory.
+    /// Keeps a load that came back, its numbers, and the update list that goes home.
     fn keep(&mut self, mut load: Load)
         requires loads { length self.old.spare + 1 + self.old.frames
             ≤ self.old.ahead + (self.old.written + cut_short self.old.fault) }
@@ -288,7 +285,7 @@ impl Flight {
         }
     }
 
-    /// Takes a packet back, where a frame is away and one came, and writes its picture. It takes no memory.
+    /// Takes a packet back, where a frame is away and one came, and writes its picture.
     pub(crate) fn bring_back<T: TakeEnd<Packet>, O: Sink>(
         &mut self,
         from: &mut T,
@@ -317,21 +314,28 @@ impl Flight {
         }
     }
 
-    /// Takes a load out of hand for the next frame, and makes room for the frame's numbers.
+    /// Makes room for the numbers of one frame more. It is refused only where there is none.
+    pub(crate) fn make_room(&mut self) -> Result<(), NoMemory>
+        requires few { self.old.frames < most_frames }
+        ensures room { OnOk result (self.old.frames < self.new.room) }
+        ensures full { OnErr result (self.old.room ≤ self.old.frames) }
+        ensures same { self.new ≡ record self.old { room = self.new.room } }
+    {
+        let away = self.frames as usize - self.stats.len();
+        self.stats.reserve(away + 1)?;
+        Ok(())
+    }
+
+    /// Takes a load out of hand for the next frame, where one is there.
     pub(crate) fn take_load(&mut self) -> Option<Load>
+        requires few { self.old.frames < most_frames }
+        requires room { self.old.frames < self.old.room }
         ensures some { IfSome result (λ l. self.old.spare ≡ self.new.spare ++ l ∷ []) }
         ensures first { IfSome result (λ l. HaveFirst l.lists) }
         ensures taken { IfSome result (λ l. IsTaken self.new) }
-        ensures none { IfNone result (self.new.spare ≡ self.old.spare) }
-        ensures same { self.new ≡ record self.old { spare = self.new.spare; room = self.new.room } }
+        ensures none { IfNone result ((self.old.spare ≡ []) × (self.new ≡ self.old)) }
+        ensures same { self.new ≡ record self.old { spare = self.new.spare } }
     {
-        if self.frames >= MOST_FRAMES {
-            return None;
-        }
-        let away = self.frames as usize - self.stats.len();
-        if self.stats.reserve(away + 1).is_err() {
-            return None;
-        }
         self.spare.pop()
     }
 

@@ -3,11 +3,15 @@
 #![tactic(auto)]
 
 #[cfg(test)]
+mod calls;
+#[cfg(test)]
 mod links;
 #[cfg(test)]
 mod meetings;
 #[cfg(test)]
 mod merges;
+#[cfg(test)]
+mod passes;
 #[cfg(test)]
 mod played;
 #[cfg(test)]

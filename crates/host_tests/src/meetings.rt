@@ -1,16 +1,19 @@
-//! Where stages are on different hosts, they are in their gates at once.
+//! Where stages are on different hosts, they are in their gates at once: through the whole call, by its words.
 
-use crate::played::{MODES, play_text};
-use mode_hosts::{Mode, PlayEnd, Setup};
+use crate::calls::{Asked, play_as};
+use crate::played::MODES;
+use mode_hosts::Mode;
+use perfly_top::DONE;
 use pf_io::{Gate, Stage};
 use std::alloc::Global;
-use std::sync::Arc;
 use std::sync::atomic::{AtomicU64, Ordering};
+use std::sync::{Arc, Wait};
 use std::test::Fail;
 use std::thread;
+use std::thread::Threads;
 
 /// Four frames and three merges of nothing.
-const FRAMES_AND_MERGES: &str = "perfly 1\nsize 2 2\nlens 1 1 1073741823\nback 10 20 30\napp\n\
+pub const FRAMES_AND_MERGES: &str = "perfly 1\nsize 2 2\nlens 1 1 1073741823\nback 10 20 30\napp\n\
     frame\nframe\nframe\nframe\n\
     dbase\nbuffer\nmerge\nbuffer\nmerge\nbuffer\nmerge\n";
 
@@ -44,7 +47,7 @@ fn pairs() -> [Pair; 6] {
         pair_of(pass_of(Stage::Cull, 2), pass_of(Stage::Draw, 1)),
         pair_of(pass_of(Stage::App, 1), pass_of(Stage::Dbase, 1)),
         pair_of(pass_of(Stage::Cull, 1), pass_of(Stage::Dbase, 3)),
-        pair_of(pass_of(Stage::Draw, 1), pass_of(Stage::Dbase, 3)),
+        pair_of(pass_of(Stage::Dbase, 3), pass_of(Stage::Draw, 1)),
     ]
 }
 
@@ -100,44 +103,86 @@ impl Gate for MeetingGate {
 }
 
 /// The host of a stage: a number for each.
-fn host_of(stage: Stage, mode: Mode, dbase: bool) -> u32 {
+fn host_of(stage: Stage, asked: Asked) -> u32 {
     match stage {
         Stage::App => 0,
-        Stage::Cull => u32::from(matches!(mode, Mode::AppCulldraw | Mode::AppCullDraw)),
-        Stage::Draw => match mode {
+        Stage::Cull => u32::from(matches!(asked.mode, Mode::AppCulldraw | Mode::AppCullDraw)),
+        Stage::Draw => match asked.mode {
             Mode::Appculldraw => 0,
             Mode::AppCulldraw => 1,
             Mode::AppcullDraw | Mode::AppCullDraw => 2,
         },
-        Stage::Dbase => 3 * u32::from(dbase),
+        Stage::Dbase => 3 * u32::from(asked.dbase),
     }
 }
 
 /// Whether the two stages of a pair are on different hosts.
-fn are_apart(pair: Pair, mode: Mode, dbase: bool) -> bool {
-    host_of(pair.one.stage, mode, dbase) != host_of(pair.other.stage, mode, dbase)
+fn are_apart(pair: Pair, asked: Asked) -> bool {
+    host_of(pair.one.stage, asked) != host_of(pair.other.stage, asked)
+}
+
+/// Whether the first of a pair may hold the cull back on its thread before that has sent the draw what the second waits for:
+/// behind a probe the cull has it later than the application goes on.
+fn may_miss(pair: Pair, asked: Asked) -> bool {
+    let is_behind = pair.other.stage == Stage::Draw && pair.one.stage != Stage::Cull;
+    let is_held = host_of(pair.one.stage, asked) == host_of(Stage::Cull, asked);
+    asked.probe && is_behind && is_held && are_apart(pair, asked)
+}
+
+/// Plays with a gate where a pair may meet: whether it met.
+fn meets<R: Threads + Wait + Copy + Drop + Send + Sync + 'static>(
+    rt: &R,
+    alloc: Global,
+    pair: Pair,
+    asked: Asked,
+) -> Result<bool, Fail> {
+    let looks = if are_apart(pair, asked) {
+        20_000_000
+    } else {
+        1000
+    };
+    let meeting = Arc::new(alloc, Meeting::new(pair, looks))?;
+    let gate = MeetingGate(Arc::try_clone(&meeting)?);
+    let status = play_as(rt, alloc, FRAMES_AND_MERGES, asked, gate)?;
+    if status != DONE {
+        return Err(Fail::from("a play that did not come to its end"));
+    }
+    Ok(meeting.met.load(Ordering::SeqCst) == 1)
+}
+
+/// Whether each pair, but those that may miss each other, meets exactly where its stages are on different hosts.
+fn all_meet<R: Threads + Wait + Copy + Drop + Send + Sync + 'static>(
+    rt: &R,
+    alloc: Global,
+    asked: Asked,
+) -> Result<bool, Fail> {
+    for pair in pairs() {
+        if may_miss(pair, asked) {
+            continue;
+        }
+        if meets(rt, alloc, pair, asked)? != are_apart(pair, asked) {
+            return Ok(false);
+        }
+    }
+    Ok(true)
 }
 
 #[test]
 fn stages_of_different_hosts_meet(rt: HostRuntime) -> Result<(), Fail> {
     for mode in MODES {
         for dbase in [false, true] {
-            for pair in pairs() {
-                let apart = are_apart(pair, mode, dbase);
-                let looks = if apart { 20_000_000 } else { 1000 };
-                let meeting = Arc::new(rt.alloc(), Meeting::new(pair, looks))?;
-                let gate = MeetingGate(Arc::try_clone(&meeting)?);
-                let setup = Setup {
-                    mode,
-                    dbase,
-                    ahead: 3,
-                    probe: None,
-                    stream: None,
-                };
-                let left = play_text(&rt, rt.alloc(), FRAMES_AND_MERGES, setup, gate)?;
-                assert_eq!(rt; left.end, PlayEnd::Done, "{mode:?} {dbase} {pair:?}");
-                let met = meeting.met.load(Ordering::SeqCst) == 1;
-                assert_eq!(rt; met, apart, "{mode:?} {dbase} {pair:?}");
+            for probe in [false, true] {
+                for stream in [None, Some("1")] {
+                    let asked = Asked {
+                        mode,
+                        dbase,
+                        ahead: "3",
+                        probe,
+                        stream,
+                    };
+                    let all = all_meet(&rt, rt.alloc(), asked)?;
+                    assert!(rt; all, "{asked:?}");
+                }
             }
         }
     }

@@ -66,9 +66,10 @@ before_of asked q i p below can = record {
   within = subst (λ (n : Nodes). IsWithinLimits (node_at n) p.frame) (copy_front asked (q ∷ []) (i + 1) (omega (arith, below))) can.within;
 }
 
-pub keeps_more : (w : IsectWork) (asked : List Question) (q : Question) (copy : CopyState) (answer : Option Near) → IsectKeeps w asked → Answers w q copy answer →
-    IsectKeeps (record { segment = w.segment; copy = copy; answers = w.answers ++ answer ∷ [] }) (asked ++ q ∷ [])
-keeps_more w asked q copy answer keeps made = record {
+pub keeps_more : (w : IsectWork) (asked : List Question) (q : Question) (copy : CopyState) (answer : Option Near) (room : ℕ) → IsectKeeps w asked →
+    Answers w q copy answer →
+    IsectKeeps (record { segment = w.segment; copy = copy; answers = w.answers ++ answer ∷ []; room = room }) (asked ++ q ∷ [])
+keeps_more w asked q copy answer room keeps made = record {
   copy = copied;
   right = λ all. made.right
       (keeps.right (λ k l. subst (λ (n : Nodes). KeepsLimits (node_at n)) (copy_front asked (q ∷ []) k l) (all k (omega (arith, l, length_push asked q)))))

@@ -1,5 +1,5 @@
 -- What the stage keeps: an answer for each frame that it was asked for.
-use Rattle.std.specs.Prelude.{◌≡◌, true, ℕ, ◌+◌, ◌≤◌, List, [], map, take, length, slice_get, slice_index_or, Option, Some}
+use Rattle.std.specs.Prelude.{◌≡◌, ◌⊎◌, true, ℕ, ◌+◌, ◌≤◌, List, [], map, take, length, slice_get, slice_index_or, Option, Some}
 use Rattle.std.specs.List.{AllByRecursion}
 use Rattle.pf_model.specs.Angles.{Viewpoint, home_view}
 use Rattle.pf_model.specs.Graphs.{Nodes, node_at}
@@ -15,11 +15,12 @@ use Rattle.nearest_hit.specs.declared.segment.Segment.{Segment}
 use Rattle.nearest_hit.specs.Nearest.{nearest}
 use Rattle.nearest_hit.specs.Working.{searched}
 
--- The segment, the copy with its boxes, and the answers so far.
+-- The segment, the copy with its boxes, the answers so far, and for how many answers there is room.
 pub record IsectWork : Type 0 where
   pub segment : Segment
   pub copy : CopyState
   pub answers : List (Option Near)
+  pub room : ℕ
 
 -- what the probe finds in a copy at a time, from a view, also where the copy is beyond the limits
 abbrev pub hit_in : CopyState → ℕ → Viewpoint → Segment → Option Near
@@ -34,6 +35,10 @@ pub record Question : Type 0 where
 
 abbrev pub updates_in : List Question → List UpdateList
 updates_in asked = map (λ q. q.updates) asked
+
+-- memory may be wanted for a frame: there is an update to copy, or no room for one answer more
+abbrev pub MayWant : IsectWork → UpdateList → Type 0
+MayWant w updates = (updates ≡ [] → ⊥) ⊎ (w.room ≤ length w.answers)
 
 -- the copy that the update lists of the first k questions keep
 abbrev pub copy_at : List Question → ℕ → Nodes

@@ -14,7 +14,7 @@ use Rattle.stage_parts.specs.Answers.{Placed, MovesOne}
 use Rattle.stage_parts.specs.Loads.{LoadState}
 use Rattle.stage_parts.specs.Packets.{has_end, loads_in}
 use Rattle.stage_parts.specs.Parts.{sent_and_held}
-use Rattle.isect_stage.specs.Asking.{IsectWork, hit_in, Question, IsectKeeps}
+use Rattle.isect_stage.specs.Asking.{IsectWork, hit_in, Question, MayWant, IsectKeeps}
 
 -- The stage that is asked, whether the End was passed on, whether memory ran out, and the packet that is held to be sent.
 pub record ProbeWork : Type 0 where
@@ -50,9 +50,10 @@ AsksFor before after [] = after ≡ before
 AsksFor before after (End ∷ came) = after ≡ before
 AsksFor before after (Frame load ∷ came) = IsAsked before after (question_in load.cut)
 
--- Memory ran out at a load that it took. It holds the load, and nothing was asked.
+-- Memory ran out at a load that it took, where it may be wanted. It holds the load, and nothing was asked.
 pub record RunsOut (before after : ProbeWork) (taken taken' : List Packet) : Type 0 where
   pub load : LoadState
+  pub wanted : MayWant before.isect load.cut.updates
   pub bare : before.held ≡ None
   pub took : taken' ≡ taken ++ Frame load ∷ []
   pub holds : after ≡ record before { failed = true; held = Some (Frame load) }

@@ -6,7 +6,7 @@ ghost use Rattle.stage_parts.specs.Packets.{is_end};
 ghost use Rattle.stage_parts.specs.Answers.{is_over, IsFull, IsDry, WaitsToPass};
 ghost use Rattle.stage_parts.specs.declared.answers.Did.TheVariants as did;
 ghost use Rattle.stage_parts.specs.declared.packets.Packet.TheVariants as packet;
-ghost use Rattle.isect_stage.specs.Asking.{Question, IsectKeeps};
+ghost use Rattle.isect_stage.specs.Asking.{Question, MayWant, IsectKeeps};
 ghost use Rattle.isect_stage.specs.Marks.{FoundMark, MarksAtError};
 ghost use Rattle.isect_stage.specs.Probing.{question_in, ProbeKeeps, IsAsked, AsksFor, RunsOut, Steps, IsProbeAnswer};
 
@@ -82,6 +82,7 @@ fn ask(stage: &mut IsectStage, cut: &Cut) -> Result<(), NoMemory>
     ensures keeps { (asked : List Question) → IsectKeeps stage.old asked
         → OnOk result (IsectKeeps stage.new (asked ++ question_in cut.now ∷ [])) }
     ensures refused { OnErr result (stage.new ≡ stage.old) }
+    ensures wanted { OnErr result (MayWant stage.old cut.now.updates) }
 {
     let view = first_view(&cut.views);
     stage.frame(cut.frame, &view, &cut.updates)
@@ -142,6 +143,7 @@ impl ProbeStage {
         ensures keeps { (taken sent : List Packet) → ProbeKeeps self.old taken sent
             → ProbeKeeps self.new (taken ++ packet.Frame load ∷ []) sent }
         ensures out { OnErr result (self.new ≡ record self.old { failed = true; held = Some (packet.Frame load) }) }
+        ensures wanted { OnErr result (MayWant self.old.isect load.cut.updates) }
     {
         let asked = ask(&mut self.stage, load.cut());
         self.held = Some(Packet::Frame(load));

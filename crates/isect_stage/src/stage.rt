@@ -4,7 +4,7 @@ ghost use Rattle.pf_model.specs.Graphs.{node_at};
 ghost use Rattle.pf_model.specs.Copies.{updated_by};
 ghost use Rattle.multibuffer.specs.StageCopies.{boxes_of};
 ghost use Rattle.nearest_hit.specs.Nearest.{nearest, CanBeProbed};
-ghost use Rattle.isect_stage.specs.Asking.{hit_in, Question, IsectKeeps};
+ghost use Rattle.isect_stage.specs.Asking.{hit_in, Question, MayWant, IsectKeeps};
 
 use multibuffer::StageCopy;
 use nearest_hit::{Near, Segment, probe};
@@ -19,7 +19,7 @@ use update_lists::Updates;
 /// the update lists of the frames, and asks it once for each. The segment is given in eye coordinates of the first
 /// channel. It takes memory for its copy of each update list, and for the answers.
 ///
-/// Contracts see the segment, the copy with its boxes, and the answers so far.
+/// Contracts see the segment, the copy with its boxes, the answers so far, and for how many there is room.
 pub struct IsectStage {
     segment: Segment,
     copy: StageCopy,
@@ -38,11 +38,12 @@ impl Drop for IsectStage {
 }
 
 impl Model for IsectStage {
+    ghost use Rattle.std.specs.Vec.{vec_capacity};
     ghost use Rattle.isect_stage.specs.Asking.{IsectWork};
 
     ghost Value = { IsectWork };
 
-    ghost view = { λ s. record { segment = s.segment; copy = s.copy; answers = s.answers.items } };
+    ghost view = { λ s. record { segment = s.segment; copy = s.copy; answers = s.answers.items; room = vec_capacity s.answers } };
 }
 
 /// The nearest hit in a copy. The steps are counted by a counter that nobody reads.
@@ -64,6 +65,17 @@ fn counted<L: Ledger>(
     probe(copy, time, view, segment, &mut steps)
 }
 
+/// A copy of an update list. The empty one takes no memory.
+fn copied(alloc: Global, updates: &Updates) -> Result<Updates, NoMemory>
+    ensures copy { IfOk result (λ u. u ≡ updates.now) }
+    ensures wanted { OnErr result (updates.now ≡ [] → ⊥) }
+{
+    if updates.len() == 0 {
+        return Ok(Updates::new(alloc));
+    }
+    updates.copy()
+}
+
 impl IsectStage {
     /// The stage of a segment, which was not asked yet: its copy is the scene alone.
     pub fn new(alloc: Global, segment: Segment) -> Result<IsectStage, NoMemory>
@@ -79,7 +91,8 @@ impl IsectStage {
     }
 
     /// Takes a copy of the update list of a frame into the copy of the scene, and adds the nearest hit in it, from the
-    /// view of the first channel. A refusal leaves all as it was.
+    /// view of the first channel. A refusal leaves all as it was; it comes only where the list has an update, or where there is
+    /// no room for the answer.
     pub fn frame(&mut self, frame: u32, view: &View, updates: &Updates) -> Result<(), NoMemory>
         ensures segment { self.new.segment ≡ self.old.segment }
         ensures copy { OnOk result (self.new.copy.nodes ≡ updated_by self.old.copy.nodes updates.now) }
@@ -88,9 +101,10 @@ impl IsectStage {
         ensures keeps { (asked : List Question) → IsectKeeps self.old asked → OnOk result (IsectKeeps self.new
             (asked ++ record { frame = frame; view = view.now; updates = updates.now } ∷ [])) }
         ensures refused { OnErr result (self.new ≡ self.old) }
+        ensures wanted { OnErr result (MayWant self.old updates.now) }
     {
+        let updates = copied(*self.answers.allocator(), updates)?;
         self.answers.reserve(1)?;
-        let updates = updates.copy()?;
         self.copy.take(updates);
         let answer = counted::<Brand>(Blank::new(1), &self.copy, frame, view, &self.segment);
         match self.answers.push(answer) {

@@ -163,7 +163,7 @@ module _ (play : Script) (ahead : ℕ) (bytes : Option (List ℕ)) (s : System) 
   written unset passers bare dry = all_written play ahead own_seats p fits (whole unset) passers bare dry
 
   sync_goes : s.scene.shared.stopped ≡ false → PassersWait p → p.app.held ≡ None →
-      SyncWaits s.sites.app.work (Some s.scene) (app_ends ahead s) → ⊥
+      SyncWaits s.sites.app.work (Some s.scene) (app_ends ahead s) s.scene.shared.log → ⊥
   sync_goes unset passers bare (inl (dry, behind)) =
       let some = can.few_ahead.0 in
       let same = is_of.seats.app.given.ahead in
@@ -172,7 +172,7 @@ module _ (play : Script) (ahead : ℕ) (bytes : Option (List ℕ)) (s : System) 
   sync_goes unset passers bare (inr barred) = barred may_sync
 
   frame_goes : s.scene.shared.stopped ≡ false → PassersWait p → p.app.held ≡ None → (synced : Bool) → s.sites.app.work.state.synced ≡ synced →
-      FrameWaits synced s.sites.app.work (Some s.scene) (app_ends ahead s) → ⊥
+      FrameWaits synced s.sites.app.work (Some s.scene) (app_ends ahead s) s.scene.shared.log → ⊥
   frame_goes unset passers bare false is waits = sync_goes unset passers bare waits
   frame_goes unset passers bare true is waits =
       let given = is_of.seats.app.given in

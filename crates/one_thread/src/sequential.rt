@@ -1,6 +1,6 @@
 //! The one-thread object as a program, plain and slow: each command replies and leaves just what the definitions say.
 ghost use Rattle.std.specs.Prelude.{◌≡◌, ◌+◌, ◌-◌, ◌^◌, ◌<◌, true, None, ◌++◌, length, map, replicate, slice_get, IfOk, OnOk};
-ghost use Rattle.std.specs.List.{filter, fold, list_all};
+ghost use Rattle.std.specs.List.{filter, fold, list_all, count_by};
 ghost use Rattle.std.specs.Option.{option_map_or};
 ghost use Rattle.pf_model.specs.Angles.{home_view};
 ghost use Rattle.pf_model.specs.Edits.{fault_of, after, effect};
@@ -139,17 +139,27 @@ fn kept(alloc: Global, graves: &[Grave], retired: u32) -> Result<Vec<Grave>, NoM
     )
 }
 
+/// How many graves are due once so many frames are retired.
+fn count_due(graves: &[Grave], retired: u32) -> usize
+    ensures { result ≡ count_by (is_due retired) graves.now }
+{
+    graves.iter().filter(|grave| grave.is_due(retired)).count()
+}
+
 /// The serials of the graves that are due once so many frames are retired, in the order of burial.
 fn freed(alloc: Global, graves: &[Grave], retired: u32) -> Result<Serials, NoMemory>
     ensures { IfOk result (λ serials. serials ≡ freed_by retired graves.now) }
 {
-    let mut serials = Serials::with_room(alloc, graves.len())?;
+    let mut serials = Serials::with_room(alloc, count_due(graves, retired))?;
     for grave in graves {
         if grave.is_due(retired) {
             serials.push(grave.serial);
         }
     }
-    Ok(serials.finish())
+    match serials.finish() {
+        Ok(serials) => Ok(serials),
+        Err(_) => unreachable!(),
+    }
 }
 
 /// The view of each of so many channels before any is set.

@@ -2,16 +2,23 @@
 //! error.
 #![tactic(auto)]
 
-use perfly_top::run;
+mod stack;
+
+use perfly_top::{NO_MEMORY, run};
 use pf_io::{FreeGate, StdSink, StdSource};
+use stack::take_stack;
 use std::env;
 use std::process::ExitCode;
 
 fn main(rt: HostRuntime) -> ExitCode {
+    let arguments = env::args(&rt);
+    if !take_stack(u8::from(arguments.is_ok())) {
+        return ExitCode::from(NO_MEMORY);
+    }
     run(
         rt.alloc(),
         &rt,
-        env::args(&rt),
+        arguments,
         &mut StdSource::new(rt.stdin()),
         &mut StdSink::new(rt.stdout()),
         &mut StdSink::new(rt.stderr()),

@@ -3,6 +3,7 @@ use Rattle.std.proofs.Common.{◌≡◌, ◌<◌, ℕ, List, [], ◌∷◌, ◌+
 use Rattle.std.specs.Prelude.{IsSome, ◌↔◌}
 use Rattle.std.specs.Option.{option_to_list}
 use Rattle.pf_history.specs.Logs.{Log}
+use Rattle.pipe_plays.specs.declared.played.PlayEnd.{PlayEnd}
 use Rattle.program_words.specs.declared.words.Words.{Words}
 use Rattle.perfly_top.specs.Calls.{Bytes, IsUntouched}
 use Rattle.perfly_top.specs.Endings.{IsBegun}
@@ -15,9 +16,9 @@ behind_first None [] rest n e some len = sym e
 behind_first None (x ∷ xs) rest n e some len = absurd (let is = some.1 (omega (arith, len)) in cc)
 
 -- what words leave of a play that was begun, or was not, is left of it by arguments of the same meaning
-pub part_by : (meant given : Option Words) (left left' : Bytes) (log : Log) (frames frames' : Bytes) → given ≡ meant →
-    IsUntouched log frames frames' ⊎ IsBegun given left left' log frames frames' →
-    (frames' ≡ frames) ⊎ ((x : Log) × IsBegun meant left left' x frames frames')
-part_by meant given left left' log frames frames' e (inl untouched) = inl untouched.1
-part_by meant given left left' log frames frames' e (inr begun) =
-    inr (log, subst (λ (m : Option Words). IsBegun m left left' log frames frames') e begun)
+pub part_by : (meant given : Option Words) (left left' : Bytes) (ended : PlayEnd) (log : Log) (frames frames' : Bytes) → given ≡ meant →
+    IsUntouched log frames frames' ⊎ IsBegun given left left' ended log frames frames' →
+    (frames' ≡ frames) ⊎ ((x : Log) × IsBegun meant left left' ended x frames frames')
+part_by meant given left left' ended log frames frames' e (inl untouched) = inl untouched.1
+part_by meant given left left' ended log frames frames' e (inr begun) =
+    inr (log, subst (λ (m : Option Words). IsBegun m left left' ended log frames frames') e begun)

@@ -1,6 +1,7 @@
 mod Telling
 mod ByteSums
 mod Readings
+mod Ends
 mod Tellings
 mod Whys
 mod Arguments

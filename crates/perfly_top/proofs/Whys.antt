@@ -34,6 +34,13 @@ barred_by meant left left' words play (Some lines) app dbase given few e stuck a
       lines = subst (λ (l : ℕ × ℕ). AreStuckLines play.app play.dbase l.0 l.1) (same_Some lines (app, dbase) e) are;
     }
 
+-- a play with lines that cannot be passed was not made
+pub unmade_where : (make : Option ℕ) (left : Option (List ℕ)) (play : Script) (r : Option (ℕ × ℕ)) (app dbase : ℕ) →
+    IfSome make (λ n. n ≤ 256) → IfSome (given_text make left) (λ text. Reads text play) → r ≡ Some (app, dbase) →
+    (IsSome r ↔ IsStuck play.app play.dbase) → make ≡ None
+unmade_where make left play None app dbase few spelled e stuck = absurd (cc)
+unmade_where make left play (Some lines) app dbase few spelled e stuck = unmade_by make left play few spelled (stuck.0 refl)
+
 -- nothing was taken
 none_taken : (left : Option (List ℕ)) → TakesFront left left
 none_taken None = ([], refl)

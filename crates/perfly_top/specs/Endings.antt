@@ -1,10 +1,12 @@
 -- How a call of the program ends.
 use Rattle.std.specs.Prelude.{◌≡◌, ◌⊎◌, ℕ, List, Option, None, Some}
 use Rattle.std.specs.Io.KnownBytes.{append_known}
+use Rattle.pf_io.specs.Causes.{counted}
 use Rattle.pf_io.specs.Streams.{TakesFront}
 use Rattle.play_format.specs.declared.refusal.Refusal.{Refusal}
 use Rattle.play_format.specs.Plays.{Script}
 use Rattle.play_format.specs.Reads.{Reads, HasReading}
+use Rattle.pipe_plays.specs.declared.played.PlayEnd.{PlayEnd}
 use Rattle.play_check.specs.Stuck.{IsStuck}
 use Rattle.pf_history.specs.Logs.{Log}
 use Rattle.program_words.specs.declared.words.Words.{Words}
@@ -12,6 +14,7 @@ use Rattle.perfly_top.specs.declared.stop.Stop.{Stop}
 use Rattle.perfly_top.specs.declared.stop.Stop.TheVariants as stop
 use Rattle.perfly_top.specs.Messages.{message_of}
 use Rattle.perfly_top.specs.Calls.{Bytes, given_text, IsGiven, IsRefused, IsBarred, IsTold, AddsSome}
+use Rattle.perfly_top.specs.Readings.{EndsOnce, EndsOrFills}
 use Rattle.perfly_top.specs.Program.{told, IsSummed, IsPart, IsPlayed}
 
 -- the status that a call ends with where it doesn't come to its end
@@ -49,13 +52,13 @@ pub record IsStopped (status : ℕ) (refusal : Option Refusal) (stuck : Option (
   pub with_stuck : stuck ≡ stuck_of why
   pub message : IsTold report report' old new (message_of why)
 
--- The play that was given was begun.
-pub record IsBegun (meant : Option Words) (left left' : Bytes) (log : Log) (frames frames' : Bytes) : Type 0 where
+-- The play that was given was begun, and ended so.
+pub record IsBegun (meant : Option Words) (left left' : Bytes) (ended : PlayEnd) (log : Log) (frames frames' : Bytes) : Type 0 where
   pub words : Words
   pub play : Script
   pub given : IsGiven meant left left' words play
   pub can_end : ¬ IsStuck play.app play.dbase
-  pub part : IsPart words play log frames frames'
+  pub part : IsPart words play ended log frames frames'
 
 -- The play that was given was played to its end, and told: the headline.
 pub record IsDone (meant : Option Words) (left left' : Bytes) (log : Log) (frames frames' report report' : Bytes) : Type 0 where
@@ -88,6 +91,18 @@ pub record IsDue (meant : Option Words) (left : Bytes) (status : ℕ) : Type 0 w
   pub played : (words : Words) (text : List ℕ) (play : Script) → meant ≡ Some words →
       given_text words.make left ≡ Some text → Reads text play → ¬ IsStuck play.app play.dbase →
       (status ≡ 0) ⊎ (status ≡ 4) ⊎ (status ≡ 5) ⊎ (status ≡ 6) ⊎ (status ≡ 7)
+
+-- Which of the reads of a call find the end of its source: one at most, so that none comes behind it. It is one where the source
+-- was read to its end. None does where the words are wrong or give a number to make, since nothing is read then, and none where
+-- a read reports a fault.
+pub record FindsEnd (meant : Option Words) (left left' : Bytes) (ends ends' status : ℕ) : Type 0 where
+  pub once : EndsOnce ends ends'
+  pub wrong_words : status ≡ 1 → ends' ≡ ends
+  pub refused : status ≡ 2 → EndsOrFills left left' ends ends'
+  pub fault : status ≡ 4 → ends' ≡ ends
+  pub made : (words : Words) (n : ℕ) → meant ≡ Some words → words.make ≡ Some n → ends' ≡ ends
+  pub read : (words : Words) → meant ≡ Some words → words.make ≡ None →
+      (status ≡ 0) ⊎ (status ≡ 3) ⊎ (status ≡ 5) ⊎ (status ≡ 6) → ends' ≡ counted ends
 
 -- a call with a number to make plays what it made, so that it ends at its end, by a fault of a sink, or for want of memory
 abbrev pub IsDueMade : Option Words → ℕ → Type 0

@@ -12,6 +12,8 @@ use Rattle.pf_history.specs.Cuts.{found_by_frames}
 use Rattle.pf_history.specs.CutLaws.{has_serial, is_among, sync_entry}
 use Rattle.stage_parts.specs.Pictures.{pictures}
 use Rattle.pipe_plays.specs.Played.{AddsFront}
+use Rattle.pipe_plays.specs.declared.played.PlayEnd.{PlayEnd}
+use Rattle.pipe_plays.specs.declared.played.PlayEnd.TheVariants as end
 use Rattle.nearest_hit.specs.declared.found.Near.{Near}
 use Rattle.isect_stage.specs.Asking.{nearest_hits}
 use Rattle.play_report.specs.Reports.{report, summary}
@@ -47,13 +49,13 @@ FreesLate channels log =
     (j seat r x : ℕ) (serials : List ℕ) → slice_get log j ≡ Some (seat, sync_entry r serials) → is_among x serials ≡ true →
     (k : ℕ) (s : FrameState) → slice_get (found_by_frames channels log) k ≡ Some s → has_serial x s.graph.nodes ≡ true → k + 1 ≤ r
 
--- What holds however the call ends. The history is a legal one-thread history, with calls of the application and merges of
--- the play, each once, in each caller's order. The stream is whole pictures of it and a front of the next one, where all
--- frames that a Sync retired were wholly written.
-pub record IsPart (words : Words) (play : Script) (log : Log) (frames frames' : Option (List ℕ)) : Type 0 where
+-- What holds however the play ends. The history is a legal one-thread history, with calls of the application and merges of
+-- the play, each once, in each caller's order. The stream is whole pictures of it, and a prefix of the next one only where a
+-- fault of the sink ended the play. All frames that a Sync retired were wholly written.
+pub record IsPart (words : Words) (play : Script) (ended : PlayEnd) (log : Log) (frames frames' : Option (List ℕ)) : Type 0 where
   pub legal : IsLegal play.channels log
   pub fits : FitsPlay play.channels words.ahead play.app play.dbase log
-  pub front : AddsFront play log frames frames'
+  pub front : AddsFront play ended log frames frames'
   pub freed : FreesLate play.channels log
 
 -- What holds of a play that came to its end. The history is one legal one-thread history that holds the application's
@@ -64,5 +66,5 @@ pub record IsPlayed (words : Words) (play : Script) (log : Log) (frames frames' 
   pub legal : IsLegal play.channels log
   pub fits : FitsWholly play.channels words.ahead play.app play.dbase log
   pub stream : frames' ≡ append_known frames (stream_of play log)
-  pub retired : AddsFront play log frames frames'
+  pub retired : AddsFront play end.Done log frames frames'
   pub freed : FreesLate play.channels log

@@ -22,13 +22,13 @@ HasNumbers play stats log = stats ≡ frame_numbers play.channels play.lens log
 abbrev pub HasAnswers : Words → Script → List (Option Near) → Log → Type 0
 HasAnswers words play probes log = probes ≡ answers words play log
 
--- The history is one of the play, and the stream is a front of its pictures; where the play came to its end, the history
--- fits it wholly, the stream is all pictures, and the numbers are those of the frames.
+-- The history is one of the play, and the stream is a prefix of its pictures, cut short only by a fault of the sink; where the
+-- play came to its end, the history fits it wholly, the stream is all pictures, and the numbers are those of the frames.
 pub record IsRun (play : Script) (ahead : ℕ) (ended : PlayEnd) (log : Log) (stats : List Stats) (old new : Option (List ℕ)) : Type 0 where
   pub legal : IsLegal play.channels log
   pub fits : FitsPlay play.channels ahead play.app play.dbase log
   pub wholly : ended ≡ end.Done → FitsWholly play.channels ahead play.app play.dbase log
-  pub front : AddsFront play log old new
+  pub front : AddsFront play ended log old new
   pub whole : ended ≡ end.Done → new ≡ append_known old (stream_of play log)
   pub numbers : ended ≡ end.Done → HasNumbers play stats log
 

@@ -1,5 +1,5 @@
 -- How the words divide the stages of a play among threads.
-use Rattle.std.specs.Prelude.{Bool, true, false, not, ◌&&◌}
+use Rattle.std.specs.Prelude.{Bool, true, false, not, ◌&&◌, if◌then◌else◌}
 use Rattle.std.specs.Option.{is_some}
 use Rattle.mode_hosts.specs.declared.modes.Mode.{Mode as HostMode}
 use Rattle.mode_hosts.specs.declared.modes.Mode.TheVariants as host
@@ -7,6 +7,8 @@ use Rattle.mode_hosts.specs.declared.modes.Setup.{Setup}
 use Rattle.program_words.specs.declared.words.Mode.{Mode}
 use Rattle.program_words.specs.declared.words.Mode.TheVariants as mode
 use Rattle.program_words.specs.declared.words.Words.{Words}
+use Rattle.perfly_top.specs.declared.setup.Players.{Players}
+use Rattle.perfly_top.specs.declared.setup.Players.TheVariants as players
 
 -- the mode of hosts of the same name
 abbrev pub host_mode : Mode → HostMode
@@ -27,3 +29,7 @@ has_one _ = false
 -- no stage has a thread of its own, and draw lists are sent whole
 abbrev pub is_on_one_thread : Words → Bool
 is_on_one_thread words = has_one words.mode && (not words.dbase && (not (is_some words.probe) && not (is_some words.stream)))
+
+-- who plays a play: one thread, with nothing shared, or else the hosts of the setup
+abbrev pub players_of : Words → Players
+players_of words = if is_on_one_thread words then players.Alone words.ahead else players.Hosts (setup_of words)

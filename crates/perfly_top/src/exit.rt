@@ -7,12 +7,13 @@ ghost use Rattle.std.specs.Process.{exit_status};
 ghost use Rattle.pf_io.specs.Causes.{Calm, Rose};
 ghost use Rattle.pf_io.specs.Streams.{TakesFront};
 ghost use Rattle.pf_history.specs.Logs.{Log};
+ghost use Rattle.pipe_plays.specs.declared.played.PlayEnd.TheVariants as end;
 ghost use Rattle.play_format.specs.declared.refusal.Refusal.{Refusal};
 ghost use Rattle.program_words.specs.declared.words.Words.{Words};
 ghost use Rattle.program_words.specs.Meaning.{meaning_of_words};
 ghost use Rattle.perfly_top.specs.Arguments.{meaning_of_arguments};
 ghost use Rattle.perfly_top.specs.Calls.{IsRefused, IsBarred, IsTold};
-ghost use Rattle.perfly_top.specs.Endings.{status_of, IsBegun, IsDone, IsDoneUntold, IsDue, IsDueMade};
+ghost use Rattle.perfly_top.specs.Endings.{status_of, IsBegun, IsDone, IsDoneUntold, FindsEnd, IsDue, IsDueMade};
 ghost use Rattle.perfly_top.specs.Messages.{message_of};
 ghost use Rattle.perfly_top.specs.Stops.{stop_of_arguments};
 ghost use Rattle.perfly_top.specs.declared.stop.Stop.{Stop};
@@ -74,7 +75,7 @@ pub fn run<
         × IsDone (meaning_of_arguments arguments) (I.left input.old) (I.left input.new)
         log (O.written frames.old) (O.written frames.new) (P.written report.old) (P.written report.new) }
     ensures report_calm { exit_status result ≡ DONE → Calm (P.faults report.old) (P.faults report.new) }
-    ensures frames_flushed { exit_status result ≡ DONE → O.flushed frames.new ≡ true }
+    ensures frames_flushed { (exit_status result ≡ DONE) ⊎ (exit_status result ≡ REPORT_FAULT) → O.flushed frames.new ≡ true }
     ensures report_flushed { exit_status result ≡ DONE → P.flushed report.new ≡ true }
 
     // What was given cannot be played.
@@ -104,13 +105,15 @@ pub fn run<
     ensures early { 1 ≤ exit_status result → exit_status result ≤ READ_FAULT → O.written frames.new ≡ O.written frames.old }
     ensures begun { exit_status result ≡ FRAME_FAULT → (log : Log)
         × IsBegun (meaning_of_arguments arguments) (I.left input.old) (I.left input.new)
-        log (O.written frames.old) (O.written frames.new) }
+        end.FrameFault log (O.written frames.old) (O.written frames.new) }
     ensures part { exit_status result ≡ NO_MEMORY → (O.written frames.new ≡ O.written frames.old) ⊎ ((log : Log)
         × IsBegun (meaning_of_arguments arguments) (I.left input.old) (I.left input.new)
-        log (O.written frames.old) (O.written frames.new)) }
+        end.NoMemory log (O.written frames.old) (O.written frames.new)) }
     ensures part_read { TakesFront (I.left input.old) (I.left input.new) }
     ensures unread { (w : Words) (n : ℕ) → meaning_of_arguments arguments ≡ Some w → w.make ≡ Some n
         → I.left input.new ≡ I.left input.old }
+    ensures ends { FindsEnd (meaning_of_arguments arguments) (I.left input.old) (I.left input.new)
+        (I.ends input.old) (I.ends input.new) (exit_status result) }
     ensures message { exit_status result ≢ DONE → exit_status result ≢ REPORT_FAULT → (why : Stop)
         × (exit_status result ≡ status_of why)
         × IsTold (P.written report.old) (P.written report.new) (P.faults report.old) (P.faults report.new) (message_of why) }

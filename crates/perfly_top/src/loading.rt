@@ -1,10 +1,10 @@
 //! The play of a call.
-ghost use Rattle.std.specs.Prelude.{◌≡◌, ◌≢◌, ◌≤◌, ◌⊎◌, ℕ, None, Some, Ok, Err, IfOk, IfErr, IfSome, OnOk};
-ghost use Rattle.pf_io.specs.Causes.{Calm, Rose};
+ghost use Rattle.std.specs.Prelude.{◌≡◌, ◌≢◌, ◌<◌, ◌≤◌, ◌⊎◌, ℕ, length, None, Some, Ok, Err, IfOk, IfErr, IfSome, OnOk};
+ghost use Rattle.pf_io.specs.Causes.{Calm, Rose, counted};
 ghost use Rattle.play_format.specs.declared.refusal.Refusal.{Refusal};
 ghost use Rattle.play_format.specs.Reads.{Reads, HasReading, first_refusal};
 ghost use Rattle.perfly_top.specs.Calls.{given_text, IsReadFor};
-ghost use Rattle.perfly_top.specs.Readings.{Gave, HasNoPlay};
+ghost use Rattle.perfly_top.specs.Readings.{Gave, HasNoPlay, ends_for, EndsFor};
 ghost use Rattle.perfly_top.specs.declared.stop.Stop.{Stop};
 ghost use Rattle.perfly_top.specs.declared.stop.Stop.TheVariants as stop;
 
@@ -21,6 +21,9 @@ fn read_input<I: Source>(alloc: Global, input: &mut I) -> Result<Vec<u8>, Stop>
     ensures why { IfErr result (λ s. HasNoPlay None (I.left input.old) (I.left input.new) s) }
     ensures fault { result ≡ Err stop.ReadFault → Rose (I.faults input.old) (I.faults input.new) }
     ensures calm { result ≢ Err stop.ReadFault → Calm (I.faults input.old) (I.faults input.new) }
+    ensures one_end { IfOk result (λ v. length v.items < 16777217 → I.ends input.new ≡ counted (I.ends input.old)) }
+    ensures limit { IfOk result (λ v. length v.items ≡ 16777217 → I.ends input.new ≡ I.ends input.old) }
+    ensures ends { IfErr result (λ s. EndsFor (I.left input.old) (I.left input.new) (I.ends input.old) (I.ends input.new) s) }
 {
     Ok(read_all(alloc, input)?)
 }
@@ -46,6 +49,8 @@ fn read_play<R: Threads + Sync, I: Source>(
     ensures why { IfErr result (λ s. HasNoPlay None (I.left input.old) (I.left input.new) s) }
     ensures fault { result ≡ Err stop.ReadFault → Rose (I.faults input.old) (I.faults input.new) }
     ensures calm { result ≢ Err stop.ReadFault → Calm (I.faults input.old) (I.faults input.new) }
+    ensures one_end { OnOk result (I.ends input.new ≡ counted (I.ends input.old)) }
+    ensures ends { IfErr result (λ s. EndsFor (I.left input.old) (I.left input.new) (I.ends input.old) (I.ends input.new) s) }
 {
     let bytes = read_input(alloc, input)?;
     play_of(alloc, rt, bytes.as_slice())
@@ -66,6 +71,9 @@ pub(crate) fn given_play<R: Threads + Sync, I: Source>(
     ensures why { IfErr result (λ s. HasNoPlay make (I.left input.old) (I.left input.new) s) }
     ensures fault { result ≡ Err stop.ReadFault → Rose (I.faults input.old) (I.faults input.new) }
     ensures calm { result ≢ Err stop.ReadFault → Calm (I.faults input.old) (I.faults input.new) }
+    ensures one_end { OnOk result (I.ends input.new ≡ ends_for make (I.ends input.old)) }
+    ensures no_end { (n : ℕ) → make ≡ Some n → I.ends input.new ≡ I.ends input.old }
+    ensures ends { IfErr result (λ s. EndsFor (I.left input.old) (I.left input.new) (I.ends input.old) (I.ends input.new) s) }
 {
     match make {
         Some(n) => Ok(make_play(alloc, u32::from(n))?),

@@ -4,10 +4,11 @@ ghost use Rattle.play_check.specs.Stuck.{IsStuck};
 ghost use Rattle.perfly_top.specs.Program.{stream_of, account, told, IsSummed};
 ghost use Rattle.perfly_top.specs.Sums.{sum_of_bytes};
 ghost use Rattle.perfly_top.specs.Runs.{IsRun, EndsByFault, HasNumbers, HasAnswers};
+ghost use Rattle.perfly_top.specs.Setups.{players_of};
 ghost use Rattle.play_format.specs.Plays.{Script};
 ghost use Rattle.program_words.specs.declared.words.Words.{Words};
 
-use crate::setup::{is_on_one_thread, setup_of};
+use crate::setup::{Players, is_on_one_thread, setup_of};
 use crate::summing::{Held, Lent, Start, Summing};
 use pf_io::{Gate, NoMemory, Sink};
 use pipe_core::{PlayEnd, Played};
@@ -19,34 +20,46 @@ use std::marker::{Brand, PhantomData};
 use std::sync::Wait;
 use std::thread::Threads;
 
-/// A play that was played, and the sum of the bytes of its pictures where that is asked for.
+/// A play that was played, by whom, and the sum of the bytes of its pictures where that is asked for.
 #[derive(Drop)]
 pub(crate) struct Run {
     pub(crate) played: Played,
+    pub(crate) players: Players,
     pub(crate) sum: u64,
 }
 
-/// Plays a play as the words say: with all stages on one thread, or with the stages divided among threads.
+/// Plays a play as the words say: with all stages on one thread, or with the stages divided among threads. Nothing is added up.
 fn play_by<
     R: Threads + Wait + Copy + Drop + Send + Sync + 'static,
     O: Sink,
     G: Gate + Send + Drop + 'static,
->(alloc: Global, rt: &R, play: Play, words: Words, frames: &mut O, gate: G) -> Played
+>(alloc: Global, rt: &R, play: Play, words: Words, frames: &mut O, gate: G) -> Run
     requires can_end { IsStuck play.app play.dbase → ⊥ }
     requires some { 1 ≤ words.ahead }
     requires few { words.ahead ≤ 4 }
     requires stream { IfSome words.stream (λ n. (1 ≤ n) × (n ≤ 4096)) }
-    ensures run { IsRun play words.ahead result.end result.history.entries result.stats.items
+    ensures players { result.players ≡ players_of words }
+    ensures run { IsRun play words.ahead result.played.end result.played.history.entries result.played.stats.items
         (O.written frames.old) (O.written frames.new) }
-    ensures answers { result.end ≡ PlayEnd.Done → HasAnswers words play result.probes.items result.history.entries }
-    ensures cause { EndsByFault result.end (O.faults frames.old) (O.faults frames.new)
+    ensures answers { result.played.end ≡ PlayEnd.Done
+        → HasAnswers words play result.played.probes.items result.played.history.entries }
+    ensures cause { EndsByFault result.played.end (O.faults frames.old) (O.faults frames.new)
         (O.at_fault frames.new) (O.written frames.new) }
-    ensures flushed { result.end ≡ PlayEnd.Done → O.flushed frames.new ≡ true }
+    ensures flushed { result.played.end ≡ PlayEnd.Done → O.flushed frames.new ≡ true }
 {
     if is_on_one_thread(words) {
-        pipe_core::play_all(alloc, rt, play, words.ahead, frames, &gate)
+        Run {
+            played: pipe_core::play_all(alloc, rt, play, words.ahead, frames, &gate),
+            players: Players::Alone(words.ahead),
+            sum: 0,
+        }
     } else {
-        mode_hosts::play_all(alloc, rt, play, &setup_of(words), frames, gate)
+        let setup = setup_of(words);
+        Run {
+            played: mode_hosts::play_all(alloc, rt, play, &setup, frames, gate),
+            players: Players::Hosts(setup),
+            sum: 0,
+        }
     }
 }
 
@@ -64,6 +77,7 @@ fn held_run<
     requires few { words.ahead ≤ 4 }
     requires stream { IfSome words.stream (λ n. (1 ≤ n) × (n ≤ 4096)) }
     ensures same { H.loan result.1 ≡ H.loan held }
+    ensures players { result.0.players ≡ players_of words }
     ensures run { IsRun play words.ahead result.0.played.end result.0.played.history.entries result.0.played.stats.items
         (H.bytes held) (H.bytes result.1) }
     ensures answers { result.0.played.end ≡ PlayEnd.Done
@@ -79,13 +93,13 @@ fn held_run<
         sum: 0,
         start: PhantomData,
     };
-    let played = play_by(alloc, rt, play, words, &mut summing, gate);
+    let run = play_by(alloc, rt, play, words, &mut summing, gate);
     let Summing {
         held,
         sum,
         start: _,
     } = summing;
-    (Run { played, sum }, held)
+    (Run { sum, ..run }, held)
 }
 
 /// Plays a play, and adds up the bytes of its pictures.
@@ -98,6 +112,7 @@ fn summed_run<
     requires some { 1 ≤ words.ahead }
     requires few { words.ahead ≤ 4 }
     requires stream { IfSome words.stream (λ n. (1 ≤ n) × (n ≤ 4096)) }
+    ensures players { result.players ≡ players_of words }
     ensures run { IsRun play words.ahead result.played.end result.played.history.entries result.played.stats.items
         (O.written frames.old) (O.written frames.new) }
     ensures answers { result.played.end ≡ PlayEnd.Done
@@ -124,6 +139,7 @@ pub(crate) fn run_of<
     requires some { 1 ≤ words.ahead }
     requires few { words.ahead ≤ 4 }
     requires stream { IfSome words.stream (λ n. (1 ≤ n) × (n ≤ 4096)) }
+    ensures players { result.players ≡ players_of words }
     ensures run { IsRun play words.ahead result.played.end result.played.history.entries result.played.stats.items
         (O.written frames.old) (O.written frames.new) }
     ensures answers { result.played.end ≡ PlayEnd.Done
@@ -136,10 +152,7 @@ pub(crate) fn run_of<
 {
     match words.make {
         Some(_) => summed_run(alloc, rt, play, words, frames, gate),
-        None => Run {
-            played: play_by(alloc, rt, play, words, frames, gate),
-            sum: 0,
-        },
+        None => play_by(alloc, rt, play, words, frames, gate),
     }
 }
 

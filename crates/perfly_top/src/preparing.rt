@@ -7,6 +7,7 @@ ghost use Rattle.program_words.specs.declared.words.Words.{Words};
 ghost use Rattle.program_words.specs.Meaning.{meaning_of_words};
 ghost use Rattle.perfly_top.specs.Calls.{IsGiven};
 ghost use Rattle.perfly_top.specs.Endings.{IsWhy};
+ghost use Rattle.perfly_top.specs.Readings.{ends_for, EndsFor};
 ghost use Rattle.perfly_top.specs.declared.stop.Stop.TheVariants as stop;
 
 use crate::loading::given_play;
@@ -57,6 +58,10 @@ pub(crate) fn prepared<R: Threads + Sync, I: Source>(
         → I.left input.new ≡ I.left input.old }
     ensures fault { result ≡ Err stop.ReadFault → Rose (I.faults input.old) (I.faults input.new) }
     ensures calm { result ≢ Err stop.ReadFault → Calm (I.faults input.old) (I.faults input.new) }
+    ensures one_end { IfOk result (λ t. I.ends input.new ≡ ends_for t.words.make (I.ends input.old)) }
+    ensures no_end { (w : Words) (n : ℕ) → meaning_of_words (map string_bytes words.now) ≡ Some w → w.make ≡ Some n
+        → I.ends input.new ≡ I.ends input.old }
+    ensures ends { IfErr result (λ s. EndsFor (I.left input.old) (I.left input.new) (I.ends input.old) (I.ends input.new) s) }
 {
     let words = right_words(alloc, words)?;
     let play = given_play(alloc, rt, words.make, input)?;

@@ -5,6 +5,15 @@ ghost use Rattle.perfly_top.specs.Setups.{host_mode, setup_of, is_on_one_thread}
 use mode_hosts::Setup;
 use program_words::{Mode, Words};
 
+/// Who plays a play.
+#[derive(Clone, Copy, Debug, PartialEq, Eq)]
+pub(crate) enum Players {
+    /// One thread, with up to so many frames in flight. Nothing is shared, and nobody waits.
+    Alone(u8),
+    /// The hosts of a setup.
+    Hosts(Setup),
+}
+
 /// The mode of hosts that a mode of the words means.
 fn host_mode(mode: Mode) -> mode_hosts::Mode
     ensures { result ≡ host_mode mode }

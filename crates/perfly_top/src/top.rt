@@ -9,7 +9,7 @@ ghost use Rattle.program_words.specs.declared.words.Words.{Words};
 ghost use Rattle.program_words.specs.Meaning.{meaning_of_words};
 ghost use Rattle.perfly_top.specs.Calls.{IsRefused, IsBarred, IsUntouched, AddsSome};
 ghost use Rattle.perfly_top.specs.Program.{told, IsSummed, IsPart, IsPlayed};
-ghost use Rattle.perfly_top.specs.Endings.{IsStopped, IsBegun, IsDone, IsDoneUntold, IsDue, IsDueMade};
+ghost use Rattle.perfly_top.specs.Endings.{IsStopped, IsBegun, IsDone, IsDoneUntold, FindsEnd, IsDue, IsDueMade};
 
 use crate::ending::{
     DONE, Ended, FRAME_FAULT, NO_MEMORY, READ_FAULT, REFUSED, REPORT_FAULT, STUCK, WORDS, stopped,
@@ -38,7 +38,10 @@ fn played<
     requires stream { IfSome task.words.stream (λ n. (1 ≤ n) × (n ≤ 4096)) }
     ensures one_of { (result.status ≡ DONE) ⊎ (result.status ≡ FRAME_FAULT) ⊎ (result.status ≡ REPORT_FAULT)
         ⊎ (result.status ≡ NO_MEMORY) }
-    ensures part { IsPart task.words task.play result.history.entries (O.written frames.old) (O.written frames.new) }
+    ensures begun { result.status ≡ FRAME_FAULT
+        → IsPart task.words task.play PlayEnd.FrameFault result.history.entries (O.written frames.old) (O.written frames.new) }
+    ensures part { result.status ≡ NO_MEMORY
+        → IsPart task.words task.play PlayEnd.NoMemory result.history.entries (O.written frames.old) (O.written frames.new) }
     ensures played { (result.status ≡ DONE) ⊎ (result.status ≡ REPORT_FAULT)
         → IsPlayed task.words task.play result.history.entries (O.written frames.old) (O.written frames.new) }
     ensures whole { result.status ≡ DONE → (sum : ℕ)
@@ -52,7 +55,7 @@ fn played<
     ensures frame_calm { result.status ≢ FRAME_FAULT → Calm (O.faults frames.old) (O.faults frames.new) }
     ensures report_fault { result.status ≡ REPORT_FAULT → Rose (P.faults report.old) (P.faults report.new) }
     ensures report_calm { result.status ≡ DONE → Calm (P.faults report.old) (P.faults report.new) }
-    ensures frames_flushed { result.status ≡ DONE → O.flushed frames.new ≡ true }
+    ensures frames_flushed { (result.status ≡ DONE) ⊎ (result.status ≡ REPORT_FAULT) → O.flushed frames.new ≡ true }
     ensures report_flushed { result.status ≡ DONE → P.flushed report.new ≡ true }
     ensures stopped { result.status ≢ DONE → result.status ≢ REPORT_FAULT
         → IsStopped result.status result.refusal result.stuck
@@ -71,8 +74,8 @@ fn played<
 
 /// Plays the play of a source, as the words say: reads it, writes the pictures of its frames to `frames` as P6 images, and
 /// the report of its calls to `report`. With a number to make, the source is not read: a generated play is played, and
-/// `report` gets one line. Where the call ends otherwise, `report` gets a message. `gate` is passed at each step of a stage.
-/// By the words the stages of a play share one thread or are divided among several; the caller's thread alone uses the
+/// `report` gets one line. Where the call ends otherwise, `report` gets a message. The stages pass `gate` before each frame and
+/// each merge. By the words the stages of a play share one thread or are divided among several; the caller's thread alone uses the
 /// source and the two sinks. In a mode with several threads the call waits for them.
 pub fn perfly<
     R: Threads + Wait + Copy + Drop + Send + Sync + 'static,
@@ -95,7 +98,7 @@ pub fn perfly<
     ensures done { result.status ≡ DONE → IsDone (meaning_of_words (map string_bytes words.now)) (I.left input.old) (I.left input.new)
         result.history.entries (O.written frames.old) (O.written frames.new) (P.written report.old) (P.written report.new) }
     ensures report_calm { result.status ≡ DONE → Calm (P.faults report.old) (P.faults report.new) }
-    ensures frames_flushed { result.status ≡ DONE → O.flushed frames.new ≡ true }
+    ensures frames_flushed { (result.status ≡ DONE) ⊎ (result.status ≡ REPORT_FAULT) → O.flushed frames.new ≡ true }
     ensures report_flushed { result.status ≡ DONE → P.flushed report.new ≡ true }
 
     // What was given cannot be played. The words are read first, and nothing of the source where they are wrong.
@@ -119,19 +122,21 @@ pub fn perfly<
         → IsDoneUntold (meaning_of_words (map string_bytes words.now)) (I.left input.old) (I.left input.new)
         result.history.entries (O.written frames.old) (O.written frames.new) (P.written report.old) (P.written report.new) }
 
-    // What is left where the play did not come to its end.
+    // What is left where the play did not come to its end: only a fault of the frame sink cuts a picture short.
     ensures early { 1 ≤ result.status → result.status ≤ READ_FAULT
         → IsUntouched result.history.entries (O.written frames.old) (O.written frames.new) }
     ensures begun { result.status ≡ FRAME_FAULT
         → IsBegun (meaning_of_words (map string_bytes words.now)) (I.left input.old) (I.left input.new)
-        result.history.entries (O.written frames.old) (O.written frames.new) }
+        PlayEnd.FrameFault result.history.entries (O.written frames.old) (O.written frames.new) }
     ensures part { result.status ≡ NO_MEMORY
         → IsUntouched result.history.entries (O.written frames.old) (O.written frames.new)
         ⊎ IsBegun (meaning_of_words (map string_bytes words.now)) (I.left input.old) (I.left input.new)
-        result.history.entries (O.written frames.old) (O.written frames.new) }
+        PlayEnd.NoMemory result.history.entries (O.written frames.old) (O.written frames.new) }
     ensures part_read { TakesFront (I.left input.old) (I.left input.new) }
     ensures unread { (w : Words) (n : ℕ) → meaning_of_words (map string_bytes words.now) ≡ Some w → w.make ≡ Some n
         → I.left input.new ≡ I.left input.old }
+    ensures ends { FindsEnd (meaning_of_words (map string_bytes words.now)) (I.left input.old) (I.left input.new)
+        (I.ends input.old) (I.ends input.new) result.status }
     ensures stopped { result.status ≢ DONE → result.status ≢ REPORT_FAULT
         → IsStopped result.status result.refusal result.stuck
         (P.written report.old) (P.written report.new) (P.faults report.old) (P.faults report.new) }

@@ -1,6 +1,6 @@
 //! Short lists of numbers: the children of a node, the ranges of a level of detail, the times of a sequence.
 ghost use Rattle.std.specs.Prelude.{◌≡◌, ℕ, ◌≤◌, ◌<◌, List, [], length, slice_get, slice_set, IfOk, OnOk, OnErr, Some};
-ghost use Rattle.std.specs.Prelude.{◌+◌, ◌-◌, ◌∷◌, ◌++◌, ◌==◌};
+ghost use Rattle.std.specs.Prelude.{◌+◌, ◌-◌, ◌∷◌, ◌++◌, ◌==◌, ◌↔◌, IsOk, IfErr};
 ghost use Rattle.std.specs.Vec.{vec_len, vec_capacity};
 ghost use Rattle.std.specs.List.{insert, remove, position};
 ghost use Rattle.pf_model.specs.Children.{replace_first, drop_first};
@@ -137,7 +137,7 @@ impl Ids {
     }
 }
 
-/// The serials of freed nodes, in the order of their burial.
+/// The serials of freed nodes, in the order of their burial. Its type keeps that it has room for no more than it holds.
 #[derive(Debug, Drop)]
 pub struct Serials {
     items: Vec<u32>,
@@ -147,16 +147,17 @@ impl Model for Serials {
     ghost Value = { List ℕ };
 
     ghost view = { λ s. s.items.items };
+
+    ghost invariant = { λ s. vec_capacity s.items ≤ vec_len s.items };
 }
 
 impl Serials {
-    /// Room for this many serials.
+    /// Room for just this many serials.
     pub fn with_room(alloc: Global, n: usize) -> Result<SerialsBuilder, NoMemory>
         ensures { IfOk result (λ b. b ≡ record { items = []; spare = n }) }
     {
         Ok(SerialsBuilder {
             items: Vec::with_capacity(alloc, n)?,
-            room: n,
         })
     }
 
@@ -165,6 +166,13 @@ impl Serials {
         ensures { result ≡ length self.now }
     {
         self.items.len()
+    }
+
+    /// For how many serials the list keeps room: for those that it holds.
+    pub fn room(&self) -> usize
+        ensures { result ≡ length self.now }
+    {
+        self.items.capacity()
     }
 
     /// The serials.
@@ -186,15 +194,12 @@ impl Serials {
 #[derive(Debug, Drop)]
 pub struct SerialsBuilder {
     items: Vec<u32>,
-    room: usize,
 }
 
 impl Model for SerialsBuilder {
     ghost Value = { SerialsSoFar };
 
-    ghost view = { λ b. record { items = b.items.items; spare = b.room - vec_len b.items } };
-
-    ghost invariant = { λ b. (vec_len b.items ≤ b.room) × (b.room ≤ vec_capacity b.items) };
+    ghost view = { λ b. record { items = b.items.items; spare = vec_capacity b.items - vec_len b.items } };
 }
 
 impl SerialsBuilder {
@@ -202,7 +207,7 @@ impl SerialsBuilder {
     pub fn spare(&self) -> usize
         ensures { result ≡ self.now.spare }
     {
-        self.room - self.items.len()
+        self.items.capacity() - self.items.len()
     }
 
     /// Appends a serial.
@@ -211,17 +216,19 @@ impl SerialsBuilder {
         ensures items { self.new.items ≡ self.old.items ++ s ∷ [] }
         ensures spare { self.new.spare + 1 ≡ self.old.spare }
     {
-        match self.items.push(s) {
-            Ok(()) => {}
-            Err(_) => unreachable!(),
-        }
+        self.items.push_reserved(s);
     }
 
-    /// The serials so far.
-    pub fn finish(self) -> Serials
-        ensures { result ≡ self.items }
+    /// The list, where all room is used; else the builder comes back.
+    pub fn finish(self) -> Result<Serials, SerialsBuilder>
+        ensures list { IfOk result (λ serials. serials ≡ self.items) }
+        ensures full { IsOk result ↔ self.spare ≡ 0 }
+        ensures back { IfErr result (λ builder. builder ≡ self) }
     {
-        let SerialsBuilder { items, room: _ } = self;
-        Serials { items }
+        if self.spare() != 0 {
+            return Err(self);
+        }
+        let SerialsBuilder { items } = self;
+        Ok(Serials { items })
     }
 }

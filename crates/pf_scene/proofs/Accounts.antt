@@ -195,7 +195,7 @@ out_few ahead channels log s c copies legal after room h n =
 
 -- a cut that was refused
 pub kept_uncut : (ahead channels : ℕ) (log : Log) (s : FrameState) (c d : CyclesState) (copies copies' : ℕ) → IsLegal channels log → state_of channels log ≡ s → s.frames < s.retired + ahead
-    → ((n : ℕ) → out_at d n ≡ out_at c n) → ((b : ℕ) → most_of c ≤ b → ((n : ℕ) → out_at c n < b) → most_of d ≤ b) → copies' ≡ max copies d.most
+    → ((n : ℕ) → out_at d n ≡ out_at c n) → ((b : ℕ) → most_of c ≤ b → ((n : ℕ) → out_at c n < b) → most_of d ≤ b) → copies' ≤ max copies d.most
     → AreKept ahead channels log c copies → AreKept ahead channels log d copies'
 kept_uncut ahead channels log s c d copies copies' legal after room out most is h =
     let old = few_accounted ahead channels log c h.0 in
@@ -210,14 +210,14 @@ kept_uncut ahead channels log s c d copies copies' legal after room out most is 
     low : (a b m : ℕ) → a ≡ b → b ≤ m → a ≤ m
     low a b m h k = omega arith
 
-    at_most : (a m k b : ℕ) → a ≤ ahead + 1 → max m k ≤ ahead + 1 → b ≡ max a m → b ≤ ahead + 1
+    at_most : (a m k b : ℕ) → a ≤ ahead + 1 → max m k ≤ ahead + 1 → b ≤ max a m → b ≤ ahead + 1
     at_most a m k b h i e = omega arith
 
 -- a Frame
 pub kept_framed : (ahead channels : ℕ) (log log' : Log) (s : FrameState) (marks : List ℕ) (seat : ℕ) (x : Entry) (c d : CyclesState) (copies copies' : ℕ) → IsLegal channels log
     → state_of channels log ≡ s → marked channels log ≡ marks → s.frames < s.retired + ahead → x.command ≡ command.Frame → log' ≡ log ++ (seat, x) ∷ []
     → ((n : ℕ) → out_at d n ≡ out_at c n + times_in n (geode_serials (node_at s.graph.nodes) marks))
-    → ((b : ℕ) → most_of c ≤ b → ((n : ℕ) → out_at c n < b) → most_of d ≤ b) → copies' ≡ max copies d.most
+    → ((b : ℕ) → most_of c ≤ b → ((n : ℕ) → out_at c n < b) → most_of d ≤ b) → copies' ≤ max copies d.most
     → AreKept ahead channels log c copies → AreKept ahead channels log' d copies'
 kept_framed ahead channels log log' s marks seat x c d copies copies' legal after marked_are room is logs out most copied h =
     let old = few_accounted ahead channels log c h.0 in
@@ -233,7 +233,7 @@ kept_framed ahead channels log log' s marks seat x c d copies copies' legal afte
     more : (a b t k m n : ℕ) → a ≡ b + t → b ≤ m → t ≡ k → n ≡ m + k → a ≤ n
     more a b t k m n h i j e = omega arith
 
-    at_most : (a m k b : ℕ) → a ≤ ahead + 1 → max m k ≤ ahead + 1 → b ≡ max a m → b ≤ ahead + 1
+    at_most : (a m k b : ℕ) → a ≤ ahead + 1 → max m k ≤ ahead + 1 → b ≤ max a m → b ≤ ahead + 1
     at_most a m k b h i e = omega arith
 
     listed : next_cut channels log ≡ updates_of (node_at s.graph.nodes) marks

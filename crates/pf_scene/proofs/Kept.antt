@@ -272,11 +272,3 @@ frame_cut channels log log' s marks weight seat e us k logs entry is =
     let listed : next_cut channels log ≡ updates_of (node_at s.graph.nodes) marks =
     ap (λ (t : FrameState). updates_of (node_at t.graph.nodes) (marked channels log)) k.after ∙ ap (λ (ids : List ℕ). updates_of (node_at s.graph.nodes) ids) k.marks_are in
     is ∙ sym listed ∙ sym last ∙ ap (λ (t : FrameState). cut_of channels (log ++ (seat, e) ∷ []) (t.frames + 1)) k.after ∙ ap (λ (es : Log). cut_of channels es (s.frames + 1)) (sym logs)
-
--- no more are freed than there are graves
-pub few_freed : (r : ℕ) (graves : List GraveState) → length (freed_by r graves) ≤ length graves
-few_freed r graves =
-    let most = count_by-le-length (is_due r) graves in
-    let many = length-filter (is_due r) graves in
-    let same : length (freed_by r graves) ≡ length (filter (is_due r) graves) = length-map (filter (is_due r) graves) (λ (g : GraveState). g.serial) in
-    omega (arith, most, many, same)

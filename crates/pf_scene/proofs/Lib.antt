@@ -1,4 +1,5 @@
 pub mod Written
+pub mod Batching
 pub mod Filling
 pub mod Serials
 pub mod Edited
@@ -11,6 +12,7 @@ pub mod Rooms
 pub mod Trimmed
 pub mod Counted
 pub mod Bringing
+pub mod Returned
 pub mod Accounts
 pub mod Homes
 pub mod Refused

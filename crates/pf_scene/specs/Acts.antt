@@ -19,7 +19,7 @@ use Rattle.pf_scene.specs.declared.outcomes.Synced.{Synced}
 use Rattle.pf_scene.specs.declared.outcomes.Channels.{Channels}
 use Rattle.pf_scene.specs.declared.outcomes.Framed.{Framed}
 use Rattle.pf_scene.specs.declared.outcomes.Sight.{Sight}
-use Rattle.pf_scene.specs.Scenes.{Shared, SceneState, KeepsCopies, AreOfRetired, state_in, entered, weight_in, HasWeight, copies_after}
+use Rattle.pf_scene.specs.Scenes.{Shared, SceneState, KeepsCopies, AreOfRetired, TakesHome, state_in, entered, weight_in, HasWeight, copies_after, one_more}
 use Rattle.pf_scene.specs.Frames.{IsCutOf, AllHaveRoom, drawn}
 
 -- a seat is in charge
@@ -68,11 +68,12 @@ pub record Enters (c : Command) (seat : ℕ) (found left : SceneState) : Type 0 
   pub copies : left.copies ≡ copies_after found.shared.ahead (state_in found.shared) c found.copies
   pub accounted : KeepsCopies found → KeepsCopies left
 
--- A Sync was entered under the seat, with these lists that came home. Where they are what came back of the frames that
--- it retires, the copies that are out stay accounted for.
+-- A Sync was entered under the seat, and the geodes took back their arrays among these lists. Where the lists are what
+-- came back of the frames that it retires, the copies that are out stay accounted for.
 pub record Syncs (retired : ℕ) (lists : List UpdateList) (seat : ℕ) (found left : SceneState) : Type 0 where
   pub shared : left.shared ≡ entered (command.Sync retired) (seated seat found.shared)
   pub copies : left.copies ≡ found.copies
+  pub taken : TakesHome lists found left
   pub accounted : AreOfRetired retired found.shared lists → KeepsCopies found → KeepsCopies left
 
 -- an edit was entered where it may be made; it may not be made; or there was no memory
@@ -110,12 +111,13 @@ DoesSync retired home seat found left (outcome.NoMemory back) =
     (left ≡ with_seat seat found) × (back.lists.items ≡ home.lists.items)
     × (vec_capacity back.lists ≡ vec_capacity home.lists) × (KeepsCopies found → KeepsCopies left)
 
--- What a Frame that was entered did: its cut is that of the history, each draw list has room and is as before, and the
--- copies that are out stay accounted for.
+-- What a Frame that was entered did: its cut is that of the history, each draw list has room and is as before, the number
+-- of copies rose by one at most and not from 0, and the copies that are out stay accounted for.
 pub record Begins (ahead : ℕ) (channels : Channels) (seat : ℕ) (found left : SceneState) (r : Framed) : Type 0 where
   pub may : MayFrame found.shared ahead (length channels.lists.items)
   pub shared : left.shared ≡ entered command.Frame (seated seat found.shared)
   pub copies : found.copies ≤ left.copies
+  pub few : left.copies ≤ one_more found.copies
   pub accounted : KeepsCopies found → KeepsCopies left
   pub cut : IsCutOf r.cut found.shared
   pub updates : r.cut.updates ≡ cut_of left.shared.channels left.shared.log r.cut.frame

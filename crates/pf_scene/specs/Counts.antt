@@ -1,7 +1,7 @@
 -- How many copies of a geode's triangles are out, and which arrays come home to their cycles.
-use Rattle.std.specs.Prelude.{◌≡◌, ⊤, ℕ, ◌+◌, ◌<◌, ◌≤◌, max, ◌&&◌, Bool, true, nat_le, List, length, Option, Some, None}
+use Rattle.std.specs.Prelude.{◌≡◌, ⊤, ℕ, ◌+◌, ◌<◌, ◌≤◌, max, ◌&&◌, ◌==◌, if◌then◌else◌, Bool, true, false, nat_le, List, length, map, Option, Some, None}
 use Rattle.std.specs.Option.{option_map}
-use Rattle.std.specs.List.{AllByRecursion, list_all}
+use Rattle.std.specs.List.{AllByRecursion, list_all, sum_by, range_with_len}
 use Rattle.pf_model.specs.declared.geometry.Tri.{Tri}
 use Rattle.pf_model.specs.declared.nodes.Node.{Node}
 use Rattle.pf_model.specs.Kinds.{geom_of, is_geode}
@@ -37,6 +37,29 @@ ListFits written next us = AllByRecursion (λ u. FitsHome written next u.1) us
 abbrev pub ListsFit : Written → ℕ → List UpdateList → Type 0
 ListsFit written next lists = AllByRecursion (ListFits written next) lists
 
+-- whether the second triangles are there and as many as the first
+abbrev pub as_many : Option (List Tri) → Option (List Tri) → Bool
+as_many (Some ts) (Some us) = length us == length ts
+as_many tris other = false
+
+-- how many arrays a node or none holds for the cycle of this serial, whose triangles are these: one, where it is a geode
+-- of the serial with as many triangles
+abbrev pub fitting : Option (List Tri) → ℕ → Option Node → ℕ
+fitting tris s None = 0
+fitting tris s (Some n) = if is_geode n.kind && n.serial == s && as_many tris (geom_of n.kind) then 1 else 0
+
+-- how many an update list holds
+abbrev pub fitting_in : Option (List Tri) → ℕ → UpdateList → ℕ
+fitting_in tris s us = sum_by (λ u. fitting tris s u.1) us
+
+-- how many update lists hold together
+abbrev pub fitting_in_all : Option (List Tri) → ℕ → List UpdateList → ℕ
+fitting_in_all tris s lists = sum_by (fitting_in tris s) lists
+
+-- how many copies are out under each serial that was given
+abbrev pub outs : ℕ → CyclesState → List ℕ
+outs next c = map (out_at c) (range_with_len 0 next)
+
 -- What the type of a scene keeps of its cycles: what came back of the Frames fits home, and so does the copy behind the
 -- last Frame, which comes back next.
 pub record FitHome (channels : ℕ) (log : Log) (next : ℕ) (written : Written) : Type 0 where
@@ -44,10 +67,12 @@ pub record FitHome (channels : ℕ) (log : Log) (next : ℕ) (written : Written)
   pub behind : (id : ℕ) → FitsHome written next (node_at (copy_of (cuts_of channels log)) id)
 
 -- What the type of a scene keeps of the numbers of copies: a cycle begins with one more than frames may be ahead, and
--- none has more than the scene tells.
+-- none has more than the scene tells, which is 0 or at least the number that a cycle begins with.
 pub record AreCounted (ahead copies : ℕ) (c : CyclesState) : Type 0 where
   pub begins : c.copies ≡ ahead + 1
   pub within : (s : ℕ) → copies_at c s ≤ copies
+  pub least : 0 < copies → ahead + 1 ≤ copies
+  pub most : most_of c ≤ max copies (ahead + 1)
 
 -- each cycle has as many copies as it had, and a new one gets as many
 pub record AreAsMany (old new : CyclesState) : Type 0 where

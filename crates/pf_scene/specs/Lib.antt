@@ -1,3 +1,4 @@
+pub mod Batches
 pub mod Scenes
 pub mod Worlds
 pub mod Stock

@@ -1,6 +1,9 @@
 -- What clauses see of the scene, and what its type keeps.
-use Rattle.std.specs.Prelude.{◌≡◌, ℕ, ◌+◌, ◌^◌, ◌<◌, ◌≤◌, max, Bool, true, if◌then◌else◌, is_some, List, [], ◌∷◌, ◌++◌, length}
+use Rattle.std.specs.Prelude.{◌≡◌, ℕ, ◌+◌, ◌-◌, ◌^◌, ◌<◌, ◌≤◌, max, ◌==◌, Bool, true, if◌then◌else◌, is_some, List, [], ◌∷◌, ◌++◌, length, get_or, Some}
 use Rattle.std.specs.List.{sum_by, list_any}
+use Rattle.pf_model.specs.declared.nodes.Node.{Node}
+use Rattle.pf_model.specs.Kinds.{geom_of, is_geode}
+use Rattle.pf_model.specs.Graphs.{node_at}
 use Rattle.pf_model.specs.Edits.{fault_of}
 use Rattle.pf_model.specs.Merges.{merge_fault}
 use Rattle.pf_model.specs.Copies.{UpdateList}
@@ -13,7 +16,7 @@ use Rattle.pf_history.specs.Cuts.{marked}
 use Rattle.pf_history.specs.Away.{came_back_between}
 use Rattle.pf_scene.specs.Stock.{Written, makes_geode}
 use Rattle.cycle_buffer.specs.Cycles.{CyclesState, written_at}
-use Rattle.pf_scene.specs.Counts.{FitHome, AreCounted}
+use Rattle.pf_scene.specs.Counts.{FitHome, AreCounted, fitting_in_all}
 
 -- What the stages share: the log, the number of the seat under which the next entries stand, whether the stop mark is
 -- set, how many frames may be ahead, and how many channels there are.
@@ -24,13 +27,18 @@ pub record Shared : Type 0 where
   pub ahead : ℕ
   pub channels : ℕ
 
--- What clauses see of the scene: what is shared, the greatest number of copies that a geode's cycle has had, and whether
--- the copies that are out are accounted for (`are_accounted`): no cycle has had more than frames may be ahead and one
--- more, and of no geode's triangles more are out than are away.
+-- What clauses see of the scene: what is shared, the greatest number of copies that a geode's cycle has had, how many
+-- copies of a geode's triangles are out, by serials from 0 on, and whether they are accounted for (`are_accounted`): no
+-- cycle has had more than frames may be ahead and one more, and of no geode's triangles more are out than are away.
 pub record SceneState : Type 0 where
   pub shared : Shared
   pub copies : ℕ
+  pub out : List ℕ
   pub accounted : Bool
+
+-- how many copies are out under a serial
+abbrev pub out_in : SceneState → ℕ → ℕ
+out_in s serial = get_or s.out serial 0
 
 -- the copies that are out are accounted for, and no cycle has had more copies than frames may be ahead and one more
 abbrev pub KeepsCopies : SceneState → Type 0
@@ -43,6 +51,12 @@ state_in s = state_of s.channels s.log
 -- these update lists are what came back of the frames that a Sync retires
 abbrev pub AreOfRetired : ℕ → Shared → List UpdateList → Type 0
 AreOfRetired retired s lists = lists ≡ came_back_between s.channels s.log (state_in s).retired retired
+
+-- Each geode took back its arrays among these lists: those that are as long as its triangles, as many as were out.
+abbrev pub TakesHome : List UpdateList → SceneState → SceneState → Type 0
+TakesHome lists old new =
+    (id : ℕ) (n : Node) → node_at (state_in old.shared).graph.nodes id ≡ Some n → is_geode n.kind ≡ true →
+    out_in new n.serial ≡ out_in old n.serial - fitting_in_all (geom_of n.kind) n.serial lists
 
 -- the one-thread object's own entry for a command stands at the end of the log
 abbrev pub entered : Command → Shared → Shared
@@ -64,6 +78,14 @@ HasWeight s c = weight_in s.log + weight_of c < 2 ^ 31
 -- the greatest number of copies after one more cycle was made, where one was
 abbrev pub with_cycle : Bool → ℕ → ℕ → ℕ
 with_cycle made ahead most = if made then max most (ahead + 1) else most
+
+-- the greatest number of copies after a Frame, where the cycles had at most so many: as long as there was none, none
+abbrev pub with_grown : ℕ → ℕ → ℕ
+with_grown cycles most = if most == 0 then 0 else max most cycles
+
+-- what a Frame can make of the greatest number of copies: one more, where there was a cycle
+abbrev pub one_more : ℕ → ℕ
+one_more most = if most == 0 then 0 else most + 1
 
 -- the greatest number of copies after an edit or a merge: each geode that it makes has `ahead` + 1 copies
 abbrev pub copies_after : ℕ → FrameState → Command → ℕ → ℕ

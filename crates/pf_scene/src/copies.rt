@@ -1,14 +1,14 @@
 //! The greatest number of copies that the cycle of a geode has had.
 ghost use Rattle.std.specs.Prelude.{◌≡◌, max, ◌+◌, ◌<◌, if◌then◌else◌, is_some};
 ghost use Rattle.std.specs.List.{list_any};
-ghost use Rattle.pf_scene.specs.Scenes.{with_cycle};
+ghost use Rattle.pf_scene.specs.Scenes.{with_cycle, with_grown};
 ghost use Rattle.pf_scene.specs.Stock.{makes_geode};
 
 use crate::stock;
 use pf_model::{Edit, Fault};
 
 /// The greater of two numbers.
-pub(crate) fn most(a: u32, b: u32) -> u32
+fn most(a: u32, b: u32) -> u32
     ensures { result ≡ max a b }
 {
     if a < b { b } else { a }
@@ -23,6 +23,13 @@ fn with_cycle(made: bool, ahead: u8, copies: u32) -> u32
     } else {
         copies
     }
+}
+
+/// The number after a frame, where the cycles had at most so many copies. There is no cycle before the first geode.
+pub(crate) fn after_frame(copies: u32, cycles: u32) -> u32
+    ensures { result ≡ with_grown cycles copies }
+{
+    if copies == 0 { 0 } else { most(copies, cycles) }
 }
 
 /// The number after an edit.

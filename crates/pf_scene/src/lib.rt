@@ -4,6 +4,7 @@
 pub mod acts;
 pub(crate) mod burial;
 pub(crate) mod copies;
+pub(crate) mod entries;
 pub(crate) mod lists;
 pub mod outcomes;
 pub(crate) mod replies;

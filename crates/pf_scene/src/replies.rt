@@ -1,5 +1,5 @@
 //! Replies, and what an entry holds.
-ghost use Rattle.std.specs.Prelude.{◌≡◌, ◌≤◌, ◌++◌, length, replicate, IfOk};
+ghost use Rattle.std.specs.Prelude.{◌≡◌, ◌+◌, ◌≤◌, ◌++◌, length, replicate, IfOk};
 ghost use Rattle.std.specs.Option.{option_map_or};
 ghost use Rattle.pf_model.specs.Angles.{home_view};
 ghost use Rattle.pf_history.specs.declared.commands.Reply.TheVariants as reply;
@@ -7,7 +7,7 @@ ghost use Rattle.pf_history.specs.Commands.{caller_of};
 
 use pf_history::{Command, Entry, Reply};
 use pf_io::NoMemory;
-use pf_model::{Fault, SerialsBuilder, View};
+use pf_model::{Fault, Serials, SerialsBuilder, View};
 use std::alloc::Global;
 
 /// The entry of a command with this reply.
@@ -44,10 +44,22 @@ pub(crate) fn of_merge(fault: Option<(u32, Fault)>) -> Reply
 /// Appends the same serials once more.
 pub(crate) fn tell_again(serials: &[u32], out: &mut SerialsBuilder)
     requires { length serials.now ≤ out.old.spare }
-    ensures { out.new.items ≡ out.old.items ++ serials.now }
+    ensures items { out.new.items ≡ out.old.items ++ serials.now }
+    ensures spare { out.new.spare + length serials.now ≡ out.old.spare }
 {
     for serial in serials {
         out.push(*serial);
+    }
+}
+
+/// The list of serials, of which none is missing.
+pub(crate) fn whole(serials: SerialsBuilder) -> Serials
+    requires { serials.spare ≡ 0 }
+    ensures { result ≡ serials.items }
+{
+    match serials.finish() {
+        Ok(serials) => serials,
+        Err(_) => unreachable!(),
     }
 }
 

@@ -1,16 +1,20 @@
 //! The scene: the graph, the views, the frames, the graves and the history as one value.
-ghost use Rattle.std.specs.Prelude.{◌≡◌, ◌+◌, ◌^◌, ◌<◌, ◌≤◌, true, false, length, map, OnOk, OnErr, IfOk, IfErr, []};
+ghost use Rattle.std.specs.Prelude.{◌≡◌, ◌⊎◌, ◌+◌, ◌^◌, ◌<◌, ◌≤◌, true, false, None, length, map, OnOk, OnErr, IfOk, IfErr, [], ◌∷◌};
 ghost use Rattle.std.specs.List.{list_all};
 ghost use Rattle.std.specs.Vec.{vec_capacity};
 ghost use Rattle.pf_model.specs.Limits.{IsGraphWithinLimits};
 ghost use Rattle.pf_model.specs.Fits.{fits};
+ghost use Rattle.pf_model.specs.Edits.{fault_of};
 ghost use Rattle.pf_history.specs.declared.commands.Command.TheVariants as command;
 ghost use Rattle.pf_history.specs.Objects.{reply_of};
 ghost use Rattle.pf_history.specs.Logs.{IsLegal};
 ghost use Rattle.pf_history.specs.Cuts.{cut_of};
-ghost use Rattle.pf_scene.specs.Scenes.{KeepsCopies, AreOfRetired, state_in, entered, weight_in, HasWeight, copies_after, IsSmall};
+ghost use Rattle.pf_scene.specs.Scenes.{KeepsCopies, AreOfRetired, TakesHome, state_in, entered, weight_in, HasWeight, copies_after, one_more, IsSmall};
+ghost use Rattle.pf_scene.specs.Stock.{first_fault};
+ghost use Rattle.pf_scene.specs.Batches.{IsFull};
 ghost use Rattle.pf_scene.specs.Frames.{IsCutOf, AllHaveRoom, drawn};
 
+use crate::entries::Entries;
 use crate::world::World;
 use crate::{copies, lists, replies};
 use draw_list::DrawList;
@@ -31,7 +35,7 @@ pub struct Scene {
     frames: u32,
     retired: u32,
     merges: u32,
-    history: History,
+    history: Entries,
     weight: u32,
     copies: u32,
     seat: u32,
@@ -63,7 +67,7 @@ impl Drop for Scene {
 
 impl Model for Scene {
     ghost use Rattle.pf_scene.specs.Scenes.{SceneState, KeepsScene};
-    ghost use Rattle.pf_scene.specs.Counts.{are_accounted};
+    ghost use Rattle.pf_scene.specs.Counts.{are_accounted, outs};
 
     ghost Value = { SceneState };
 
@@ -76,6 +80,7 @@ impl Model for Scene {
         channels = s.channels;
       };
       copies = s.copies;
+      out = outs s.world.graph.next_serial s.world.cycles;
       accounted = are_accounted s.ahead s.channels s.history.entries s.world.cycles;
     } };
 
@@ -98,6 +103,7 @@ impl Scene {
         ensures { IfOk result (λ s. s ≡ record {
           shared = record { log = []; seat = 0; stopped = false; ahead = ahead; channels = channels };
           copies = 0;
+          out = 0 ∷ [];
           accounted = true;
         }) }
     {
@@ -108,7 +114,7 @@ impl Scene {
             frames: 0,
             retired: 0,
             merges: 0,
-            history: History::new(alloc),
+            history: Entries::new(alloc),
             weight: 0,
             copies: 0,
             seat: 0,
@@ -242,7 +248,7 @@ impl Scene {
             channels: _,
             stopped: _,
         } = self;
-        history
+        history.into_history()
     }
 
     /// Sets the view of a channel, counted from 0.
@@ -255,7 +261,7 @@ impl Scene {
         ensures accounted { KeepsCopies self.old → KeepsCopies self.new }
         ensures unchanged { OnErr result (self.new ≡ self.old) }
     {
-        self.history.reserve(1)?;
+        self.history.reserve()?;
         self.views[channel as usize] = view;
         let entry = replies::own_entry(Command::View(channel, view), Reply::Done);
         self.history.push_reserved(self.seat, entry);
@@ -264,7 +270,8 @@ impl Scene {
     }
 
     /// Retires so many frames, counted from the first, and frees the deleted nodes that only they name. The triangles of
-    /// the lists that came home go back to their cycles, and no list is left; a refusal leaves the lists.
+    /// the lists that came home go back to their cycles, whatever else is in the lists, and no list is left; a refusal
+    /// leaves the lists.
     pub fn sync(&mut self, retired: u32, home: &mut Vec<Updates>) -> Result<Reply, NoMemory>
         requires back { (state_in self.old.shared).retired ≤ retired }
         requires begun { retired ≤ (state_in self.old.shared).frames }
@@ -272,6 +279,7 @@ impl Scene {
         ensures entered { OnOk result (self.new.shared ≡ entered (command.Sync retired) self.old.shared) }
         ensures reply { IfOk result (λ r. r ≡ reply_of (state_in self.old.shared) (command.Sync retired)) }
         ensures home { OnOk result (home.new.items ≡ []) }
+        ensures taken { OnOk result (TakesHome home.old.items self.old self.new) }
         ensures copies { self.new.copies ≡ self.old.copies }
         ensures accounted { OnOk result (AreOfRetired retired self.old.shared home.old.items
             → KeepsCopies self.old → KeepsCopies self.new) }
@@ -279,22 +287,23 @@ impl Scene {
         ensures left { OnErr result (home.new.items ≡ home.old.items) }
         ensures capacity { vec_capacity home.new ≡ vec_capacity home.old }
     {
-        self.history.reserve(1)?;
-        let graves = self.world.graves();
-        let mut freed = Serials::with_room(self.alloc, graves)?;
-        let mut told = Serials::with_room(self.alloc, graves)?;
+        self.history.reserve()?;
+        self.world.keeps_limits();
+        let due = self.world.due(retired);
+        let mut freed = Serials::with_room(self.alloc, due)?;
+        let mut told = Serials::with_room(self.alloc, due)?;
         self.world.sync(retired, home, &mut freed);
         self.retired = retired;
-        let freed = freed.finish();
+        let freed = replies::whole(freed);
         replies::tell_again(freed.as_slice(), &mut told);
         let entry = replies::own_entry(Command::Sync(retired), Reply::Freed(freed));
         self.history.push_reserved(self.seat, entry);
         self.weight += 1;
-        Ok(Reply::Freed(told.finish()))
+        Ok(Reply::Freed(replies::whole(told)))
     }
 
-    /// Makes an edit. A fault is a reply, even where there is no memory but for the entry. Want of memory hands the edit
-    /// back.
+    /// Makes an edit. A fault is a reply, even where there is no memory but for the entry; room for entries is made for 64
+    /// at a time. Want of memory hands the edit back.
     pub fn edit(&mut self, e: Edit) -> Result<Reply, Edit>
         requires fits { fits e ≡ true }
         requires weight { HasWeight self.old.shared (command.Edit e) }
@@ -303,10 +312,12 @@ impl Scene {
         ensures copies { OnOk result (self.new.copies
             ≡ copies_after self.old.shared.ahead (state_in self.old.shared) (command.Edit e) self.old.copies) }
         ensures accounted { KeepsCopies self.old → KeepsCopies self.new }
+        ensures memory { OnErr result (IsFull self.old.shared.log
+            ⊎ (fault_of (state_in self.old.shared).graph e ≡ None)) }
         ensures unchanged { OnErr result (self.new ≡ self.old) }
         ensures back { IfErr result (λ back. back ≡ e) }
     {
-        if self.history.reserve(1).is_err() {
+        if self.history.reserve().is_err() {
             return Err(e);
         }
         let fault = match self.world.edit(&e, self.frames) {
@@ -321,7 +332,7 @@ impl Scene {
     }
 
     /// Makes all edits of a buffer, or none of them where one has a fault, which is then the reply; that of the first edit
-    /// even where there is no memory but for the entry. Want of memory hands the merge back.
+    /// even where there is no memory but for the entry, as in `edit`. Want of memory hands the merge back.
     pub fn merge(&mut self, m: Merge) -> Result<Reply, Merge>
         requires fits { list_all fits m.edits ≡ true }
         requires weight { HasWeight self.old.shared (command.Merge m) }
@@ -330,10 +341,12 @@ impl Scene {
         ensures copies { OnOk result (self.new.copies
             ≡ copies_after self.old.shared.ahead (state_in self.old.shared) (command.Merge m) self.old.copies) }
         ensures accounted { KeepsCopies self.old → KeepsCopies self.new }
+        ensures memory { OnErr result (IsFull self.old.shared.log
+            ⊎ (first_fault (state_in self.old.shared).graph m.edits ≡ None)) }
         ensures unchanged { OnErr result (self.new ≡ self.old) }
         ensures back { IfErr result (λ back. back ≡ m) }
     {
-        if self.history.reserve(1).is_err() {
+        if self.history.reserve().is_err() {
             return Err(m);
         }
         let fault = match self.world.merge(&m.edits, self.frames) {
@@ -352,6 +365,7 @@ impl Scene {
     /// Begins the frame in preparation, and answers its cut. All memory of the frame is taken before any change, the room
     /// for a frame of this size in the draw list of each channel among it. Want of memory may leave more room and more
     /// copies of triangles, and changes nothing else.
+    #[tactic(auto, using(crate::proofs::Counted::no_fewer))]
     pub fn frame(&mut self, ahead: u8, lists: &mut [DrawList]) -> Result<Cut, NoMemory>
         requires ahead { ahead ≡ self.old.shared.ahead }
         requires room { (state_in self.old.shared).frames < (state_in self.old.shared).retired + ahead }
@@ -364,17 +378,18 @@ impl Scene {
         ensures room { OnOk result (AllHaveRoom (state_in self.old.shared).graph lists.new) }
         ensures lists { map drawn lists.new ≡ map drawn lists.old }
         ensures copies { self.old.copies ≤ self.new.copies }
+        ensures few { self.new.copies ≤ one_more self.old.copies }
         ensures accounted { KeepsCopies self.old → KeepsCopies self.new }
         ensures unchanged { OnErr result (self.new.shared ≡ self.old.shared) }
     {
         let _ = ahead;
         self.world.keeps_limits();
-        self.history.reserve(1)?;
+        self.history.reserve()?;
         let (size, tris) = (self.world.size(), self.world.tris());
         lists::make_room(lists, size as usize, tris as usize)?;
         let views = Views::of(self.alloc, self.views.as_slice())?;
         let cut = self.world.cut();
-        self.copies = copies::most(self.copies, self.world.most_copies());
+        self.copies = copies::after_frame(self.copies, self.world.most_copies());
         let updates = cut?;
         self.world.next_frame();
         self.frames += 1;

@@ -7,11 +7,10 @@ ghost use Rattle.pf_model.specs.Kinds.{geom_of, is_geode};
 ghost use Rattle.pf_model.specs.Graphs.{node_at};
 ghost use Rattle.pf_model.specs.Fits.{fits, kind_fits};
 ghost use Rattle.pf_model.specs.Copies.{named_by};
-ghost use Rattle.pf_history.specs.Away.{arrays_of, arrays_in, arrays_in_all};
 ghost use Rattle.cycle_buffer.specs.Cycles.{written_at, out_at, most_of};
 ghost use Rattle.update_lists.specs.Marks.{among};
 ghost use Rattle.update_lists.specs.Taking.{IsWritten, geode_serial};
-ghost use Rattle.pf_scene.specs.Counts.{AreTrimmed, AreAsMany, FitsHome, ListFits, ListsFit};
+ghost use Rattle.pf_scene.specs.Counts.{AreTrimmed, AreAsMany, fitting, fitting_in, fitting_in_all};
 ghost use Rattle.pf_scene.specs.Stock.{makes_geode, serial_after, serial_behind, HasCycle, HaveCycles, IsSized};
 
 use cycle_buffer::Cycles;
@@ -235,8 +234,7 @@ fn take_home(cycles: &mut Cycles, node: Option<Node>)
     ensures written { (s : ℕ) → written_at cycles.new s ≡ written_at cycles.old s }
     ensures most { most_of cycles.new ≡ most_of cycles.old }
     ensures counts { AreAsMany cycles.old cycles.new }
-    ensures out { (next : ℕ) → FitsHome (written_at cycles.old) next node
-        → (s : ℕ) → out_at cycles.new s ≡ out_at cycles.old s - arrays_of s node }
+    ensures out { (s : ℕ) → out_at cycles.new s ≡ out_at cycles.old s - fitting (written_at cycles.old s) s node }
 {
     if let Some(node) = node {
         if let Some(geom) = into_tris(node.kind) {
@@ -250,8 +248,7 @@ fn take_list_home(cycles: &mut Cycles, mut updates: Updates)
     ensures written { (s : ℕ) → written_at cycles.new s ≡ written_at cycles.old s }
     ensures most { most_of cycles.new ≡ most_of cycles.old }
     ensures counts { AreAsMany cycles.old cycles.new }
-    ensures out { (next : ℕ) → ListFits (written_at cycles.old) next updates
-        → (s : ℕ) → out_at cycles.new s ≡ out_at cycles.old s - arrays_in s updates }
+    ensures out { (s : ℕ) → out_at cycles.new s ≡ out_at cycles.old s - fitting_in (written_at cycles.old s) s updates }
 {
     for i in 0..updates.len() {
         let mut place = None;
@@ -260,14 +257,14 @@ fn take_list_home(cycles: &mut Cycles, mut updates: Updates)
     }
 }
 
-/// Takes back the triangles of the geodes of update lists, and leaves no list. Where each geode is as long as its cycle,
-/// so many fewer copies are out.
+/// Takes back the triangles of the geodes of update lists, and leaves no list. For each geode that is as long as its cycle
+/// one copy less is out, as long as one is.
 pub(crate) fn take_all_home(cycles: &mut Cycles, home: &mut Vec<Updates>)
     ensures written { (s : ℕ) → written_at cycles.new s ≡ written_at cycles.old s }
     ensures most { most_of cycles.new ≡ most_of cycles.old }
     ensures counts { AreAsMany cycles.old cycles.new }
-    ensures out { (next : ℕ) → ListsFit (written_at cycles.old) next home.old.items
-        → (s : ℕ) → out_at cycles.new s ≡ out_at cycles.old s - arrays_in_all s home.old.items }
+    ensures out { (s : ℕ) → out_at cycles.new s
+        ≡ out_at cycles.old s - fitting_in_all (written_at cycles.old s) s home.old.items }
     ensures empty { home.new.items ≡ [] }
     ensures capacity { vec_capacity home.new ≡ vec_capacity home.old }
 {

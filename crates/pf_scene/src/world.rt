@@ -10,10 +10,9 @@ ghost use Rattle.pf_model.specs.Edits.{fault_of, after};
 ghost use Rattle.pf_model.specs.Merges.{merge_fault, after_all};
 ghost use Rattle.pf_model.specs.Copies.{grave_of, named_by, put_all, updates_of, freed_by, graves_kept};
 ghost use Rattle.pf_history.specs.Objects.{emptied};
-ghost use Rattle.pf_history.specs.Away.{arrays_in_all};
 ghost use Rattle.cycle_buffer.specs.Cycles.{written_at, out_at, most_of, AreBetween};
 ghost use Rattle.update_lists.specs.Taking.{geode_serials, times_in};
-ghost use Rattle.pf_scene.specs.Counts.{AreTrimmed, AreAsMany, ListsFit};
+ghost use Rattle.pf_scene.specs.Counts.{AreTrimmed, AreAsMany, fitting_in_all};
 ghost use Rattle.pf_scene.specs.Stock.{IsStocked, IsOpen, makes_geode, was_made, first_fault};
 
 use crate::{burial, stock};
@@ -66,12 +65,15 @@ impl World {
         })
     }
 
-    /// Does nothing: tells that the graph is within the limits, and that its geodes have their cycles.
+    /// Does nothing: tells that the graph is within the limits, that its geodes have their cycles, and that no cycle has
+    /// fewer copies than a new one gets.
     pub(crate) fn keeps_limits(&self)
         ensures limits { IsGraphWithinLimits self.now.graph }
         ensures stocked { IsStocked (written_at self.now.cycles) self.now.graph }
+        ensures between { AreBetween self.now.cycles }
     {
         self.graph.keeps_limits();
+        let _ = self.cycles.most();
     }
 
     /// The number of graves.
@@ -278,21 +280,29 @@ impl World {
         }
     }
 
+    /// How many graves are due once so many frames are retired.
+    pub(crate) fn due(&self, retired: u32) -> usize
+        ensures { result ≡ length (freed_by retired self.now.graves) }
+    {
+        self.graves.due(retired)
+    }
+
     /// Drops the graves that are due once so many frames are retired, appends their serials, and takes back the
     /// triangles that came home. It takes no memory.
     pub(crate) fn sync(&mut self, retired: u32, home: &mut Vec<Updates>, out: &mut SerialsBuilder)
-        requires { length self.old.graves ≤ out.old.spare }
+        requires { length (freed_by retired self.old.graves) ≤ out.old.spare }
         ensures graph { self.new.graph ≡ self.old.graph }
         ensures graves { self.new.graves ≡ graves_kept retired self.old.graves }
         ensures marks { self.new.marks ≡ self.old.marks }
         ensures freed { out.new.items ≡ out.old.items ++ freed_by retired self.old.graves }
+        ensures room { out.new.spare + length (freed_by retired self.old.graves) ≡ out.old.spare }
         ensures home { home.new.items ≡ [] }
         ensures capacity { vec_capacity home.new ≡ vec_capacity home.old }
         ensures written { (s : ℕ) → written_at self.new.cycles s ≡ written_at self.old.cycles s }
         ensures most { most_of self.new.cycles ≡ most_of self.old.cycles }
         ensures counts { AreAsMany self.old.cycles self.new.cycles }
-        ensures out { (next : ℕ) → ListsFit (written_at self.old.cycles) next home.old.items
-            → (s : ℕ) → out_at self.new.cycles s ≡ out_at self.old.cycles s - arrays_in_all s home.old.items }
+        ensures out { (s : ℕ) → out_at self.new.cycles s
+            ≡ out_at self.old.cycles s - fitting_in_all (written_at self.old.cycles s) s home.old.items }
     {
         stock::take_all_home(&mut self.cycles, home);
         self.graves.sweep(retired, out);

@@ -301,7 +301,7 @@ next_is (l ∷ lines) zero = refl
 next_is (l ∷ lines) (suc n) = next_is lines n
 
 sync_waits : (play : Script) (ahead : ℕ) (p : PipeWork) (sink : SinkSide) → 1 ≤ ahead → PipeKeeps play ahead p →
-    stage.SyncWaits p.app (Some p.scene) (before_poll p sink).ends → SyncMustWait (shared_of play ahead (core_of play p)) (core_of play p).pipe
+    stage.SyncWaits p.app (Some p.scene) (before_poll p sink).ends p.scene.shared.log → SyncMustWait (shared_of play ahead (core_of play p)) (core_of play p).pipe
 sync_waits play ahead p sink some keeps (inl (dry, behind)) =
     let same = keeps.stages.app.ahead in
     inl (dry (omega (arith, behind, same, some)), omega (arith, behind, same))
@@ -316,7 +316,8 @@ sync_waits play ahead p sink some keeps (inr bars) =
     }))
 
 frame_waits : (play : Script) (ahead : ℕ) (p : PipeWork) (sink : SinkSide) → 1 ≤ ahead → PipeKeeps play ahead p → (synced : Bool) →
-    stage.FrameWaits synced p.app (Some p.scene) (before_poll p sink).ends → FrameMustWait synced (shared_of play ahead (core_of play p)) (core_of play p).pipe
+    stage.FrameWaits synced p.app (Some p.scene) (before_poll p sink).ends p.scene.shared.log →
+    FrameMustWait synced (shared_of play ahead (core_of play p)) (core_of play p).pipe
 frame_waits play ahead p sink some keeps false waits = sync_waits play ahead p sink some keeps waits
 frame_waits play ahead p sink some keeps true waits =
     λ may.

@@ -81,6 +81,7 @@ opening_scene ahead channels =
     record {
       shared = record { log = []; seat = 0; stopped = false; ahead = ahead; channels = channels };
       copies = 0;
+      out = 0 ∷ [];
       accounted = true;
     }
 

@@ -16,3 +16,4 @@ pub mod Counting
 pub mod DbaseSteps
 pub mod Moves
 pub mod Numbers
+pub mod Full

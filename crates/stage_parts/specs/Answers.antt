@@ -10,9 +10,10 @@ abbrev pub is_over : Result Did StageError → Bool
 is_over (Ok did.Over) = true
 is_over _ = false
 
--- the link has no room, where its sending end knows what was received
+-- the link has no room: as many packets were sent as it has room for, beside those received where its sending end knows
+-- what was received
 abbrev pub IsFull : ℕ → Option (List Packet) → List Packet → Type 0
-IsFull room told sent = IfSome told (λ taken. length taken + room ≤ length sent)
+IsFull room told sent = MatchOption told (room ≤ length sent) (λ taken. length taken + room ≤ length sent)
 
 -- all that was sent over the link is received, where its receiving end knows what was sent
 abbrev pub IsDry : Option (List Packet) → List Packet → Type 0

@@ -307,7 +307,7 @@ impl Load {
     }
 
     /// Takes the P6 bytes of all images, in the order of the channels, as the bytes of the pictures. Those of one image stay in it, and
-    /// those of several are put in the buffer. It takes no memory.
+    /// those of several are put in the buffer.
     pub fn write_bytes(&mut self)
         ensures { self.new ≡ record self.old { bytes = flat_map ppm_bytes self.old.images } }
     {

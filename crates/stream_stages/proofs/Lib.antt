@@ -21,6 +21,7 @@ mod Ordering
 mod Outcomes
 mod Stepping
 mod Numbers
+mod Visits
 mod RouteLaws
 mod Measure
 mod Passing

@@ -168,7 +168,7 @@ found_leaves w a around t some =
     by true = (refl, one_item (item_at a around (length w.seen.items.items) t empty_span) w.seen.items some)
     by false = (refl, one_item (item_at a around (length w.seen.items.items) t empty_span) w.seen.items some)
 
-entered_visited : (s : Scene) (w : Walking) (a : At) (n : Node) → (entered_in s w a n).visited ≡ w.visited
+pub entered_visited : (s : Scene) (w : Walking) (a : At) (n : Node) → (entered_in s w a n).visited ≡ w.visited
 entered_visited s w a n = by (nat_lt (length w.way) 31)
   where
     ch : Chosen

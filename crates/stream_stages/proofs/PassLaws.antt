@@ -13,10 +13,11 @@ use Rattle.stream_stages.specs.Routes.{Walking, glass_order, stops_ahead, to_com
 use Rattle.stream_stages.specs.Sending.{sent_to}
 use Rattle.stream_stages.specs.Going.{Stepped, stepped}
 use Rattle.stream_stages.specs.Underway.{IsRoute, walking_of}
-use Rattle.stream_stages.specs.Filled.{HasSameRoom, CanPass, Passes, IsOver, IsFilled, sent_to_there}
+use Rattle.stream_stages.specs.Filled.{HasSameRoom, CanPass, Passes, CountsTests, IsOver, IsFilled, sent_to_there}
 use Rattle.stream_stages.proofs.Stepping.{IsRoutine, IsStepped, step_goes}
 use Rattle.stream_stages.proofs.Passing.{passes_none, passes_both, passes_step, passes_held, held_full, orders, passes_glass, glass_full, glass_over}
 use Rattle.stream_stages.proofs.Measure.{left_to_do, step_less}
+use Rattle.stream_stages.proofs.Visits.{step_counts, counts_both}
 use Rattle.stream_stages.proofs.Rooms.{TakesRoom, sent_room}
 
 counted : (r : Route) → vec_len r.way ≡ length r.way.items
@@ -47,7 +48,7 @@ without_held r h = record {
 same_room : (d : Drawables) → HasSameRoom d d
 same_room d = record { items = refl; joints = refl; tris = refl }
 
-room_both : (d e f : Drawables) → HasSameRoom d e → HasSameRoom e f → HasSameRoom d f
+pub room_both : (d e f : Drawables) → HasSameRoom d e → HasSameRoom e f → HasSameRoom d f
 room_both d e f h k = record { items = k.items ∙ h.items; joints = k.joints ∙ h.joints; tris = k.tris ∙ h.tris }
 
 -- ---- opaque instances
@@ -58,6 +59,7 @@ pub record IsPassing (s : Scene) (most : ℕ) (a : Sight) (r q : Route) (d e : D
   pub room : HasSameRoom d e
   pub passes : CanPass s most (walking_of a r) d → r.sent ≡ None → Passes s most (walking_of a r) (walking_of a q) d e m n
   pub sent : CanPass s most (walking_of a r) d → r.sent ≡ None → q.sent ≡ None
+  pub visits : CountsTests (walking_of a r) (walking_of a q) m n
 
 pub passing_none : (s : Scene) (most : ℕ) (a : Sight) (r : Route) (d : Drawables) (m : ℕ) → IsRoute r → 0 < length d.joints.lists → length d.items.items ≤ most → IsPassing s most a r r d d m m
 passing_none s most a r d m sound joint few = record {
@@ -67,6 +69,7 @@ passing_none s most a r d m sound joint few = record {
   room = same_room d;
   passes = λ can none. passes_none s most (walking_of a r) d m can;
   sent = λ can none. none;
+  visits = λ few. (few, refl);
 }
 
 pub passing_held : (s : Scene) (most : ℕ) (a : Sight) (r q : Route) (d e f : Drawables) (m n : ℕ) (x : Sighting) → IsPassing s most a r q d e m n → q.held ≡ Some x → length e.items.items < most →
@@ -80,6 +83,7 @@ passing_held s most a r q d e f m n x p held few same done =
       passes = λ can none. passes_both s most (walking_of a r) (walking_of a q) (walking_of a (record q { held = None })) d e (sent_to s.look x e).list m n n (p.passes can none)
           (passes_held s most (walking_of a q) e x n (p.passes can none).next held (p.sent can none) few done);
       sent = p.sent;
+      visits = p.visits;
     })
   where
     takes : TakesRoom e (sent_to s.look x e).list
@@ -97,6 +101,8 @@ passing_step s most a r q t d e m n k going p held sound is = record {
       passes_both s most (walking_of a r) (walking_of a q) (walking_of a t) d e e m n k q_passes
       (passes_step s most (walking_of a q) e n (record { going = going; walk = walking_of a t; tests = k }) q_passes.next (step can none));
   sent = λ can none. (step can none).sent ∙ p.sent can none;
+  visits = counts_both (walking_of a r) (walking_of a q) (walking_of a t) m n k p.visits
+      (subst (λ (u : Stepped). CountsTests (walking_of a q) u.walk n u.tests) (sym is) (step_counts s (walking_of a q) n));
 }
   where
     step : CanPass s most (walking_of a r) d → r.sent ≡ None → IsStepped s (walking_of a q) n (record { going = going; walk = walking_of a t; tests = k })
@@ -195,7 +201,7 @@ glazing_none look most from r d sound place joint few = record {
   passes = λ s a t same can. passes_none s most (sent_to_there (walking_of a r) from) d t can;
 }
 
-glass_counted : (r : Route) → vec_len r.glass ≡ length r.glass.items
+pub glass_counted : (r : Route) → vec_len r.glass ≡ length r.glass.items
 glass_counted r = search rules
 
 pub got_below : (xs : List Sighting) (k : ℕ) (x : Sighting) → slice_get xs k ≡ Some x → k < length xs

@@ -66,6 +66,11 @@ pub record Passes (s : Scene) (most : ℕ) (w v : Walking) (d e : Drawables) (te
   pub numbers : numbers_of s v ≡ numbers_of s w
   pub counted : after + length (stops_ahead s v) ≡ tests + length (stops_ahead s w)
 
+-- each box test was of a node that was counted, while fewer nodes are counted than can be
+abbrev pub CountsTests : (w v : Walking) (tests after : ℕ) → Type 0
+CountsTests w v tests after =
+    v.visited < 4294967295 → (w.visited < 4294967295) × (after + w.visited ≡ tests + v.visited)
+
 -- nothing is left to visit
 pub record IsOver (s : Scene) (v : Walking) : Type 0 where
   pub held : v.held ≡ None

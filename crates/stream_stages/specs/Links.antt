@@ -1,5 +1,5 @@
 -- What a poll leaves of its desk and of its links, and what its answer says.
-use Rattle.std.specs.Prelude.{◌≡◌, ℕ, ◌+◌, ◌≤◌, Bool, true, false, List, length, Option, IfSome, Result, Ok, Err}
+use Rattle.std.specs.Prelude.{◌≡◌, ℕ, ◌+◌, ◌≤◌, Bool, true, false, List, length, Option, IfSome, MatchOption, Result, Ok, Err}
 use Rattle.seat_lock.specs.Desk.{Looked, Stand}
 use Rattle.frame_link.specs.Link.{Link}
 use Rattle.pf_history.specs.declared.commands.Entry.{Entry}
@@ -42,9 +42,10 @@ end_place link room other_end = record { link = link; room = room; other_end = o
 
 -- Answers
 
--- the link has no room, where its sending end knows what was received
+-- the link has no room: as many items were sent as it has room for, beside those received where its sending end knows
+-- what was received
 abbrev pub HasNoRoom : {X : Type 0} → ℕ → Option (List X) → List X → Type 0
-HasNoRoom room told sent = IfSome told (λ taken. length taken + room ≤ length sent)
+HasNoRoom room told sent = MatchOption told (room ≤ length sent) (λ taken. length taken + room ≤ length sent)
 
 -- all that was sent over the link is received, where its receiving end knows what was sent
 abbrev pub HasNoMore : {X : Type 0} → Option (List X) → List X → Type 0

@@ -27,7 +27,8 @@ use std::marker::Model;
 
 /// The cull of the streamed draw list: it takes the loads that the application sends, keeps its copy of the scene by their
 /// update lists, and sends them on without draw lists. Then it sends for each channel of the load what is in sight, in the
-/// pieces that come back to it, of which the last one of a list has the mark. Only `new` takes memory.
+/// pieces that come back to it, of which the last one of a list has the mark. No poll answers want of
+/// memory.
 ///
 /// Contracts see the lens, how many items a piece takes, the copy with its boxes, whether the End was passed on, the packet
 /// and the piece that it holds to send, the frame whose pieces are sent, and the walk.
@@ -387,7 +388,7 @@ impl StreamCullStage {
     }
 
     /// One step: sends the packet or the piece that it holds, or takes a piece that came back and fills it, or takes a packet
-    /// and holds what it makes of it. It takes no memory.
+    /// and holds what it makes of it.
     pub fn poll<
         D: Desk<Scene>,
         S: SendEnd<Packet>,

@@ -28,7 +28,8 @@ use std::marker::Model;
 use std::thread::Threads;
 
 /// The draw of the streamed draw list: it takes the loads that the cull sends, and for each channel of a load the pieces up
-/// to the one marked `last`, draws their pictures, gives each piece back, and sends the loads back. Only `new` takes memory.
+/// to the one marked `last`, draws their pictures, gives each piece back, and sends the loads back. No poll
+/// answers want of memory: a picture that several processors draw takes some, and is the same without.
 ///
 /// Contracts see the lens, the background, whether the End was taken, the piece and the packet that it holds, the frame whose
 /// pieces come, and its renderer.
@@ -347,7 +348,7 @@ impl StreamDrawStage {
     }
 
     /// One step: gives back the piece or sends the packet that it holds, or takes a piece of the frame that is under way and
-    /// draws it, or takes a packet. It takes no memory.
+    /// draws it, or takes a packet.
     pub fn poll<
         R: Threads + Sync,
         D: Desk<Scene>,

@@ -66,7 +66,7 @@ impl Drawing {
         self.channel < channels_of(&self.load)
     }
 
-    /// The load with the numbers of the frame, and with the bytes of its pictures. It takes no memory.
+    /// The load with the numbers of the frame, and with the bytes of its pictures.
     pub(crate) fn finished(self) -> Load
         ensures { result ≡ record self.load { stats = self.stats; bytes = flat_map ppm_bytes self.load.images } }
     {
@@ -78,7 +78,7 @@ impl Drawing {
 }
 
 /// Ends a channel of a frame: puts the picture of all its pieces into its image, where this has the lens's size, and goes on
-/// to the next channel. It takes no memory.
+/// to the next channel.
 fn end_channel<R: Threads + Sync>(
     rt: &R,
     raster: &mut PieceRaster,
@@ -99,7 +99,7 @@ fn end_channel<R: Threads + Sync>(
     frame.stats = added(frame.stats, stats);
 }
 
-/// Draws a piece that came for a frame. It takes no memory.
+/// Draws a piece that came for a frame.
 pub(crate) fn draw_piece<R: Threads + Sync>(
     rt: &R,
     raster: &mut PieceRaster,

@@ -15,7 +15,7 @@ const TRIS: usize = 65_536;
 
 /// A piece of the draw list of a channel: at most `limit` items with their joints and triangles, and whether it is the last
 /// one, which has the numbers of the whole list. Its limit is 1 to 4,096; once it is cleared, its list has room for 32 times
-/// as many items and joints, and for 65,536 triangles. Only `new` takes memory.
+/// as many items and joints, and for 65,536 triangles.
 #[derive(Debug)]
 pub struct Piece {
     pub(crate) list: DrawList,

@@ -66,7 +66,7 @@ impl Sending {
     }
 }
 
-/// Takes the update list of a load into the copy, and puts in its place what stood there. It takes no memory.
+/// Takes the update list of a load into the copy, and puts in its place what stood there.
 pub(crate) fn take_updates(copy: &mut StageCopy, load: &mut Load)
     ensures { TakesUpdates copy.old copy.new load.old load.new }
 {
@@ -74,7 +74,7 @@ pub(crate) fn take_updates(copy: &mut StageCopy, load: &mut Load)
     load.set_updates(stood);
 }
 
-/// Begins the list of the channel of a frame, and hands the frame back; none where no channel is left. It takes no memory.
+/// Begins the list of the channel of a frame, and hands the frame back; none where no channel is left.
 pub(crate) fn begin_channel(walk: &mut StreamWalk, lens: &Lens, frame: Sending) -> Option<Sending>
     ensures few { IfSome result (λ s. s.channel < 4) }
     ensures pieces { (limit : ℕ) → (copy : CopyState) → (loads : List LoadState) → (lists : PieceLists)
@@ -104,7 +104,7 @@ fn fill_counted<L: Ledger>(blank: Blank, copy: &StageCopy, walk: &mut StreamWalk
 }
 
 /// Fills a piece with what is sent next of a frame, and goes on to the next channel behind the last piece of a list. It hands
-/// the frame back, none where no channel is left. It takes no memory.
+/// the frame back, none where no channel is left.
 pub(crate) fn fill_piece(
     copy: &StageCopy,
     walk: &mut StreamWalk,

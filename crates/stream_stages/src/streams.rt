@@ -13,7 +13,7 @@ ghost use Rattle.stream_stages.specs.declared.routes.Sight.{Sight};
 ghost use Rattle.stream_stages.specs.Pieces.{in_sending_order};
 ghost use Rattle.stream_stages.specs.Routes.{to_come, stops_ahead, scene_of};
 ghost use Rattle.stream_stages.specs.Underway.{IsRoute, IsStreamable, IsUnderway, numbers_of, HasBegun, walking_of, sight_of};
-ghost use Rattle.stream_stages.specs.Filled.{HasSameRoom, CanPass, Passes, IsOver, IsFilled, IsOneWalk, sent_to_there};
+ghost use Rattle.stream_stages.specs.Filled.{HasSameRoom, CanPass, Passes, CountsTests, IsOver, IsFilled, IsOneWalk, sent_to_there};
 
 use crate::glasses::put_in_order;
 use crate::pieces::Piece;
@@ -32,7 +32,7 @@ use std::sync::ledger::Ledger;
 const LEVELS: usize = 32;
 
 /// The walk of a scene that sends what is in sight in pieces: opaque instances as it finds them, and then glass in the
-/// order in which it is drawn. It has room for 131,072 instances. Only `new` takes memory.
+/// order in which it is drawn. It has room for 131,072 instances.
 pub struct StreamWalk {
     sight: Sight,
     route: Route,
@@ -117,8 +117,9 @@ impl StreamWalk {
     /// it has items and the triangles of what is sent next find no room in it. The last one has the numbers of the whole
     /// walk; more is not asked of a walk that has given it.
     ///
-    /// The clauses are of the walk of a scene that goes on from `start`, where the same scene is given each time. On every
-    /// scene it goes no deeper than 32 nodes, and leaves out what finds no room.
+    /// The clauses that name `IsUnderway` are of the walk of a scene that goes on from `start`, where the same scene is given
+    /// each time. On every scene it goes no deeper than 32 nodes, the children of 31 nodes on the way, leaves out what finds
+    /// no room, and makes a box test for each node that it counts.
     pub fn fill<V: SceneView, L: Ledger>(
         &mut self,
         scene: &V,
@@ -127,6 +128,10 @@ impl StreamWalk {
     )
         ensures limit { out.new.limit ≡ out.old.limit }
         ensures same { IsOneWalk self.old self.new }
+        ensures levels { length self.new.way ≤ 31 }
+        ensures room { HasSameRoom out.old.list out.new.list }
+        ensures glass { length self.new.glass ≤ 131072 }
+        ensures visits { CountsTests self.old self.new steps.old steps.new }
         ensures underway { let s : Scene = scene_of (V.look scene.now) (V.boxes scene.now) self.old in
             IsUnderway s self.old → IsUnderway s self.new }
         ensures sent { let s : Scene = scene_of (V.look scene.now) (V.boxes scene.now) self.old in
@@ -189,6 +194,7 @@ fn pass<V: SceneView, L: Ledger>(
     ensures sound { IsRoute route.new }
     ensures room { HasSameRoom list.old list.new }
     ensures few { length list.new.items.items ≤ most }
+    ensures visits { CountsTests (walking_of sight.now route.old) (walking_of sight.now route.new) steps.old steps.new }
     ensures passes { let s : Scene = sight_of (V.look scene.now) (V.boxes scene.now) sight.now in
         CanPass s most (walking_of sight.now route.old) list.old
         → Passes s most (walking_of sight.now route.old) (walking_of sight.now route.new) list.old list.new steps.old steps.new }
@@ -228,6 +234,7 @@ fn pass_opaque<V: SceneView, L: Ledger>(
     ensures joint { 0 < length list.new.joints.lists }
     ensures room { HasSameRoom list.old list.new }
     ensures few { length list.new.items.items ≤ most }
+    ensures visits { CountsTests (walking_of sight.now route.old) (walking_of sight.now route.new) steps.old steps.new }
     ensures passes { let s : Scene = sight_of (V.look scene.now) (V.boxes scene.now) sight.now in
         CanPass s most (walking_of sight.now route.old) list.old → route.old.sent ≡ None
         → Passes s most (walking_of sight.now route.old) (walking_of sight.now route.new) list.old list.new steps.old steps.new }
@@ -274,6 +281,7 @@ fn pass_glass<V: NodeView>(
     ensures sound { IsRoute route.new }
     ensures room { HasSameRoom list.old list.new }
     ensures few { length list.new.items.items ≤ most }
+    ensures visited { route.new.visited ≡ route.old.visited }
     ensures passes { (s : Scene) → (a : Sight) → (t : ℕ) → s.look ≡ V.look scene.now
         → CanPass s most (sent_to_there (walking_of a route.old) from) list.old
         → Passes s most (sent_to_there (walking_of a route.old) from) (walking_of a route.new) list.old list.new t t }

@@ -19,6 +19,7 @@ loop-count-init g c =
     let d = c.args.list.now in
     record {
       sound = c.requires.sound;
+      stands = tt;
       left = omega (arith, few_left (instances_in d), length-map d.items.items (instance_of_item d.joints.lists d.kept.tris));
       behind = λ px py column row. refl;
       drawn = λ px py column row. refl;
@@ -36,6 +37,7 @@ loop-count-preserved g c =
     let next = next_left xs last pane (subst (λ (n : ℕ). IsNextBelow xs last n (Some pane)) long c.in-Some.ensures) in
     record {
       sound = c.draw_pane.ensures.sound;
+      stands = c.in-Some.ensures.stands;
       left = omega (arith, ap length next.left, c.loop-count.invariant.left);
       behind = λ px py column row. c.draw_pane.ensures.glass.behind px py column row ∙ c.loop-count.invariant.behind px py column row;
       drawn = λ px py column row.

@@ -2,7 +2,7 @@ use Rattle.std.proofs.Common.{◌≡◌, ℕ, ◌+◌, ◌<◌, ◌≤◌, lengt
 use Rattle.draw_list.specs.Lists.{instances_in}
 use Rattle.depth_raster.specs.Canvas.{behind_at, glazed_with}
 use Rattle.depth_raster.specs.Drawing.{glass_glazes}
-use Rattle.depth_raster.specs.Panes.{panes_left}
+use Rattle.depth_raster.specs.Panes.{IsPaneIn, panes_left}
 use Rattle.depth_raster.specs.Strips.{AreStrips}
 use Rattle.depth_raster.proofs.PanesLeft.{instances_of}
 use Rattle.depth_raster.proofs.glass.draw_glass.Given as goal
@@ -10,6 +10,7 @@ use Rattle.depth_raster.proofs.glass.draw_glass.Given as goal
 abbrev pub invariant-loop-count : goal.invariant-loop-count
 invariant-loop-count g l = record {
   sound : AreStrips l.lens l.strips.items;
+  stands : IsPaneIn (instances_in l.list) l.last;
   left : length (panes_left (instances_in l.list) l.last) + l.count ≤ length l.list.items.items;
   behind : (px py : ℕ) → px < l.lens.w → py < l.lens.h → behind_at l.strips.items px py ≡ behind_at l.initial.strips.items px py;
   drawn : (px py : ℕ) → px < l.lens.w → py < l.lens.h

@@ -1,14 +1,14 @@
-use Rattle.std.proofs.Common.{◌+◌, ◌-◌, ◌*◌, length}
+use Rattle.std.proofs.Common.{◌+◌, ◌*◌}
 use Rattle.depth_raster.proofs.pieces.+preparing.Given as goal
 
 abbrev pub decreases-prepare : goal.decreases-prepare
-decreases-prepare g l = 4 * length l.waiting.now
+decreases-prepare g l = 4 * l.levels
 
 abbrev pub decreases-prepare_both : goal.decreases-prepare_both
-decreases-prepare_both g l = 4 * (length l.first.now + length l.later.now) - 1
+decreases-prepare_both g l = 4 * l.levels + 2
 
 abbrev pub decreases-prepare_both-one : goal.decreases-prepare_both-one
-decreases-prepare_both-one g l = 4 * length l.first.now + 1
+decreases-prepare_both-one g l = 4 * l.levels + 1
 
 abbrev pub decreases-prepare_both-all : goal.decreases-prepare_both-all
-decreases-prepare_both-all g l = 4 * length l.later.now + 1
+decreases-prepare_both-all g l = 4 * l.levels + 1

@@ -4,5 +4,5 @@ use Rattle.perfly_top.proofs.playing.held_run.Goals as goal
 
 pub returns-clause-sum : goal.returns-clause-sum
 returns-clause-sum g c = λ done some.
-    let summing = c.play_by-played.new.frames in
-    sum_of_all g.S.Start.start (g.H.Held.bytes c.args.held) (g.H.Held.bytes summing.held) summing.sum (stream_of c.args.play c.play_by-played.result.history.entries) c.requires.start summing.added (c.play_by-played.ensures.run.whole done) some
+    let summing = c.play_by-run.new.frames in
+    sum_of_all g.S.Start.start (g.H.Held.bytes c.args.held) (g.H.Held.bytes summing.held) summing.sum (stream_of c.args.play c.play_by-run.result.played.history.entries) c.requires.start summing.added (c.play_by-run.ensures.run.whole done) some

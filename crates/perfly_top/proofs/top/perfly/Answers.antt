@@ -1,9 +1,10 @@
 use Rattle.std.proofs.Common.{◌∙◌, ℕ, map, sym, ap, subst, inl, inr}
 use Rattle.std.specs.String.{string_bytes}
 use Rattle.program_words.specs.Meaning.{meaning_of_words}
-use Rattle.perfly_top.specs.Endings.{status_of, IsDue}
+use Rattle.perfly_top.specs.Endings.{status_of, FindsEnd, IsDue}
 use Rattle.perfly_top.proofs.Whys.{why_front, read_front}
 use Rattle.perfly_top.proofs.Dues.{stopped_due, played_is_due, made_why}
+use Rattle.perfly_top.proofs.Ends.{stopped_ends, played_ends}
 use Rattle.perfly_top.proofs.top.perfly.Goals as goal
 
 pub returns-in-Err-clause-part_read : goal.returns-in-Err-clause-part_read
@@ -48,7 +49,7 @@ returns-in-Ok-clause-part g c = λ e.
       play = c.in-Ok.task.play;
       given = c.in-Ok.ensures.given;
       can_end = c.in-Ok.ensures.can_end;
-      part = c.played.ensures.part;
+      part = c.played.ensures.part e;
     })
 
 pub returns-in-Ok-clause-part_read : goal.returns-in-Ok-clause-part_read
@@ -69,3 +70,20 @@ returns-in-Err-clause-made g c = λ words n meaning make.
 
 pub returns-in-Ok-clause-made : goal.returns-in-Ok-clause-made
 returns-in-Ok-clause-made g c = λ words n meaning make. c.played.ensures.one_of
+
+pub returns-in-Err-clause-ends : goal.returns-in-Err-clause-ends
+returns-in-Err-clause-ends g c =
+    let meant = meaning_of_words (map string_bytes c.args.words.now) in
+    let left = g.I.Source.left c.args.input.now in
+    let left' = g.I.Source.left c.prepared.new.input in
+    let ends = g.I.Source.ends c.args.input.now in
+    let ends' = g.I.Source.ends c.prepared.new.input in
+    subst (λ (n : ℕ). FindsEnd meant left left' ends ends' n) (sym c.stopped.ensures.status)
+    (stopped_ends meant left left' ends ends' c.in-Err.stop c.in-Err.ensures.ends c.prepared.ensures.no_end)
+
+pub returns-in-Ok-clause-ends : goal.returns-in-Ok-clause-ends
+returns-in-Ok-clause-ends g c =
+    let given = c.in-Ok.ensures.given in
+    played_ends (meaning_of_words (map string_bytes c.args.words.now)) (g.I.Source.left c.args.input.now)
+    (g.I.Source.left c.prepared.new.input) (g.I.Source.ends c.args.input.now) (g.I.Source.ends c.prepared.new.input)
+    c.in-Ok.task.words c.played.result.status given.meaning c.in-Ok.ensures.one_end c.played.ensures.one_of

@@ -1,11 +1,13 @@
-use Rattle.perfly_top.proofs.Runs.{part_of, played_of, whole_of, some_of}
+use Rattle.std.proofs.Common.{refl, inl, inr}
+use Rattle.pipe_plays.specs.declared.played.PlayEnd.TheVariants as end
+use Rattle.perfly_top.proofs.Runs.{no_fault, part_of, played_of, whole_of, some_of}
 use Rattle.perfly_top.proofs.top.played.Goals as goal
 
 pub returns-in-Done-clause-part : goal.returns-in-Done-clause-part
-returns-in-Done-clause-part g c =
-    part_of c.args.task.words c.args.task.play c.run_of-run.result.played.end c.tell.result.history c.run_of-run.result.played.history
-    c.run_of-run.result.played.stats.items (g.O.Sink.written c.args.frames.now) (g.O.Sink.written c.run_of-run.new.frames)
-    c.tell.ensures.history c.run_of-run.ensures.run
+returns-in-Done-clause-part g c = λ none.
+    part_of c.args.task.words c.args.task.play c.run_of-run.result.played.end end.NoMemory c.tell.result.history
+    c.run_of-run.result.played.history c.run_of-run.result.played.stats.items (g.O.Sink.written c.args.frames.now)
+    (g.O.Sink.written c.run_of-run.new.frames) (λ no. no_fault (inl c.in-Done.is)) c.tell.ensures.history c.run_of-run.ensures.run
 
 pub returns-in-Done-clause-played : goal.returns-in-Done-clause-played
 returns-in-Done-clause-played g c = λ told.
@@ -13,17 +15,18 @@ returns-in-Done-clause-played g c = λ told.
     c.run_of-run.result.played.stats.items (g.O.Sink.written c.args.frames.now) (g.O.Sink.written c.run_of-run.new.frames)
     c.tell.ensures.history c.run_of-run.ensures.run c.in-Done.is c.requires.can_end
 
-pub returns-in-FrameFault-clause-part : goal.returns-in-FrameFault-clause-part
-returns-in-FrameFault-clause-part g c =
-    part_of c.args.task.words c.args.task.play c.run_of-run.result.played.end c.stopped.result.history c.run_of-run.result.played.history
-    c.run_of-run.result.played.stats.items (g.O.Sink.written c.args.frames.now) (g.O.Sink.written c.run_of-run.new.frames)
-    c.stopped.ensures.history c.run_of-run.ensures.run
+pub returns-in-FrameFault-clause-begun : goal.returns-in-FrameFault-clause-begun
+returns-in-FrameFault-clause-begun g c = λ fault.
+    part_of c.args.task.words c.args.task.play c.run_of-run.result.played.end end.FrameFault c.stopped.result.history
+    c.run_of-run.result.played.history c.run_of-run.result.played.stats.items (g.O.Sink.written c.args.frames.now)
+    (g.O.Sink.written c.run_of-run.new.frames) (λ no. absurd (no refl)) c.stopped.ensures.history c.run_of-run.ensures.run
 
 pub returns-in-NoMemory-clause-part : goal.returns-in-NoMemory-clause-part
-returns-in-NoMemory-clause-part g c =
-    part_of c.args.task.words c.args.task.play c.run_of-run.result.played.end c.stopped-in-NoMemory.result.history c.run_of-run.result.played.history
-    c.run_of-run.result.played.stats.items (g.O.Sink.written c.args.frames.now) (g.O.Sink.written c.run_of-run.new.frames)
-    c.stopped-in-NoMemory.ensures.history c.run_of-run.ensures.run
+returns-in-NoMemory-clause-part g c = λ none.
+    part_of c.args.task.words c.args.task.play c.run_of-run.result.played.end end.NoMemory c.stopped-in-NoMemory.result.history
+    c.run_of-run.result.played.history c.run_of-run.result.played.stats.items (g.O.Sink.written c.args.frames.now)
+    (g.O.Sink.written c.run_of-run.new.frames) (λ no. no_fault (inr c.in-NoMemory.is)) c.stopped-in-NoMemory.ensures.history
+    c.run_of-run.ensures.run
 
 pub returns-in-Done-clause-whole : goal.returns-in-Done-clause-whole
 returns-in-Done-clause-whole g c = λ told.

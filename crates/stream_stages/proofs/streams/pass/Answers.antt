@@ -4,6 +4,7 @@ use Rattle.stream_stages.specs.declared.routes.Route.{Route}
 use Rattle.stream_stages.specs.declared.routes.Sight.{Sight}
 use Rattle.stream_stages.specs.Underway.{sight_of, walking_of}
 use Rattle.stream_stages.specs.Filled.{Passes, sent_to_there}
+use Rattle.stream_stages.proofs.Visits.{counts_kept}
 use Rattle.stream_stages.proofs.Passing.{passes_both}
 use Rattle.stream_stages.proofs.PassLaws.{pass_from, can_from, pass_ordered, nothing_ahead}
 use Rattle.stream_stages.proofs.streams.pass.Goals as goal
@@ -70,3 +71,15 @@ returns-else-not-pass_opaque-clause-full g c = λ can done.
     pass_ordered s c.args.most a r q t c.args.list.now c.pass_opaque.new.list c.args.steps.now c.pass_opaque.new.steps (c.pass_opaque.ensures.passes can none) (c.pass_opaque.ensures.sent can none)
     (c.if-not-pass_opaque.ensures.over can none refl) refl c.put_in_order.ensures.permutation c.put_in_order.ensures.sorted in
     c.pass_glass-in-None.ensures.full s a refl ordered.next done
+
+pub returns-in-Some-clause-visits : goal.returns-in-Some-clause-visits
+returns-in-Some-clause-visits g c =
+    let a : Sight = c.args.sight.now in
+    counts_kept (walking_of a c.args.route.now) (walking_of a c.args.route.now) (walking_of a c.pass_glass.new.route) c.args.steps.now c.args.steps.now
+    (λ few. (few, refl)) c.pass_glass.ensures.visited
+
+pub returns-else-not-pass_opaque-clause-visits : goal.returns-else-not-pass_opaque-clause-visits
+returns-else-not-pass_opaque-clause-visits g c =
+    let a : Sight = c.args.sight.now in
+    counts_kept (walking_of a c.args.route.now) (walking_of a c.pass_opaque.new.route) (walking_of a c.pass_glass-in-None.new.route) c.args.steps.now c.pass_opaque.new.steps
+    c.pass_opaque.ensures.visits c.pass_glass-in-None.ensures.visited

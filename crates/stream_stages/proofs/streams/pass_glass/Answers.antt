@@ -49,3 +49,12 @@ loop-route-smaller g c =
     let got : slice_get c.loop-route.route.glass.items c.loop-route.sent ≡ Some c.in-Some.waiting.now = ap (λ (xs : List Sighting). slice_get xs c.loop-route.sent) (sym c.as_slice.ensures.value) ∙ sym c.in-Some.ensures in
     let below : c.loop-route.sent < length c.loop-route.route.glass.items = got_below c.loop-route.route.glass.items c.loop-route.sent c.in-Some.waiting.now got in
     omega (arith, below)
+
+pub returns-in_default-clause-visited : goal.returns-in_default-clause-visited
+returns-in_default-clause-visited g c = ap (λ (u : Route). u.visited) c.loop-route.invariant.same
+
+pub returns-then-not-send-clause-visited : goal.returns-then-not-send-clause-visited
+returns-then-not-send-clause-visited g c = ap (λ (u : Route). u.visited) c.loop-route.invariant.same
+
+pub returns-clause-visited : goal.returns-clause-visited
+returns-clause-visited g c = ap (λ (u : Route). u.visited) c.loop-route.invariant.same

@@ -55,3 +55,16 @@ pub loop-waiting-smaller : goal.loop-waiting-smaller
 loop-waiting-smaller g c =
     let s : Scene = sight_of (g.V.NodeView.look c.args.scene.now) (g.V.SceneView.boxes c.args.scene.now) c.args.sight.now in
     passing_less s c.args.sight.now c.loop-waiting.route c.step.new.route c.loop-waiting.steps c.step.new.steps c.loop-waiting.invariant.sound c.if-not-step.ensures.walk
+
+pub returns-then-not-send-clause-visits : goal.returns-then-not-send-clause-visits
+returns-then-not-send-clause-visits g c = c.loop-waiting.invariant.visits
+
+pub returns-then-not-step-clause-visits : goal.returns-then-not-step-clause-visits
+returns-then-not-step-clause-visits g c =
+    let s : Scene = sight_of (g.V.NodeView.look c.args.scene.now) (g.V.SceneView.boxes c.args.scene.now) c.args.sight.now in
+    let held : c.loop-waiting.route.held ≡ None = search rules in
+    (passing_step s c.args.most c.args.sight.now c.args.route.now c.loop-waiting.route c.step.new.route c.args.list.now c.loop-waiting.list c.args.steps.now c.loop-waiting.steps c.step.new.steps c.step.result c.loop-waiting.invariant held
+    c.step.ensures.sound c.step.ensures.walk).visits
+
+pub returns-clause-visits : goal.returns-clause-visits
+returns-clause-visits g c = c.loop-waiting.invariant.visits

@@ -1,8 +1,9 @@
 -- The closing Sync is made, or not.
-use Rattle.std.proofs.Common.{inl, inr, rules, None, subst, arith}
+use Rattle.std.proofs.Common.{inl, inr, rules, None, sym, subst, arith}
 use Rattle.pf_scene.specs.Acts.{MaySync}
 use Rattle.frame_stages.specs.AppTurns.{Marks}
 use Rattle.frame_stages.specs.AppWorks.{work_of}
+use Rattle.frame_stages.specs.AppAnswers.{MayWant}
 use Rattle.frame_stages.proofs.AppTakes.{closed, close_waits, barred, unsent, wanting}
 use Rattle.frame_stages.proofs.application.Application.close_turn.Goals as goal
 
@@ -32,6 +33,6 @@ returns-in-NotNow-clause-polled g c = λ ends back.
 pub returns-in-NoMemory-clause-polled : goal.returns-in-NoMemory-clause-polled
 returns-in-NoMemory-clause-polled g c = λ ends back.
     wanting (g.D.Desk.number c.args.desk.now) (work_of c.args.self.now) (work_of (record c.args.self.now { flight = c.sync.new.self })) (g.D.Desk.seen c.args.desk.now) (g.D.Desk.seen c.sync.new.desk) (g.D.Desk.seen c.stop.new.desk)
-    (g.D.Desk.told c.args.desk.now) (g.D.Desk.told c.sync.new.desk) (g.D.Desk.told c.stop.new.desk) ends c.requires.bare (unsent c.args.self.now c.sync.new.self c.sync.ensures.same c.in-NoMemory.ensures.home) c.in-NoMemory.ensures.came
+    (g.D.Desk.told c.args.desk.now) (g.D.Desk.told c.sync.new.desk) (g.D.Desk.told c.stop.new.desk) ends (subst MayWant (sym c.requires.next) tt) c.requires.bare (unsent c.args.self.now c.sync.new.self c.sync.ensures.same c.in-NoMemory.ensures.home) c.in-NoMemory.ensures.came
     (subst (λ k. Marks k (g.D.Desk.seen c.sync.new.desk) (g.D.Desk.told c.sync.new.desk) (g.D.Desk.seen c.stop.new.desk) (g.D.Desk.told c.stop.new.desk)) c.sync.ensures.number c.stop.ensures.marks)
     (λ holds right. c.stop.ensures.counted (c.sync.ensures.counted (right c.requires.whole) holds))

@@ -4,8 +4,8 @@ use Rattle.pf_model.specs.declared.lines.AppStep.TheVariants as app
 use Rattle.pf_scene.specs.Acts.{MayEdit}
 use Rattle.frame_stages.specs.AppTurns.{Marks}
 use Rattle.frame_stages.specs.AppWorks.{work_of}
-use Rattle.frame_stages.specs.Scripts.{ScriptState}
-use Rattle.frame_stages.proofs.AppTakes.{edited, barred, wanting}
+use Rattle.frame_stages.specs.Scripts.{ScriptState, next_step}
+use Rattle.frame_stages.proofs.AppTakes.{edited, barred, edit_wants, wanting}
 use Rattle.frame_stages.proofs.application.Application.edit.Goals as goal
 
 pub returns-in-Entered-clause-polled : goal.returns-in-Entered-clause-polled
@@ -24,6 +24,7 @@ pub returns-in-NoMemory-clause-polled : goal.returns-in-NoMemory-clause-polled
 returns-in-NoMemory-clause-polled g c = λ ends.
     let t = c.in-NoMemory.ensures.came in
     wanting (g.D.Desk.number c.args.desk.now) (work_of c.args.self.now) (work_of (record c.args.self.now { script = c.make_edit.new.script })) (g.D.Desk.seen c.args.desk.now) (g.D.Desk.seen c.make_edit.new.desk) (g.D.Desk.seen c.stop.new.desk)
-    (g.D.Desk.told c.args.desk.now) (g.D.Desk.told c.make_edit.new.desk) (g.D.Desk.told c.stop.new.desk) ends c.requires.bare (ap (λ (s : ScriptState). work_of (record c.args.self.now { script = s })) t.0) t.1
+    (g.D.Desk.told c.args.desk.now) (g.D.Desk.told c.make_edit.new.desk) (g.D.Desk.told c.stop.new.desk) ends
+    (edit_wants (next_step c.args.self.now.script.rest) c.requires.next) c.requires.bare (ap (λ (s : ScriptState). work_of (record c.args.self.now { script = s })) t.0) t.1
     (subst (λ k. Marks k (g.D.Desk.seen c.make_edit.new.desk) (g.D.Desk.told c.make_edit.new.desk) (g.D.Desk.seen c.stop.new.desk) (g.D.Desk.told c.stop.new.desk)) c.make_edit.ensures.number c.stop.ensures.marks)
     (λ holds right. c.stop.ensures.counted (c.make_edit.ensures.counted holds))

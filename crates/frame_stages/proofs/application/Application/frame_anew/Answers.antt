@@ -1,7 +1,8 @@
 -- A frame is begun with a new load, or not.
-use Rattle.std.proofs.Common.{refl, subst}
+use Rattle.std.proofs.Common.{refl, sym, subst}
 use Rattle.frame_stages.specs.AppTurns.{Marks}
 use Rattle.frame_stages.specs.AppWorks.{work_of, with_load}
+use Rattle.frame_stages.specs.AppAnswers.{MayWant}
 use Rattle.frame_stages.proofs.AppPolled.{out, marks_later}
 use Rattle.frame_stages.proofs.AppTakes.{frame_begun, frame_waits, frame_barred, put_same, put_again}
 use Rattle.frame_stages.proofs.application.Application.frame_anew.Goals as goal
@@ -20,7 +21,7 @@ returns-in-NotNow-clause-polled g c = λ ends.
 pub returns-in-NoMemory-clause-polled : goal.returns-in-NoMemory-clause-polled
 returns-in-NoMemory-clause-polled g c = λ ends.
     let t = c.in-NoMemory.ensures.came in
-    out (g.D.Desk.number c.args.desk.now) (with_load c.args.old (work_of c.args.self.now)) (work_of (record c.args.self.now { flight = c.put_back-in-NoMemory.new.self })) (g.D.Desk.seen c.args.desk.now) (g.D.Desk.seen c.stop-in-NoMemory.new.desk) (g.D.Desk.told c.args.desk.now) (g.D.Desk.told c.stop-in-NoMemory.new.desk) ends c.requires.bare
+    out (g.D.Desk.number c.args.desk.now) (with_load c.args.old (work_of c.args.self.now)) (work_of (record c.args.self.now { flight = c.put_back-in-NoMemory.new.self })) (g.D.Desk.seen c.args.desk.now) (g.D.Desk.seen c.stop-in-NoMemory.new.desk) (g.D.Desk.told c.args.desk.now) (g.D.Desk.told c.stop-in-NoMemory.new.desk) ends (subst MayWant (sym c.requires.next) tt) c.requires.bare
     (marks_later (g.D.Desk.number c.args.desk.now) (g.D.Desk.seen c.args.desk.now) (g.D.Desk.seen c.make_frame.new.desk) (g.D.Desk.seen c.stop-in-NoMemory.new.desk) (g.D.Desk.told c.args.desk.now) (g.D.Desk.told c.make_frame.new.desk) (g.D.Desk.told c.stop-in-NoMemory.new.desk) t.2
     (subst (λ k. Marks k (g.D.Desk.seen c.make_frame.new.desk) (g.D.Desk.told c.make_frame.new.desk) (g.D.Desk.seen c.stop-in-NoMemory.new.desk) (g.D.Desk.told c.stop-in-NoMemory.new.desk)) c.make_frame.ensures.number c.stop-in-NoMemory.ensures.marks))
     (λ holds right. c.stop-in-NoMemory.ensures.counted (c.make_frame.ensures.counted holds))
@@ -29,5 +30,5 @@ returns-in-NoMemory-clause-polled g c = λ ends.
 pub returns-in_default-clause-polled : goal.returns-in_default-clause-polled
 returns-in_default-clause-polled g c = λ ends.
     out (g.D.Desk.number c.args.desk.now) (with_load c.args.old (work_of c.args.self.now)) (work_of (record c.args.self.now { flight = c.put_back.new.self }))
-    (g.D.Desk.seen c.args.desk.now) (g.D.Desk.seen c.stop.new.desk) (g.D.Desk.told c.args.desk.now) (g.D.Desk.told c.stop.new.desk) ends c.requires.bare
+    (g.D.Desk.seen c.args.desk.now) (g.D.Desk.seen c.stop.new.desk) (g.D.Desk.told c.args.desk.now) (g.D.Desk.told c.stop.new.desk) ends (subst MayWant (sym c.requires.next) tt) c.requires.bare
     c.stop.ensures.marks (λ holds right. c.stop.ensures.counted holds) (put_again c.args.self.now c.put_back.new.self c.args.old c.args.old c.put_back.ensures)

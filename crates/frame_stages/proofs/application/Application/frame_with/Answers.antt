@@ -1,8 +1,9 @@
 -- A frame is begun with a load, or not.
-use Rattle.std.proofs.Common.{subst}
+use Rattle.std.proofs.Common.{sym, subst}
 use Rattle.frame_stages.specs.AppTurns.{Marks}
 use Rattle.frame_stages.specs.AppWorks.{work_of, with_load}
 use Rattle.frame_stages.proofs.AppGoes.{first_kept}
+use Rattle.frame_stages.specs.AppAnswers.{MayWant}
 use Rattle.frame_stages.proofs.AppPolled.{out, marks_later}
 use Rattle.frame_stages.proofs.AppTakes.{frame_begun, frame_waits, frame_barred, put_same, put_again}
 use Rattle.frame_stages.proofs.application.Application.frame_with.Goals as goal
@@ -21,7 +22,7 @@ returns-in-NotNow-clause-polled g c = λ ends.
 pub returns-in-NoMemory-clause-polled : goal.returns-in-NoMemory-clause-polled
 returns-in-NoMemory-clause-polled g c = λ ends.
     let t = c.in-NoMemory.ensures.came in
-    out (g.D.Desk.number c.args.desk.now) (with_load c.args.load (work_of c.args.self.now)) (work_of (record c.args.self.now { flight = c.put_back-in-NoMemory.new.self })) (g.D.Desk.seen c.args.desk.now) (g.D.Desk.seen c.stop.new.desk) (g.D.Desk.told c.args.desk.now) (g.D.Desk.told c.stop.new.desk) ends c.requires.bare
+    out (g.D.Desk.number c.args.desk.now) (with_load c.args.load (work_of c.args.self.now)) (work_of (record c.args.self.now { flight = c.put_back-in-NoMemory.new.self })) (g.D.Desk.seen c.args.desk.now) (g.D.Desk.seen c.stop.new.desk) (g.D.Desk.told c.args.desk.now) (g.D.Desk.told c.stop.new.desk) ends (subst MayWant (sym c.requires.next) tt) c.requires.bare
     (marks_later (g.D.Desk.number c.args.desk.now) (g.D.Desk.seen c.args.desk.now) (g.D.Desk.seen c.make_frame.new.desk) (g.D.Desk.seen c.stop.new.desk) (g.D.Desk.told c.args.desk.now) (g.D.Desk.told c.make_frame.new.desk) (g.D.Desk.told c.stop.new.desk) t.2
     (subst (λ k. Marks k (g.D.Desk.seen c.make_frame.new.desk) (g.D.Desk.told c.make_frame.new.desk) (g.D.Desk.seen c.stop.new.desk) (g.D.Desk.told c.stop.new.desk)) c.make_frame.ensures.number c.stop.ensures.marks))
     (λ holds right. c.stop.ensures.counted (c.make_frame.ensures.counted holds))

@@ -1,5 +1,6 @@
 use Rattle.std.proofs.Common.{◌∙◌, ap}
 use Rattle.frame_stages.proofs.CullKept.{keeps_sent}
+use Rattle.stage_parts.proofs.Full.{no_room}
 use Rattle.frame_stages.proofs.cull_stage.CullStage.send.Goals as goal
 
 pub returns-in-Ok-clause-keeps : goal.returns-in-Ok-clause-keeps
@@ -13,3 +14,7 @@ returns-in-Ok-clause-keeps g c = λ taken keeps.
       ended = c.is_end-ends.ensures i;
       held = (ap (λ w. w.held) is ∙ c.requires.bare) i;
     })
+
+pub returns-in-Err-clause-full : goal.returns-in-Err-clause-full
+returns-in-Err-clause-full g c = λ no.
+    no_room (g.S.SendEnd.room c.args.to.now) (g.S.SendEnd.told_taken c.args.to.now) (g.S.SendEnd.sent c.args.to.now) c.in-Err.ensures.full c.in-Err.ensures.spare

@@ -1,5 +1,5 @@
 -- An edit is made or refused, and its entry added.
-use Rattle.std.proofs.Common.{◌+◌, cond, is_some, ◌∙◌, ◌++◌, [], ◌∷◌, ap, sym, subst, refl, arith}
+use Rattle.std.proofs.Common.{◌≡◌, inr, None, ◌+◌, cond, is_some, ◌∙◌, ◌++◌, [], ◌∷◌, ap, sym, subst, refl, arith}
 use Rattle.pf_history.specs.declared.commands.Command.TheVariants as command
 use Rattle.std.specs.Option.{option_map_or}
 use Rattle.pf_history.specs.declared.commands.Reply.TheVariants as reply
@@ -9,7 +9,7 @@ use Rattle.pf_history.specs.Objects.{FrameState}
 use Rattle.pf_history.specs.Logs.{Log}
 use Rattle.pf_model.specs.Edits.{fault_of}
 use Rattle.pf_scene.specs.Stock.{makes_geode}
-use Rattle.pf_scene.specs.Scenes.{SceneState, KeepsCopies, with_cycle}
+use Rattle.pf_scene.specs.Scenes.{SceneState, KeepsCopies, with_cycle, state_in}
 use Rattle.pf_scene.proofs.Counted.{counted_entered}
 use Rattle.pf_scene.proofs.Kept.{knows, scene_entered, light_enough, entry_is, edit_state, after_grows}
 use Rattle.pf_scene.proofs.Homes.{home_entered}
@@ -69,6 +69,12 @@ returns-in-Err-clause-accounted c = λ k.
 pub returns-in-Err-clause-unchanged : goal.returns-in-Err-clause-unchanged
 returns-in-Err-clause-unchanged c =
     let i = c.self.inside in
-    seen_same i.ahead i.channels i.history.entries c.reserve.new.self.entries i.seat i.stopped i.world.cycles c.edit.new.self.cycles i.copies c.reserve.ensures.entries
-    c.edit.ensures.trimmed.most c.in-Err.ensures.out
+    seen_same i.ahead i.channels i.history.entries c.reserve.new.self.entries i.seat i.stopped i.world c.edit.new.self i.copies c.reserve.ensures.entries
+    c.in-Err.ensures.unchanged c.edit.ensures.trimmed.most c.in-Err.ensures.out
     ∙ c.self.view_is
+
+pub returns-in-Err-clause-memory : goal.returns-in-Err-clause-memory
+returns-in-Err-clause-memory c =
+    let e = c.args.e in
+    inr (subst (λ (v : SceneState). fault_of (state_in v.shared).graph e ≡ None) c.self.view_is
+    (subst (λ (t : FrameState). fault_of t.graph e ≡ None) (sym c.self.invariant.scene.kept.after) c.in-Err.ensures.memory))

@@ -1,5 +1,5 @@
 -- A merge is made or refused, and its entry added.
-use Rattle.std.proofs.Common.{◌+◌, cond, is_some, ◌∙◌, ◌++◌, [], ◌∷◌, ap, sym, subst, refl, arith}
+use Rattle.std.proofs.Common.{◌≡◌, inr, None, ◌+◌, cond, is_some, ◌∙◌, ◌++◌, [], ◌∷◌, ap, sym, subst, refl, arith}
 use Rattle.pf_history.specs.declared.commands.Command.TheVariants as command
 use Rattle.std.specs.Option.{option_map_or}
 use Rattle.pf_history.specs.declared.commands.Reply.TheVariants as reply
@@ -9,8 +9,8 @@ use Rattle.pf_history.specs.Objects.{FrameState}
 use Rattle.pf_history.specs.Logs.{Log}
 use Rattle.std.specs.List.{list_any}
 use Rattle.pf_model.specs.Merges.{merge_fault}
-use Rattle.pf_scene.specs.Stock.{makes_geode}
-use Rattle.pf_scene.specs.Scenes.{SceneState, KeepsCopies, with_cycle}
+use Rattle.pf_scene.specs.Stock.{makes_geode, first_fault}
+use Rattle.pf_scene.specs.Scenes.{SceneState, KeepsCopies, with_cycle, state_in}
 use Rattle.pf_scene.proofs.Counted.{counted_entered}
 use Rattle.pf_scene.proofs.Kept.{knows, scene_entered, light_enough, entry_is, merge_state, after_all_grows}
 use Rattle.pf_scene.proofs.Homes.{home_entered}
@@ -78,6 +78,12 @@ returns-in-Err-clause-accounted c = λ k.
 pub returns-in-Err-clause-unchanged : goal.returns-in-Err-clause-unchanged
 returns-in-Err-clause-unchanged c =
     let i = c.self.inside in
-    seen_same i.ahead i.channels i.history.entries c.reserve.new.self.entries i.seat i.stopped i.world.cycles c.merge.new.self.cycles i.copies c.reserve.ensures.entries
-    c.merge.ensures.trimmed.most c.in-Err.ensures.out
+    seen_same i.ahead i.channels i.history.entries c.reserve.new.self.entries i.seat i.stopped i.world c.merge.new.self i.copies c.reserve.ensures.entries
+    c.in-Err.ensures.unchanged c.merge.ensures.trimmed.most c.in-Err.ensures.out
     ∙ c.self.view_is
+
+pub returns-in-Err-clause-memory : goal.returns-in-Err-clause-memory
+returns-in-Err-clause-memory c =
+    let es = c.args.m.edits in
+    inr (subst (λ (v : SceneState). first_fault (state_in v.shared).graph es ≡ None) c.self.view_is
+    (subst (λ (t : FrameState). first_fault t.graph es ≡ None) (sym c.self.invariant.scene.kept.after) c.in-Err.ensures.memory))

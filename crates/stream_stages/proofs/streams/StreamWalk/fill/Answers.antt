@@ -1,12 +1,16 @@
 use Rattle.pf_model.specs.Graphs.{Look}
 use Rattle.pf_model.specs.Walks.{steps_of_view}
 use Rattle.fx_math.specs.Plain.{Bounds}
-use Rattle.std.proofs.Common.{ℕ, Option}
+use Rattle.std.proofs.Common.{ℕ, Option, subst, arith}
 use Rattle.cull_walk.specs.Working.{Scene}
 use Rattle.stream_stages.specs.declared.routes.Route.{Route}
 use Rattle.stream_stages.specs.declared.routes.Sight.{Sight}
 use Rattle.stream_stages.specs.Underway.{sight_of, walking_of}
-use Rattle.stream_stages.proofs.FillLaws.{IsEmptied, can_fill, numbers_over, seen_numbers, seen_stats}
+use Rattle.stream_stages.specs.Routes.{Walking}
+use Rattle.stream_stages.specs.Cuts.{Cut}
+use Rattle.stream_stages.specs.Filled.{HasSameRoom, CountsTests}
+use Rattle.stream_stages.proofs.PassLaws.{routine_of, room_both, glass_counted}
+use Rattle.stream_stages.proofs.FillLaws.{IsEmptied, emptied_room, can_fill, numbers_over, seen_numbers, seen_stats}
 use Rattle.stream_stages.proofs.streams.StreamWalk.fill.Goals as goal
 
 pub returns-clause-numbers : goal.returns-clause-numbers
@@ -51,3 +55,34 @@ returns-clause-stats g c =
     (c.pass-last.ensures.passes (can_fill s c.out.inside.limit (walking_of a r) c.out.inside.list c.clear.new.self under c.out.invariant emptied)).numbers
     (c.pass-last.ensures.over (can_fill s c.out.inside.limit (walking_of a r) c.out.inside.list c.clear.new.self under c.out.invariant emptied) last).1
     c.numbers-stats.ensures.shown c.numbers-stats.ensures.states c.numbers-stats.ensures.visited)
+
+pub returns-clause-room : goal.returns-clause-room
+returns-clause-room g c =
+    let a : Sight = c.self.inside.sight in
+    let emptied : IsEmptied (steps_of_view a.view) c.out.inside.list c.clear.new.self = record {
+      joints = c.clear.ensures.joints;
+      items = c.clear.ensures.items;
+      spans = c.clear.ensures.spans;
+      places = c.clear.ensures.places;
+      tris = c.clear.ensures.tris;
+      joint_room = c.clear.ensures.joint_room;
+      item_room = c.clear.ensures.item_room;
+      tri_room = c.clear.ensures.tri_room;
+    } in
+    let both : HasSameRoom c.out.inside.list c.pass-last.new.list =
+    room_both c.out.inside.list c.clear.new.self c.pass-last.new.list (emptied_room (steps_of_view a.view) c.out.inside.list c.clear.new.self emptied) c.pass-last.ensures.room in
+    subst (λ (p : Cut). HasSameRoom p.list c.pass-last.new.list) c.out.view_is both
+
+pub returns-clause-visits : goal.returns-clause-visits
+returns-clause-visits g c =
+    subst (λ (w : Walking). CountsTests w (walking_of c.self.inside.sight c.pass-last.new.route) c.args.steps.now c.pass-last.new.steps) c.self.view_is
+    c.pass-last.ensures.visits
+
+pub returns-clause-levels : goal.returns-clause-levels
+returns-clause-levels g c = (routine_of c.self.inside.sight c.pass-last.new.route c.pass-last.ensures.sound).deep
+
+pub returns-clause-glass : goal.returns-clause-glass
+returns-clause-glass g c =
+    let few = c.pass-last.ensures.sound.few in
+    let many = glass_counted c.pass-last.new.route in
+    omega (arith, few, many)

@@ -1,0 +1,75 @@
+//! The history, with room for its entries made in batches.
+ghost use Rattle.std.specs.Prelude.{◌≡◌, ◌∷◌, ◌++◌, [], length, OnOk, OnErr};
+ghost use Rattle.pf_scene.specs.Batches.{IsFull, IsReady};
+
+use pf_history::{Entry, History};
+use pf_io::NoMemory;
+use std::alloc::Global;
+use std::marker::Model;
+
+/// For how many entries room is made at once.
+const BATCH: usize = 64;
+
+/// The history. Room for entries is made a batch at a time, so between the first entry of a batch and its last none is
+/// refused.
+#[derive(Debug, Drop)]
+pub(crate) struct Entries {
+    history: History,
+}
+
+impl Model for Entries {
+    ghost use Rattle.pf_history.specs.Logs.{Recorded};
+    ghost use Rattle.pf_scene.specs.Batches.{IsBatched};
+
+    ghost Value = { Recorded };
+
+    ghost view = { λ e. e.history };
+
+    ghost invariant = { λ e. IsBatched e.history };
+}
+
+impl Entries {
+    /// No entries, and no room.
+    pub(crate) fn new(alloc: Global) -> Entries
+        ensures { result.entries ≡ [] }
+    {
+        Entries {
+            history: History::new(alloc),
+        }
+    }
+
+    /// Makes room for an entry, where it is missing for the batch. It fails at the first entry of a batch alone.
+    pub(crate) fn reserve(&mut self) -> Result<(), NoMemory>
+        ensures room { OnOk result (IsReady self.new) }
+        ensures entries { self.new.entries ≡ self.old.entries }
+        ensures full { OnErr result (IsFull self.old.entries) }
+    {
+        if self.history.len() % BATCH == 0 {
+            self.history.reserve(BATCH)?;
+        }
+        Ok(())
+    }
+
+    /// Appends an entry that a seat made.
+    pub(crate) fn push_reserved(&mut self, seat: u32, entry: Entry)
+        requires { IsReady self.old }
+        ensures entries { self.new.entries ≡ self.old.entries ++ (seat, entry) ∷ [] }
+    {
+        self.history.push_reserved(seat, entry);
+    }
+
+    /// The number of entries.
+    pub(crate) fn len(&self) -> usize
+        ensures { result ≡ length self.now.entries }
+    {
+        self.history.len()
+    }
+
+    /// The history.
+    pub(crate) fn into_history(self) -> History
+        ensures { result.entries ≡ self.entries }
+    {
+        let Self { history } = self;
+        history
+    }
+}
