@@ -1,8 +1,9 @@
 //! How hosts that wait are told that something was done.
 
+use crate::crew::Polled;
+use crate::words::{Noted, Words};
 use frame_stages::Did;
 use std::sync::Wait;
-use std::sync::atomic::{AtomicU64, Ordering};
 use std::thread;
 
 /// So often a host looks at the bell before it sleeps.
@@ -10,63 +11,55 @@ const LOOKS: usize = 64;
 
 /// A bell that all hosts of a play hear. Who polls its stages notes before how often it was rung, and rings after it did
 /// something; who found nothing to do waits until the bell was rung since that note. So whatever lets a host go on was
-/// done before its polls, or is followed by a ring that it hears.
+/// done before its polls, or is followed by a ring that it hears. The types keep this order: polls want the note, and the
+/// bell is told what they came to with the note that they were made with.
 #[derive(Drop)]
 pub(crate) struct Bell {
-    rung: AtomicU64,
-    asleep: AtomicU64,
+    words: Words,
 }
 
 impl Bell {
     pub(crate) fn new() -> Bell {
         Bell {
-            rung: AtomicU64::new(0),
-            asleep: AtomicU64::new(0),
+            words: Words::new(),
         }
     }
 
-    /// How often it was rung, modulo 2^64.
-    pub(crate) fn rung(&self) -> u64 {
-        self.rung.load(Ordering::SeqCst)
+    /// How often it was rung.
+    pub(crate) fn note(&self) -> Noted {
+        self.words.note()
+    }
+
+    /// Whether it was rung since this note.
+    pub(crate) fn has_rung_since(&self, noted: &Noted) -> bool {
+        self.words.have_grown_since(noted)
     }
 
     /// Rings once, and wakes those who sleep.
     pub(crate) fn ring(&self) {
-        self.rung.fetch_add(1, Ordering::SeqCst);
-        if self.asleep.load(Ordering::SeqCst) > 0 {
-            self.rung.wake_all();
-        }
+        let rung = self.words.ring();
+        self.words.wake(rung);
     }
 
-    /// After polls before which this number was noted: rings where they did something or all is over, and else waits.
-    pub(crate) fn tell<R: Wait>(&self, rt: &R, noted: u64, did: Did) {
-        match did {
+    /// After polls: rings where they did something or all is over, and else waits until it was rung since the note that they
+    /// were made with.
+    pub(crate) fn tell<R: Wait>(&self, rt: &R, polled: Polled<'_>) {
+        match polled.did() {
             Did::Did | Did::Over => self.ring(),
-            Did::NotYet => self.wait(rt, noted),
+            Did::NotYet => self.wait(rt, polled.noted()),
         }
     }
 
-    /// Waits until it was rung since this number was noted: some looks, between which it yields, and then asleep.
-    pub(crate) fn wait<R: Wait>(&self, rt: &R, noted: u64) {
+    /// Waits until it was rung since this note: some looks, between which it yields, and then asleep.
+    fn wait<R: Wait>(&self, rt: &R, noted: &Noted) {
         for _look in 0..LOOKS {
-            if self.rung() != noted {
+            if self.has_rung_since(noted) {
                 return;
             }
             thread::yield_now();
         }
-        self.asleep.fetch_add(1, Ordering::SeqCst);
-        self.sleep(rt, noted);
-        self.asleep.fetch_sub(1, Ordering::SeqCst);
-    }
-
-    /// Sleeps until it was rung since this number was noted.
-    fn sleep<R: Wait>(&self, rt: &R, noted: u64) {
-        for _ in rt.forever() {
-            if self.rung() != noted {
-                return;
-            }
-            self.rung.park(rt, (noted & 0xffff_ffff) as u32);
-        }
-        unreachable!()
+        let sleeper = self.words.count_in();
+        self.words.sleep(rt, noted, &sleeper);
+        self.words.count_out(sleeper);
     }
 }

@@ -7,11 +7,12 @@ ghost use Rattle.mode_hosts.specs.Seats.{app_site, cull_site, draw_site, dbase_s
 ghost use Rattle.mode_hosts.specs.Crews.{full_crew, all_of, divided, HasAll, CrewsGo};
 ghost use Rattle.mode_hosts.specs.Posts.{crews_state, ArePosts};
 
-use crate::crew::{Crew, together};
+use crate::crew::{Crew, Polled};
 use crate::hosts::Common;
 use crate::modes::{Crews, Setup, crews_of};
 use crate::posts::{Posts, posts_of};
 use crate::seats::{AllSeats, AppSeat, CullSeat, DbaseSeat, DrawSeat, ProbeSeat};
+use crate::words::Noted;
 use frame_stages::{Did, StageError};
 use pf_io::{Gate, Sink};
 use std::alloc::Global;
@@ -47,14 +48,14 @@ fn go_on<R: Wait, O: Sink, G: Gate>(
     common: &Common<G>,
     app: &mut AppSeat<R>,
     frames: &mut O,
-    noted: u64,
+    noted: &Noted,
 ) -> Result<(), StageError>
     ensures goes { AppGoes (app_site app.old) (app_site app.new) (O.written frames.old) (O.written frames.new) }
     ensures uncut { StaysWhole result (app_site app.old).work.state.fault (app_site app.new).work.state.fault }
     ensures blames { Blames result (O.faults frames.old) (O.faults frames.new) (O.at_fault frames.new) (O.written frames.new) }
 {
     for poll in 0..MORE {
-        if common.bell.rung() != noted {
+        if common.bell.has_rung_since(noted) {
             return Ok(());
         }
         let did = poll_app(common, app, frames)?;
@@ -70,7 +71,7 @@ fn more_where_calm<R: Wait, O: Sink, G: Gate>(
     common: &Common<G>,
     app: &mut AppSeat<R>,
     frames: &mut O,
-    noted: u64,
+    noted: &Noted,
     did: Did,
     others: Did,
 ) -> Result<(), StageError>
@@ -85,25 +86,25 @@ fn more_where_calm<R: Wait, O: Sink, G: Gate>(
     }
 }
 
-/// A poll of the application and of each stage that is with the caller, and what they came to. Where the application did
-/// something and no other did, further polls of the application follow.
-fn round<R: Threads + Wait + Sync + Drop, O: Sink, G: Gate>(
+/// A poll of the application and of each stage that is with the caller, after a note of the bell, and what they came to. Where
+/// the application did something and no other did, further polls of the application follow.
+fn round<'a, R: Threads + Wait + Sync + Drop, O: Sink, G: Gate>(
     rt: &R,
     common: &Common<G>,
     app: &mut AppSeat<R>,
     posts: &mut Posts<R>,
     frames: &mut O,
-) -> Result<Did, StageError>
+    noted: &'a Noted,
+) -> Result<Polled<'a>, StageError>
     ensures goes { AppGoes (app_site app.old) (app_site app.new) (O.written frames.old) (O.written frames.new) }
     ensures uncut { StaysWhole result (app_site app.old).work.state.fault (app_site app.new).work.state.fault }
     ensures posts { (crews : Crews R) → ArePosts crews posts.old → ArePosts crews posts.new }
     ensures blames { Blames result (O.faults frames.old) (O.faults frames.new) (O.at_fault frames.new) (O.written frames.new) }
 {
-    let noted = common.bell.rung();
     let did = poll_app(common, app, frames)?;
-    let others = posts.poll(rt, &common.gate);
-    more_where_calm(common, app, frames, noted, did, others)?;
-    Ok(together(did, others))
+    let others = posts.poll(rt, &common.gate, noted);
+    more_where_calm(common, app, frames, noted, did, others.did())?;
+    Ok(others.and(did))
 }
 
 /// A round after which it rings where something was done or all is over, and else waits. It answers whether all is over.
@@ -119,9 +120,10 @@ fn turn<R: Threads + Wait + Sync + Drop, O: Sink, G: Gate>(
     ensures posts { (crews : Crews R) → ArePosts crews posts.old → ArePosts crews posts.new }
     ensures blames { Blames result (O.faults frames.old) (O.faults frames.new) (O.at_fault frames.new) (O.written frames.new) }
 {
-    let noted = common.bell.rung();
-    let did = round(rt, common, app, posts, frames)?;
-    common.bell.tell(rt, noted, did);
+    let noted = common.bell.note();
+    let polled = round(rt, common, app, posts, frames, &noted)?;
+    let did = polled.did();
+    common.bell.tell(rt, polled);
     Ok(did == Did::Over)
 }
 

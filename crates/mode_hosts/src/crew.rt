@@ -1,11 +1,14 @@
 //! What one host polls.
-ghost use Rattle.std.specs.Prelude.{◌≡◌, ◌&&◌, not, is_some};
+ghost use Rattle.std.specs.Prelude.{◌≡◌, ◌∷◌, ◌++◌, [], ◌&&◌, not, is_some, IfOk, OnErr};
 ghost use Rattle.std.specs.Option.{option_map};
+ghost use Rattle.frame_link.specs.Ends.{ring_taken, ring_take_at};
 ghost use Rattle.mode_hosts.specs.Sites.{AnyCullGoes, AnyDrawGoes, DbaseGoes, ProbeGoes, CrewGoes, IfThere};
 ghost use Rattle.mode_hosts.specs.Seats.{cull_site, draw_site, dbase_site, probe_site, crew_state};
 ghost use Rattle.mode_hosts.specs.Crews.{together, first_of, united, has_way};
 
 use crate::seats::{CullSeat, DbaseSeat, DrawSeat, ProbeSeat};
+use crate::words::Noted;
+use frame_link::{RingTake, TakeEnd};
 use frame_stages::{Did, StageError};
 use pf_io::Gate;
 use std::sync::Wait;
@@ -21,7 +24,7 @@ pub(crate) struct Crew<R> {
 }
 
 /// What the polls of two stages came to: one of them did something, or one has to wait, or both are over.
-pub(crate) fn together(one: Did, other: Did) -> Did
+fn together(one: Did, other: Did) -> Did
     ensures { result ≡ together one other }
 {
     match one {
@@ -31,6 +34,42 @@ pub(crate) fn together(one: Did, other: Did) -> Did
             Did::NotYet | Did::Over => Did::NotYet,
         },
         Did::Over => other,
+    }
+}
+
+/// What polls came to that were made after the bell was noted, with that note. It is made by polls alone, which want the note
+/// before they begin.
+#[derive(Drop)]
+pub(crate) struct Polled<'a> {
+    noted: &'a Noted,
+    did: Did,
+}
+
+impl<'a> Polled<'a> {
+    /// Of no poll: a crew that polls elsewhere is over here.
+    pub(crate) fn nothing(noted: &'a Noted) -> Polled<'a> {
+        Polled {
+            noted,
+            did: Did::Over,
+        }
+    }
+
+    /// The note before the polls.
+    pub(crate) fn noted(&self) -> &'a Noted {
+        self.noted
+    }
+
+    /// What they came to.
+    pub(crate) fn did(&self) -> Did {
+        self.did
+    }
+
+    /// With a further poll, which came to this.
+    pub(crate) fn and(self, did: Did) -> Polled<'a> {
+        Polled {
+            noted: self.noted,
+            did: together(self.did, did),
+        }
     }
 }
 
@@ -87,15 +126,36 @@ fn poll_probe<R: Wait>(probe: &mut Option<ProbeSeat<R>>) -> Did
 }
 
 impl<R: Threads + Wait + Sync> Crew<R> {
-    /// One poll of each stage that is there, and what they came to.
-    pub(crate) fn poll<G: Gate>(&mut self, rt: &R, gate: &G) -> Did
+    /// One poll of each stage that is there, after a note of the bell, and what they came to.
+    pub(crate) fn poll<'a, G: Gate>(&mut self, rt: &R, gate: &G, noted: &'a Noted) -> Polled<'a>
         ensures { CrewGoes (crew_state self.old) (crew_state self.new) }
     {
         let cull = poll_cull(&mut self.cull, gate);
         let draw = poll_draw(rt, &mut self.draw, gate);
         let dbase = poll_dbase(&mut self.dbase, gate);
         let probe = poll_probe(&mut self.probe);
-        together(cull, together(draw, together(dbase, probe)))
+        Polled {
+            noted,
+            did: together(cull, together(draw, together(dbase, probe))),
+        }
+    }
+}
+
+/// Takes the crew that was sent to a host, after a note of the bell. Where none has come, the host has to wait.
+pub(crate) fn sent_crew<'a, R>(
+    take: &mut RingTake<Crew<R>>,
+    noted: &'a Noted,
+) -> Result<Crew<R>, Polled<'a>>
+    ensures crew { IfOk result (λ crew. ring_taken take.new ≡ ring_taken take.old ++ crew ∷ []) }
+    ensures none { OnErr result (ring_taken take.new ≡ ring_taken take.old) }
+    ensures link { ring_take_at take.new ≡ ring_take_at take.old }
+{
+    match take.pop() {
+        Some(crew) => Ok(crew),
+        None => Err(Polled {
+            noted,
+            did: Did::NotYet,
+        }),
     }
 }
 

@@ -6,8 +6,8 @@ ghost use Rattle.mode_hosts.specs.Seats.{crew_state};
 ghost use Rattle.mode_hosts.specs.Hosts.{CameBack, IsFresh, WillCome};
 
 use crate::bell::Bell;
-use crate::crew::Crew;
-use frame_link::{RingSend, RingTake, SendEnd, TakeEnd, home, ring};
+use crate::crew::{Crew, sent_crew};
+use frame_link::{RingSend, RingTake, SendEnd, home, ring};
 use frame_stages::Did;
 use pf_io::{Gate, Stage};
 use std::alloc::Global;
@@ -37,9 +37,10 @@ impl<G: Gate> Gate for Common<G> {
 fn turn<R: Threads + Wait + Sync, G: Gate>(rt: &R, common: &Common<G>, crew: &mut Crew<R>) -> bool
     ensures { CrewGoes (crew_state crew.old) (crew_state crew.new) }
 {
-    let noted = common.bell.rung();
-    let did = crew.poll(rt, &common.gate);
-    common.bell.tell(rt, noted, did);
+    let noted = common.bell.note();
+    let polled = crew.poll(rt, &common.gate, &noted);
+    let did = polled.did();
+    common.bell.tell(rt, polled);
     did == Did::Over
 }
 
@@ -64,10 +65,10 @@ fn run_there<R: Threads + Wait + Sync, G: Gate>(
     ensures { CameBack take result }
 {
     for _ in rt.forever() {
-        let noted = common.bell.rung();
-        match take.pop() {
-            Some(crew) => return (take, run(rt, common, crew)),
-            None => common.bell.wait(rt, noted),
+        let noted = common.bell.note();
+        match sent_crew(&mut take, &noted) {
+            Ok(crew) => return (take, run(rt, common, crew)),
+            Err(polled) => common.bell.tell(rt, polled),
         }
     }
     unreachable!()

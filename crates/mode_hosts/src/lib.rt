@@ -18,6 +18,7 @@ mod playing;
 mod post;
 mod posts;
 mod seats;
+mod words;
 mod works;
 
 pub use modes::{Mode, Setup};

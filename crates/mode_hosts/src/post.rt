@@ -4,9 +4,9 @@ ghost use Rattle.mode_hosts.specs.Sites.{CrewGoes};
 ghost use Rattle.mode_hosts.specs.Seats.{crew_state};
 ghost use Rattle.mode_hosts.specs.Posts.{has_none, IsPost, IsHere};
 
-use crate::crew::Crew;
+use crate::crew::{Crew, Polled};
 use crate::hosts::{Common, Host, back, give, new_host};
-use frame_stages::Did;
+use crate::words::Noted;
 use pf_io::Gate;
 use std::alloc::Global;
 use std::sync::{Arc, Wait};
@@ -54,12 +54,12 @@ pub(crate) fn post_of<
 
 impl<R: Threads + Wait + Sync + Drop> Post<R> {
     /// One poll of each stage of a crew that is with the caller.
-    pub(crate) fn poll<G: Gate>(&mut self, rt: &R, gate: &G) -> Did
+    pub(crate) fn poll<'a, G: Gate>(&mut self, rt: &R, gate: &G, noted: &'a Noted) -> Polled<'a>
         ensures { (crew : Crew R) → IsPost crew self.old → IsPost crew self.new }
     {
         match self {
-            Post::There(_) => Did::Over,
-            Post::Here(stay) => stay.crew.poll(rt, gate),
+            Post::There(_) => Polled::nothing(noted),
+            Post::Here(stay) => stay.crew.poll(rt, gate, noted),
         }
     }
 

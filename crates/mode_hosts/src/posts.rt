@@ -2,11 +2,11 @@
 ghost use Rattle.mode_hosts.specs.Crews.{CrewsGo};
 ghost use Rattle.mode_hosts.specs.Posts.{crews_state, ArePosts};
 
-use crate::crew::{Crew, together};
+use crate::crew::{Crew, Polled};
 use crate::hosts::Common;
 use crate::modes::Crews;
 use crate::post::{Post, post_of};
-use frame_stages::Did;
+use crate::words::Noted;
 use pf_io::Gate;
 use std::alloc::Global;
 use std::sync::{Arc, Wait};
@@ -46,19 +46,16 @@ pub(crate) fn posts_of<
 }
 
 impl<R: Threads + Wait + Sync + Drop> Posts<R> {
-    /// One poll of each stage that is with the caller, and what they came to.
-    pub(crate) fn poll<G: Gate>(&mut self, rt: &R, gate: &G) -> Did
+    /// One poll of each stage that is with the caller, after a note of the bell, and what they came to.
+    pub(crate) fn poll<'a, G: Gate>(&mut self, rt: &R, gate: &G, noted: &'a Noted) -> Polled<'a>
         ensures { (crews : Crews R) → ArePosts crews self.old → ArePosts crews self.new }
     {
-        let caller = self.caller.poll(rt, gate);
-        let cull = self.cull.poll(rt, gate);
-        let draw = self.draw.poll(rt, gate);
-        let dbase = self.dbase.poll(rt, gate);
-        let probe = self.probe.poll(rt, gate);
-        together(
-            together(caller, cull),
-            together(draw, together(dbase, probe)),
-        )
+        let caller = self.caller.poll(rt, gate, noted);
+        let cull = self.cull.poll(rt, gate, noted).did();
+        let draw = self.draw.poll(rt, gate, noted).did();
+        let dbase = self.dbase.poll(rt, gate, noted).did();
+        let probe = self.probe.poll(rt, gate, noted).did();
+        caller.and(cull).and(draw).and(dbase).and(probe)
     }
 
     /// The crews, as their hosts hand them back.
