@@ -12,7 +12,8 @@ use std::process::ExitCode;
 
 fn main(rt: HostRuntime) -> ExitCode {
     let arguments = env::args(&rt);
-    if !take_stack(u8::from(arguments.is_ok())) {
+    // The two places differ, so the byte is 0; it is looked at so that the local stays.
+    if take_stack(u8::from(arguments.is_ok()), u8::from(arguments.is_err())) != 0 {
         return ExitCode::from(NO_MEMORY);
     }
     run(
