@@ -300,12 +300,12 @@ next_is [] (suc n) = refl
 next_is (l ∷ lines) zero = refl
 next_is (l ∷ lines) (suc n) = next_is lines n
 
-sync_waits : (play : Script) (ahead : ℕ) (p : PipeWork) (sink : SinkSide) → 1 ≤ ahead → PipeKeeps play ahead p →
-    stage.SyncWaits p.app (Some p.scene) (before_poll p sink).ends p.scene.shared.log → SyncMustWait (shared_of play ahead (core_of play p)) (core_of play p).pipe
-sync_waits play ahead p sink some keeps (inl (dry, behind)) =
+sync_waits : (play : Script) (ahead : ℕ) (p : PipeWork) (sink : SinkSide) (seen' : Log) → 1 ≤ ahead → PipeKeeps play ahead p →
+    stage.SyncWaits p.app (Some p.scene) (before_poll p sink).ends seen' → SyncMustWait (shared_of play ahead (core_of play p)) (core_of play p).pipe
+sync_waits play ahead p sink seen' some keeps (inl (dry, behind)) =
     let same = keeps.stages.app.ahead in
     inl (dry (omega (arith, behind, same, some)), omega (arith, behind, same))
-sync_waits play ahead p sink some keeps (inr bars) =
+sync_waits play ahead p sink seen' some keeps (inr bars) =
     inr
     (λ may.
     bars
@@ -315,11 +315,11 @@ sync_waits play ahead p sink some keeps (inr bars) =
       light = may.light;
     }))
 
-frame_waits : (play : Script) (ahead : ℕ) (p : PipeWork) (sink : SinkSide) → 1 ≤ ahead → PipeKeeps play ahead p → (synced : Bool) →
-    stage.FrameWaits synced p.app (Some p.scene) (before_poll p sink).ends p.scene.shared.log →
+frame_waits : (play : Script) (ahead : ℕ) (p : PipeWork) (sink : SinkSide) (seen' : Log) → 1 ≤ ahead → PipeKeeps play ahead p → (synced : Bool) →
+    stage.FrameWaits synced p.app (Some p.scene) (before_poll p sink).ends seen' →
     FrameMustWait synced (shared_of play ahead (core_of play p)) (core_of play p).pipe
-frame_waits play ahead p sink some keeps false waits = sync_waits play ahead p sink some keeps waits
-frame_waits play ahead p sink some keeps true waits =
+frame_waits play ahead p sink seen' some keeps false waits = sync_waits play ahead p sink seen' some keeps waits
+frame_waits play ahead p sink seen' some keeps true waits =
     λ may.
     let stages = keeps.stages in
     let same = stages.app.ahead in
@@ -340,14 +340,14 @@ step_waits : (play : Script) (ahead : ℕ) (p : PipeWork) (sink : SinkSide) (see
 step_waits play ahead p sink seen' some keeps counts (Some (app.Edit e)) waits = λ may. waits (record { fit = may.fit; light = may.light })
 step_waits play ahead p sink seen' some keeps counts (Some (app.View channel v)) waits =
     λ may. waits (record { there = subst (λ (n : ℕ). channel < n) (sym keeps.stages.channels) may.there; light = may.light })
-step_waits play ahead p sink seen' some keeps counts (Some app.Sync) waits = sync_waits play ahead p sink some keeps waits
-step_waits play ahead p sink seen' some keeps counts (Some app.Frame) waits = frame_waits play ahead p sink some keeps p.app.state.synced waits
+step_waits play ahead p sink seen' some keeps counts (Some app.Sync) waits = sync_waits play ahead p sink seen' some keeps waits
+step_waits play ahead p sink seen' some keeps counts (Some app.Frame) waits = frame_waits play ahead p sink seen' some keeps p.app.state.synced waits
 step_waits play ahead p sink seen' some keeps counts (Some (app.Wait n)) waits = omega (arith, waits, counts)
 step_waits play ahead p sink seen' some keeps counts None (inl (dry, behind)) = inr (inl (dry, behind))
 step_waits play ahead p sink seen' some keeps counts None (inr (inl few)) =
     let merges = keeps.stages.app.merges in
     inl (omega (arith, few, counts, merges))
-step_waits play ahead p sink seen' some keeps counts None (inr (inr waits)) = by (sync_waits play ahead p sink some keeps waits)
+step_waits play ahead p sink seen' some keeps counts None (inr (inr waits)) = by (sync_waits play ahead p sink seen' some keeps waits)
   where
     by : SyncMustWait (shared_of play ahead (core_of play p)) (core_of play p).pipe →
         CloseMustWait (length (asked_dbase play.dbase)) (shared_of play ahead (core_of play p)) (core_of play p).pipe
