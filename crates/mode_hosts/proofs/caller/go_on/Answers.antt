@@ -28,6 +28,9 @@ returns-in_err-did-clause-goes g c =
     (g.O.Sink.written c.loop-poll.frames) (g.O.Sink.written c.poll_app.new.frames) c.loop-poll.invariant.goes c.poll_app.ensures.goes
 
 pub returns-then-has_rung_since-clause-goes : goal.returns-then-has_rung_since-clause-goes
-returns-then-has_rung_since-clause-goes g c =
+returns-then-has_rung_since-clause-goes g c = c.loop-poll.invariant.goes
+
+pub returns-then-ne-clause-goes : goal.returns-then-ne-clause-goes
+returns-then-ne-clause-goes g c =
     app_on (app_site c.args.app.now) (app_site c.loop-poll.app) (app_site c.poll_app.new.app) (g.O.Sink.written c.args.frames.now)
     (g.O.Sink.written c.loop-poll.frames) (g.O.Sink.written c.poll_app.new.frames) c.loop-poll.invariant.goes c.poll_app.ensures.goes

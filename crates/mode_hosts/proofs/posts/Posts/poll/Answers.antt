@@ -7,8 +7,8 @@ returns g c = λ crews are.
     record {
       caller = crew_on (crew_state crews.caller) (crew_state c.args.self.now.caller) (crew_state c.poll-caller.new.self) are.caller
           c.poll-caller.ensures;
-      cull = c.poll-cull.ensures crews.cull are.cull;
-      draw = c.poll-draw.ensures crews.draw are.draw;
-      dbase = c.poll-dbase.ensures crews.dbase are.dbase;
-      probe = c.poll-probe.ensures crews.probe are.probe;
+      cull = c.poll.ensures crews.cull are.cull;
+      draw = c.poll-2.ensures crews.draw are.draw;
+      dbase = c.poll-3.ensures crews.dbase are.dbase;
+      probe = c.poll-4.ensures crews.probe are.probe;
     }
