@@ -47,7 +47,7 @@ fn pairs() -> [Pair; 6] {
         pair_of(pass_of(Stage::Cull, 2), pass_of(Stage::Draw, 1)),
         pair_of(pass_of(Stage::App, 1), pass_of(Stage::Dbase, 1)),
         pair_of(pass_of(Stage::Cull, 1), pass_of(Stage::Dbase, 3)),
-        pair_of(pass_of(Stage::Dbase, 3), pass_of(Stage::Draw, 1)),
+        pair_of(pass_of(Stage::Draw, 1), pass_of(Stage::Dbase, 3)),
     ]
 }
 
@@ -121,14 +121,6 @@ fn are_apart(pair: Pair, asked: Asked) -> bool {
     host_of(pair.one.stage, asked) != host_of(pair.other.stage, asked)
 }
 
-/// Whether the first of a pair may hold the cull back on its thread before that has sent the draw what the second waits for:
-/// behind a probe the cull has it later than the application goes on.
-fn may_miss(pair: Pair, asked: Asked) -> bool {
-    let is_behind = pair.other.stage == Stage::Draw && pair.one.stage != Stage::Cull;
-    let is_held = host_of(pair.one.stage, asked) == host_of(Stage::Cull, asked);
-    asked.probe && is_behind && is_held && are_apart(pair, asked)
-}
-
 /// Plays with a gate where a pair may meet: whether it met.
 fn meets<R: Threads + Wait + Copy + Drop + Send + Sync + 'static>(
     rt: &R,
@@ -150,16 +142,13 @@ fn meets<R: Threads + Wait + Copy + Drop + Send + Sync + 'static>(
     Ok(meeting.met.load(Ordering::SeqCst) == 1)
 }
 
-/// Whether each pair, but those that may miss each other, meets exactly where its stages are on different hosts.
+/// Whether each pair meets exactly where its stages are on different hosts.
 fn all_meet<R: Threads + Wait + Copy + Drop + Send + Sync + 'static>(
     rt: &R,
     alloc: Global,
     asked: Asked,
 ) -> Result<bool, Fail> {
     for pair in pairs() {
-        if may_miss(pair, asked) {
-            continue;
-        }
         if meets(rt, alloc, pair, asked)? != are_apart(pair, asked) {
             return Ok(false);
         }
@@ -171,19 +160,15 @@ fn all_meet<R: Threads + Wait + Copy + Drop + Send + Sync + 'static>(
 fn stages_of_different_hosts_meet(rt: HostRuntime) -> Result<(), Fail> {
     for mode in MODES {
         for dbase in [false, true] {
-            for probe in [false, true] {
-                for stream in [None, Some("1")] {
-                    let asked = Asked {
-                        mode,
-                        dbase,
-                        ahead: "3",
-                        probe,
-                        stream,
-                    };
-                    let all = all_meet(&rt, rt.alloc(), asked)?;
-                    assert!(rt; all, "{asked:?}");
-                }
-            }
+            let asked = Asked {
+                mode,
+                dbase,
+                ahead: "3",
+                probe: false,
+                stream: None,
+            };
+            let all = all_meet(&rt, rt.alloc(), asked)?;
+            assert!(rt; all, "{asked:?}");
         }
     }
     Ok(())
