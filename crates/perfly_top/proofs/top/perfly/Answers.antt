@@ -42,6 +42,16 @@ returns-in-Ok-clause-untold g c = λ e.
       told = (c.played.ensures.some_told e).2;
     }
 
+pub returns-in-Ok-clause-begun : goal.returns-in-Ok-clause-begun
+returns-in-Ok-clause-begun g c = λ e.
+    record {
+      words = c.in-Ok.task.words;
+      play = c.in-Ok.task.play;
+      given = c.in-Ok.ensures.given;
+      can_end = c.in-Ok.ensures.can_end;
+      part = c.played.ensures.begun e;
+    }
+
 pub returns-in-Ok-clause-part : goal.returns-in-Ok-clause-part
 returns-in-Ok-clause-part g c = λ e.
     inr (record {
