@@ -239,7 +239,7 @@ impl Model for EditListBuilder {
 }
 
 impl EditListBuilder {
-    ghost use Rattle.std.specs.Prelude.{◌≡◌, ◌+◌, ◌<◌, ◌≤◌, [], ◌∷◌, ◌++◌, length, OnOk, OnErr};
+    ghost use Rattle.std.specs.Prelude.{◌≡◌, ◌+◌, ◌<◌, ◌≤◌, max, [], ◌∷◌, ◌++◌, length, OnOk, OnErr};
 
     /// No edits yet.
     pub fn new(alloc: Global) -> EditListBuilder
@@ -250,14 +250,20 @@ impl EditListBuilder {
         }
     }
 
-    /// Makes room for `n` more edits; the edits stay, and no room is lost. It fails only where that room was missing.
+    /// Makes room for `n` more edits; the edits stay, and no room is lost. Where that room is missing, it makes room for
+    /// as many as there are if these are more, so that room is made seldom. It fails only where that room was missing.
     pub fn reserve(&mut self, n: usize) -> Result<(), NoMemory>
         ensures room { OnOk result (n ≤ self.new.spare) }
+        ensures few { self.new.spare ≤ max self.old.spare (max n (length self.old.items)) }
         ensures items { self.new.items ≡ self.old.items }
         ensures spare { self.old.spare ≤ self.new.spare }
         ensures full { OnErr result (self.old.spare < n) }
     {
-        self.edits.reserve(n)?;
+        let len = self.edits.len();
+        if n <= self.edits.capacity() - len {
+            return Ok(());
+        }
+        self.edits.reserve_exact(n.max(len))?;
         Ok(())
     }
 
@@ -265,12 +271,9 @@ impl EditListBuilder {
     pub fn push_reserved(&mut self, e: Edit)
         requires { 0 < self.old.spare }
         ensures items { self.new.items ≡ self.old.items ++ e ∷ [] }
-        ensures spare { self.old.spare ≤ self.new.spare + 1 }
+        ensures spare { self.old.spare ≡ self.new.spare + 1 }
     {
-        match self.edits.push(e) {
-            Ok(()) => {}
-            Err(_) => unreachable!(),
-        }
+        self.edits.push_reserved(e);
     }
 
     /// The number of edits so far.
