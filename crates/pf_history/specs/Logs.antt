@@ -1,5 +1,5 @@
 -- Histories: what a list of entries leaves of the one-thread object, and whether its replies are the object's.
-use Rattle.std.specs.Prelude.{◌≡◌, ⊤, ℕ, ◌≤◌, Bool, true, false, List, [], ◌∷◌, map, take, length}
+use Rattle.std.specs.Prelude.{◌≡◌, ⊤, ℕ, ◌+◌, ◌≤◌, Bool, true, false, Option, Some, None, List, [], ◌∷◌, map, take, drop, length}
 use Rattle.std.specs.List.{fold, filter}
 use Rattle.pf_history.specs.declared.commands.Caller.{Caller}
 use Rattle.pf_history.specs.declared.commands.Caller.TheVariants.{App, Dbase}
@@ -13,10 +13,17 @@ use Rattle.pf_history.specs.Objects.{FrameState, opening_state, reply_of, next_s
 abbrev pub Log : Type 0
 Log = List (ℕ × Entry)
 
--- A history that is being made: its entries, and how many more have room.
+-- A history that is being made: its entries, how many of them were told (the oldest ones), and how many more have room.
 pub record Recorded : Type 0 where
   pub entries : Log
+  pub told : ℕ
   pub spare : ℕ
+
+-- the oldest entry that was not told is told now; or all were told before, and nothing changed
+abbrev pub HasTold : Recorded → Recorded → Option (ℕ × Entry) → Type 0
+HasTold old new (Some e) =
+    (new.entries ≡ old.entries) × (new.told ≡ old.told + 1) × (drop old.told old.entries ≡ e ∷ drop new.told old.entries)
+HasTold old new None = (new.entries ≡ old.entries) × (new.told ≡ old.told) × (old.told ≡ length old.entries)
 
 -- the state after a log, from a state on
 abbrev pub state_after : FrameState → Log → FrameState

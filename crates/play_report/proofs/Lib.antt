@@ -1,3 +1,4 @@
 pub mod Counts
+pub mod Halves
 pub mod Views
 mod Rows

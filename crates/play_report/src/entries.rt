@@ -148,7 +148,7 @@ fn append_entry(alloc: Global, out: &mut Vec<u8>, entry: &Entry) -> Result<(), N
 }
 
 /// Appends the lines of entries, each of which stands beside the number of its seat.
-pub(crate) fn append_entries(
+fn append_entries(
     alloc: Global,
     out: &mut Vec<u8>,
     entries: &[(u32, Entry)],
@@ -159,4 +159,18 @@ pub(crate) fn append_entries(
         append_entry(alloc, out, &numbered.1)?;
     }
     Ok(())
+}
+
+/// Appends the lines of entries that stand in two slices.
+#[tactic(auto, using(crate::proofs::Halves::texts_of_both))]
+pub(crate) fn append_both(
+    alloc: Global,
+    out: &mut Vec<u8>,
+    first: &[(u32, Entry)],
+    rest: &[(u32, Entry)],
+) -> Result<(), NoMemory>
+    ensures { OnOk result (out.new.items ≡ out.old.items ++ entry_texts (first.now ++ rest.now)) }
+{
+    append_entries(alloc, out, first)?;
+    append_entries(alloc, out, rest)
 }

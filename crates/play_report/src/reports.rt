@@ -1,12 +1,12 @@
 //! Reports and summaries.
-ghost use Rattle.std.specs.Prelude.{◌≡◌, ℕ, ◌++◌, OnOk, OnErr};
+ghost use Rattle.std.specs.Prelude.{◌≡◌, ℕ, ◌≤◌, ◌++◌, length, OnOk, OnErr};
 ghost use Rattle.fx_math.specs.declared.lenses.Lens.{Lens};
 ghost use Rattle.pf_history.specs.Commands.{is_frame, is_merge};
 ghost use Rattle.pf_history.specs.Logs.{how_many};
 ghost use Rattle.play_report.specs.Frames.{frame_texts, stats_of_frames};
 ghost use Rattle.play_report.specs.Reports.{report_text, report, summary_text, summary};
 
-use crate::entries::append_entries;
+use crate::entries::append_both;
 use crate::frames::{append_frames, sum_of};
 use crate::numbers::append_labelled;
 use draw_list::Stats;
@@ -15,8 +15,8 @@ use pf_io::NoMemory;
 use std::alloc::Global;
 
 /// Appends the report of a history: a line for each entry, and then a line for each frame, whose
-/// numbers are handed in in turn, summed over the channels. Where memory runs out, `out` is as
-/// before.
+/// numbers are handed in in turn, summed over the channels. Where memory runs out, or an entry was
+/// told and left it, `out` is as before.
 pub fn append_report(
     alloc: Global,
     out: &mut Vec<u8>,
@@ -30,8 +30,9 @@ pub fn append_report(
         → OnOk result (out.new.items ≡ out.old.items ++ report lens channels history.now.entries) }
     ensures kept { OnErr result (out.new.items ≡ out.old.items) }
 {
+    let (first, rest) = history.whole()?;
     let mut text = Vec::new(alloc);
-    append_entries(alloc, &mut text, history.as_slice())?;
+    append_both(alloc, &mut text, first, rest)?;
     append_frames(&mut text, stats)?;
     out.extend_from_slice(text.as_slice())?;
     Ok(())
@@ -65,7 +66,8 @@ fn is_merge(numbered: &(u32, Entry)) -> bool
 /// How many Frames are among entries.
 #[tactic(auto, using(crate::proofs::Counts::one_more))]
 fn frames_in(entries: &[(u32, Entry)]) -> usize
-    ensures { result ≡ how_many is_frame entries.now }
+    ensures value { result ≡ how_many is_frame entries.now }
+    ensures few { result ≤ length entries.now }
 {
     let mut frames = 0;
     for numbered in entries {
@@ -79,7 +81,8 @@ fn frames_in(entries: &[(u32, Entry)]) -> usize
 /// How many merges are among entries.
 #[tactic(auto, using(crate::proofs::Counts::one_more))]
 fn merges_in(entries: &[(u32, Entry)]) -> usize
-    ensures { result ≡ how_many is_merge entries.now }
+    ensures value { result ≡ how_many is_merge entries.now }
+    ensures few { result ≤ length entries.now }
 {
     let mut merges = 0;
     for numbered in entries {
@@ -90,9 +93,25 @@ fn merges_in(entries: &[(u32, Entry)]) -> usize
     merges
 }
 
+/// How many Frames are among entries that stand in two slices.
+#[tactic(auto, using(crate::proofs::Halves::many_of_both))]
+fn frames_of(first: &[(u32, Entry)], rest: &[(u32, Entry)]) -> usize
+    ensures { result ≡ how_many is_frame (first.now ++ rest.now) }
+{
+    frames_in(first) + frames_in(rest)
+}
+
+/// How many merges are among them.
+#[tactic(auto, using(crate::proofs::Halves::many_of_both))]
+fn merges_of(first: &[(u32, Entry)], rest: &[(u32, Entry)]) -> usize
+    ensures { result ≡ how_many is_merge (first.now ++ rest.now) }
+{
+    merges_in(first) + merges_in(rest)
+}
+
 /// Appends the summary of the history of a play that was made from the number `n`, in one line:
 /// how many Frames and merges it has, the numbers of all frames summed, and `sum`. Where memory
-/// runs out, `out` is as before.
+/// runs out, or an entry was told and left it, `out` is as before.
 pub fn append_summary(
     alloc: Global,
     out: &mut Vec<u8>,
@@ -109,12 +128,12 @@ pub fn append_summary(
         ≡ out.old.items ++ summary lens channels n history.now.entries sum) }
     ensures kept { OnErr result (out.new.items ≡ out.old.items) }
 {
-    let entries = history.as_slice();
+    let (first, rest) = history.whole()?;
     let totals = sum_of(stats);
     let mut text = Vec::new(alloc);
     append_labelled(&mut text, b"made ", n)?;
-    append_labelled(&mut text, b" frames ", frames_in(entries))?;
-    append_labelled(&mut text, b" merges ", merges_in(entries))?;
+    append_labelled(&mut text, b" frames ", frames_of(first, rest))?;
+    append_labelled(&mut text, b" merges ", merges_of(first, rest))?;
     append_labelled(&mut text, b" shown ", totals.shown)?;
     append_labelled(&mut text, b" states ", totals.states)?;
     append_labelled(&mut text, b" visited ", totals.visited)?;
