@@ -59,22 +59,24 @@ scene_uncut ahead channels log log' w x views frames retired merges weight copie
 }
 
 -- what clauses see of a scene
-abbrev pub seen : (ahead channels : ℕ) → Log → (seat : ℕ) → Bool → (next : ℕ) → CyclesState → ℕ → SceneState
-seen ahead channels log seat stopped next c copies = record {
+abbrev pub seen : (ahead channels : ℕ) → Log → (told seat : ℕ) → Bool → (next : ℕ) → CyclesState → ℕ → SceneState
+seen ahead channels log told seat stopped next c copies = record {
   shared = record { log = log; seat = seat; stopped = stopped; ahead = ahead; channels = channels };
   copies = copies;
   out = outs next c;
   accounted = are_accounted ahead channels log c;
+  told = told;
 }
 
-pub seen_same : (ahead channels : ℕ) (log log' : Log) (seat : ℕ) (stopped : Bool) (w x : WorldState) (copies : ℕ) → log' ≡ log → x ≡ record w { cycles = x.cycles }
+pub seen_same : (ahead channels : ℕ) (log log' : Log) (told told' seat : ℕ) (stopped : Bool) (w x : WorldState) (copies : ℕ) → log' ≡ log → told' ≡ told → x ≡ record w { cycles = x.cycles }
     → most_of x.cycles ≡ most_of w.cycles → ((s : ℕ) → out_at x.cycles s ≡ out_at w.cycles s)
-    → seen ahead channels log' seat stopped x.graph.next_serial x.cycles copies ≡ seen ahead channels log seat stopped w.graph.next_serial w.cycles copies
-seen_same ahead channels log log' seat stopped w x copies logs is most out = λ i. record {
+    → seen ahead channels log' told' seat stopped x.graph.next_serial x.cycles copies ≡ seen ahead channels log told seat stopped w.graph.next_serial w.cycles copies
+seen_same ahead channels log log' told told' seat stopped w x copies logs tells is most out = λ i. record {
   shared = record { log = logs i; seat = seat; stopped = stopped; ahead = ahead; channels = channels };
   copies = copies;
   out = map (λ s. out s i) (range_with_len 0 (next i));
   accounted = same i;
+  told = tells i;
 }
   where
     next : x.graph.next_serial ≡ w.graph.next_serial

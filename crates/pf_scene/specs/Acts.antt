@@ -1,5 +1,5 @@
 -- What an act does to the scene that it finds, and what a glance shows of it.
-use Rattle.std.specs.Prelude.{◌≡◌, ℕ, ◌+◌, ◌<◌, ◌≤◌, true, List, [], length, map}
+use Rattle.std.specs.Prelude.{◌≡◌, ℕ, ◌+◌, ◌<◌, ◌≤◌, true, Option, Some, None, List, [], ◌∷◌, length, map, drop}
 use Rattle.std.specs.Vec.{vec_capacity}
 use Rattle.std.specs.List.{list_all}
 use Rattle.pf_model.specs.declared.edits.Edit.{Edit}
@@ -8,6 +8,7 @@ use Rattle.pf_model.specs.Fits.{fits}
 use Rattle.pf_model.specs.Copies.{UpdateList}
 use Rattle.pf_history.specs.declared.commands.Command.{Command}
 use Rattle.pf_history.specs.declared.commands.Command.TheVariants as command
+use Rattle.pf_history.specs.declared.commands.Entry.{Entry}
 use Rattle.pf_history.specs.declared.commands.Merge.{Merge}
 use Rattle.pf_history.specs.declared.commands.Reply.{Reply}
 use Rattle.pf_history.specs.Objects.{reply_of}
@@ -67,6 +68,7 @@ pub record Enters (c : Command) (seat : ℕ) (found left : SceneState) : Type 0 
   pub shared : left.shared ≡ entered c (seated seat found.shared)
   pub copies : left.copies ≡ copies_after found.shared.ahead (state_in found.shared) c found.copies
   pub accounted : KeepsCopies found → KeepsCopies left
+  pub told : left.told ≡ found.told
 
 -- A Sync was entered under the seat, and the geodes took back their arrays among these lists. Where the lists are what
 -- came back of the frames that it retires, the copies that are out stay accounted for.
@@ -75,6 +77,7 @@ pub record Syncs (retired : ℕ) (lists : List UpdateList) (seat : ℕ) (found l
   pub copies : left.copies ≡ found.copies
   pub taken : TakesHome lists found left
   pub accounted : AreOfRetired retired found.shared lists → KeepsCopies found → KeepsCopies left
+  pub told : left.told ≡ found.told
 
 -- an edit was entered where it may be made; it may not be made; or there was no memory
 abbrev pub DoesEdit : Edit → ℕ → SceneState → SceneState → Outcome Reply Edit → Type 0
@@ -123,6 +126,7 @@ pub record Begins (ahead : ℕ) (channels : Channels) (seat : ℕ) (found left :
   pub updates : r.cut.updates ≡ cut_of left.shared.channels left.shared.log r.cut.frame
   pub room : AllHaveRoom (state_in found.shared).graph r.channels.lists.items
   pub lists : map drawn r.channels.lists.items ≡ map drawn channels.lists.items
+  pub told : left.told ≡ found.told
 
 abbrev pub DoesFrame : ℕ → Channels → ℕ → SceneState → SceneState → Outcome Framed Channels → Type 0
 DoesFrame ahead channels seat found left (outcome.Entered r) = Begins ahead channels seat found left r
@@ -131,10 +135,19 @@ DoesFrame ahead channels seat found left (outcome.NotNow back) =
 DoesFrame ahead channels seat found left (outcome.NoMemory back) =
     (left.shared ≡ seated seat found.shared) × (found.copies ≤ left.copies)
     × (map drawn back.lists.items ≡ map drawn channels.lists.items) × (KeepsCopies found → KeepsCopies left)
+    × (left.told ≡ found.told)
 
 -- the stop mark is set, and nothing else changed
 abbrev pub DoesStop : SceneState → SceneState → Type 0
 DoesStop found left = left ≡ record found { shared = record found.shared { stopped = true } }
+
+-- where so many entries were told, the next one is told now, and nothing else changes; none is told where another number was
+-- told, or where there is no next one
+abbrev pub DoesTell : ℕ → SceneState → SceneState → Option (ℕ × Entry) → Type 0
+DoesTell told found left (Some e) =
+    (found.told ≡ told) × (left ≡ record found { told = told + 1 })
+    × (drop told found.shared.log ≡ e ∷ drop (told + 1) found.shared.log)
+DoesTell told found left None = (left ≡ found) × (found.told ≡ told → told ≡ length found.shared.log)
 
 -- What a glance shows: the stop mark, the counts of the state after the log, the weight and the copies.
 pub record Shows (found : SceneState) (sight : Sight) : Type 0 where

@@ -1,5 +1,5 @@
 -- What clauses see of the scene, and what its type keeps.
-use Rattle.std.specs.Prelude.{◌≡◌, ℕ, ◌+◌, ◌-◌, ◌^◌, ◌<◌, ◌≤◌, max, ◌==◌, Bool, true, if◌then◌else◌, is_some, List, [], ◌∷◌, ◌++◌, length, get_or, Some}
+use Rattle.std.specs.Prelude.{◌≡◌, ℕ, ◌+◌, ◌-◌, ◌^◌, ◌<◌, ◌≤◌, max, ◌==◌, Bool, true, if◌then◌else◌, is_some, Option, List, [], ◌∷◌, ◌++◌, length, drop, get_or, Some, None}
 use Rattle.std.specs.List.{sum_by, list_any}
 use Rattle.pf_model.specs.declared.nodes.Node.{Node}
 use Rattle.pf_model.specs.Kinds.{geom_of, is_geode}
@@ -8,6 +8,7 @@ use Rattle.pf_model.specs.Edits.{fault_of}
 use Rattle.pf_model.specs.Merges.{merge_fault}
 use Rattle.pf_model.specs.Copies.{UpdateList}
 use Rattle.pf_history.specs.declared.commands.Command.{Command}
+use Rattle.pf_history.specs.declared.commands.Entry.{Entry}
 use Rattle.pf_history.specs.declared.commands.Command.TheVariants as command
 use Rattle.pf_history.specs.Objects.{FrameState}
 use Rattle.pf_history.specs.Logs.{Log, state_of, IsLegal}
@@ -28,13 +29,15 @@ pub record Shared : Type 0 where
   pub channels : ℕ
 
 -- What clauses see of the scene: what is shared, the greatest number of copies that a geode's cycle has had, how many
--- copies of a geode's triangles are out, by serials from 0 on, and whether they are accounted for (`are_accounted`): no
--- cycle has had more than frames may be ahead and one more, and of no geode's triangles more are out than are away.
+-- copies of a geode's triangles are out, by serials from 0 on, whether they are accounted for (`are_accounted`: no cycle
+-- has had more than frames may be ahead and one more, and of no geode's triangles more are out than are away), and how many
+-- entries of the log were told, the oldest ones.
 pub record SceneState : Type 0 where
   pub shared : Shared
   pub copies : ℕ
   pub out : List ℕ
   pub accounted : Bool
+  pub told : ℕ
 
 -- how many copies are out under a serial
 abbrev pub out_in : SceneState → ℕ → ℕ
@@ -61,6 +64,12 @@ TakesHome lists old new =
 -- the one-thread object's own entry for a command stands at the end of the log
 abbrev pub entered : Command → Shared → Shared
 entered c s = record s { log = s.log ++ own_entry s.channels s.log s.seat c ∷ [] }
+
+-- the oldest entry that was not told is told now, and nothing else changes; or all were told before
+abbrev pub TellsOne : SceneState → SceneState → Option (ℕ × Entry) → Type 0
+TellsOne old new (Some e) =
+    (new ≡ record old { told = old.told + 1 }) × (drop old.told old.shared.log ≡ e ∷ drop (old.told + 1) old.shared.log)
+TellsOne old new None = (new ≡ old) × (old.told ≡ length old.shared.log)
 
 -- what a command adds to the weight of a log: its entry, and the edits of a merge
 abbrev pub weight_of : Command → ℕ

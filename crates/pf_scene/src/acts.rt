@@ -251,6 +251,28 @@ impl Act<Scene> for StopAct {
     }
 }
 
+/// Tells the next entry behind so many, and hands it out beside the number of its seat. It adds no entry.
+#[derive(Clone, Copy, Debug, PartialEq, Eq)]
+pub struct TellAct {
+    pub told: u64,
+}
+
+impl Act<Scene> for TellAct {
+    ghost use Rattle.pf_scene.specs.Acts.{DoesTell};
+
+    type Reply = Option<(u32, Entry)>;
+
+    ghost does = { λ act seat found left reply. DoesTell act.told found left reply };
+
+    fn act(self, value: &mut Scene, seat: u32) -> Option<(u32, Entry)> {
+        let _ = seat;
+        if value.told() != self.told {
+            return None;
+        }
+        value.take_told()
+    }
+}
+
 /// Shows the stop mark and the counts.
 #[derive(Clone, Copy, Debug, PartialEq, Eq)]
 pub struct SightGlance;

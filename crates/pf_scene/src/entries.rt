@@ -1,5 +1,6 @@
 //! The history, with room for its entries made in batches.
-ghost use Rattle.std.specs.Prelude.{◌≡◌, ◌∷◌, ◌++◌, [], length, OnOk, OnErr};
+ghost use Rattle.std.specs.Prelude.{◌≡◌, ◌≤◌, ◌∷◌, ◌++◌, [], length, OnOk, OnErr};
+ghost use Rattle.pf_history.specs.Logs.{HasTold};
 ghost use Rattle.pf_scene.specs.Batches.{IsFull, IsReady};
 
 use pf_history::{Entry, History};
@@ -12,7 +13,7 @@ const BATCH: usize = 64;
 
 /// The history. Room for entries is made a batch at a time, so between the first entry of a batch and its last none is
 /// refused.
-#[derive(Debug, Drop)]
+#[derive(Drop)]
 pub(crate) struct Entries {
     history: History,
 }
@@ -31,7 +32,8 @@ impl Model for Entries {
 impl Entries {
     /// No entries, and no room.
     pub(crate) fn new(alloc: Global) -> Entries
-        ensures { result.entries ≡ [] }
+        ensures entries { result.entries ≡ [] }
+        ensures told { result.told ≡ 0 }
     {
         Entries {
             history: History::new(alloc),
@@ -42,6 +44,7 @@ impl Entries {
     pub(crate) fn reserve(&mut self) -> Result<(), NoMemory>
         ensures room { OnOk result (IsReady self.new) }
         ensures entries { self.new.entries ≡ self.old.entries }
+        ensures told { self.new.told ≡ self.old.told }
         ensures full { OnErr result (IsFull self.old.entries) }
     {
         if self.history.len() % BATCH == 0 {
@@ -54,20 +57,38 @@ impl Entries {
     pub(crate) fn push_reserved(&mut self, seat: u32, entry: Entry)
         requires { IsReady self.old }
         ensures entries { self.new.entries ≡ self.old.entries ++ (seat, entry) ∷ [] }
+        ensures told { self.new.told ≡ self.old.told }
     {
         self.history.push_reserved(seat, entry);
     }
 
-    /// The number of entries.
+    /// Tells the oldest entry that was not told: hands it out, beside the number of its seat, and forgets it. Returns None
+    /// where all were told.
+    pub(crate) fn take(&mut self) -> Option<(u32, Entry)>
+        ensures { HasTold self.old self.new result }
+    {
+        self.history.take()
+    }
+
+    /// The number of entries, told or not.
     pub(crate) fn len(&self) -> usize
         ensures { result ≡ length self.now.entries }
     {
         self.history.len()
     }
 
+    /// The number of entries that were told.
+    pub(crate) fn told(&self) -> usize
+        ensures value { result ≡ self.now.told }
+        ensures few { result ≤ length self.now.entries }
+    {
+        self.history.told()
+    }
+
     /// The history.
     pub(crate) fn into_history(self) -> History
-        ensures { result.entries ≡ self.entries }
+        ensures entries { result.entries ≡ self.entries }
+        ensures told { result.told ≡ self.told }
     {
         let Self { history } = self;
         history

@@ -9,7 +9,7 @@ ghost use Rattle.pf_history.specs.declared.commands.Command.TheVariants as comma
 ghost use Rattle.pf_history.specs.Objects.{reply_of};
 ghost use Rattle.pf_history.specs.Logs.{IsLegal};
 ghost use Rattle.pf_history.specs.Cuts.{cut_of};
-ghost use Rattle.pf_scene.specs.Scenes.{KeepsCopies, AreOfRetired, TakesHome, state_in, entered, weight_in, HasWeight, copies_after, one_more, IsSmall};
+ghost use Rattle.pf_scene.specs.Scenes.{KeepsCopies, AreOfRetired, TakesHome, state_in, entered, weight_in, HasWeight, copies_after, one_more, IsSmall, TellsOne};
 ghost use Rattle.pf_scene.specs.Stock.{first_fault};
 ghost use Rattle.pf_scene.specs.Batches.{IsFull};
 ghost use Rattle.pf_scene.specs.Frames.{IsCutOf, AllHaveRoom, drawn};
@@ -18,7 +18,7 @@ use crate::entries::Entries;
 use crate::world::World;
 use crate::{copies, lists, replies};
 use draw_list::DrawList;
-use pf_history::{Command, History, Merge, Reply};
+use pf_history::{Command, Entry, History, Merge, Reply};
 use pf_io::NoMemory;
 use pf_model::{Edit, Serials, View};
 use std::alloc::Global;
@@ -27,7 +27,6 @@ use update_lists::{Cut, Updates, Views};
 
 /// The scene that all stages share: the state of the one-thread object, and its history. Each command that is done adds
 /// the object's own entry under the number of the seat in charge.
-#[derive(Debug)]
 pub struct Scene {
     alloc: Global,
     world: World,
@@ -82,6 +81,7 @@ impl Model for Scene {
       copies = s.copies;
       out = outs s.world.graph.next_serial s.world.cycles;
       accounted = are_accounted s.ahead s.channels s.history.entries s.world.cycles;
+      told = s.history.told;
     } };
 
     ghost invariant = { λ s. KeepsScene s.ahead s.channels s.history.entries (record {
@@ -105,6 +105,7 @@ impl Scene {
           copies = 0;
           out = 0 ∷ [];
           accounted = true;
+          told = 0;
         }) }
     {
         Ok(Scene {
@@ -229,9 +230,25 @@ impl Scene {
         self.stopped = true;
     }
 
+    /// Tells the oldest entry that was not told: hands it out, beside the number of its seat, and forgets it, so that it
+    /// leaves memory. Returns None where all were told. Nothing else changes.
+    pub fn take_told(&mut self) -> Option<(u32, Entry)>
+        ensures { TellsOne self.old self.new result }
+    {
+        self.history.take()
+    }
+
+    /// The number of entries that were told.
+    pub fn told(&self) -> u64
+        ensures { result ≡ self.now.told }
+    {
+        self.history.told() as u64
+    }
+
     /// The history.
     pub fn into_history(self) -> History
-        ensures { result.entries ≡ self.shared.log }
+        ensures entries { result.entries ≡ self.shared.log }
+        ensures told { result.told ≡ self.told }
     {
         let Self {
             alloc: _,
@@ -256,6 +273,7 @@ impl Scene {
         requires channel { channel < self.old.shared.channels }
         requires weight { HasWeight self.old.shared (command.View channel view) }
         ensures entered { OnOk result (self.new.shared ≡ entered (command.View channel view) self.old.shared) }
+        ensures told { self.new.told ≡ self.old.told }
         ensures reply { IfOk result (λ r. r ≡ reply_of (state_in self.old.shared) (command.View channel view)) }
         ensures copies { self.new.copies ≡ self.old.copies }
         ensures accounted { KeepsCopies self.old → KeepsCopies self.new }
@@ -277,6 +295,7 @@ impl Scene {
         requires begun { retired ≤ (state_in self.old.shared).frames }
         requires weight { HasWeight self.old.shared (command.Sync retired) }
         ensures entered { OnOk result (self.new.shared ≡ entered (command.Sync retired) self.old.shared) }
+        ensures told { self.new.told ≡ self.old.told }
         ensures reply { IfOk result (λ r. r ≡ reply_of (state_in self.old.shared) (command.Sync retired)) }
         ensures home { OnOk result (home.new.items ≡ []) }
         ensures taken { OnOk result (TakesHome home.old.items self.old self.new) }
@@ -308,6 +327,7 @@ impl Scene {
         requires fits { fits e ≡ true }
         requires weight { HasWeight self.old.shared (command.Edit e) }
         ensures entered { OnOk result (self.new.shared ≡ entered (command.Edit e) self.old.shared) }
+        ensures told { self.new.told ≡ self.old.told }
         ensures reply { IfOk result (λ r. r ≡ reply_of (state_in self.old.shared) (command.Edit e)) }
         ensures copies { OnOk result (self.new.copies
             ≡ copies_after self.old.shared.ahead (state_in self.old.shared) (command.Edit e) self.old.copies) }
@@ -337,6 +357,7 @@ impl Scene {
         requires fits { list_all fits m.edits ≡ true }
         requires weight { HasWeight self.old.shared (command.Merge m) }
         ensures entered { OnOk result (self.new.shared ≡ entered (command.Merge m) self.old.shared) }
+        ensures told { self.new.told ≡ self.old.told }
         ensures reply { IfOk result (λ r. r ≡ reply_of (state_in self.old.shared) (command.Merge m)) }
         ensures copies { OnOk result (self.new.copies
             ≡ copies_after self.old.shared.ahead (state_in self.old.shared) (command.Merge m) self.old.copies) }
@@ -372,6 +393,7 @@ impl Scene {
         requires lists { length lists.old ≡ self.old.shared.channels }
         requires weight { HasWeight self.old.shared command.Frame }
         ensures entered { OnOk result (self.new.shared ≡ entered command.Frame self.old.shared) }
+        ensures told { self.new.told ≡ self.old.told }
         ensures cut { IfOk result (λ c. IsCutOf c self.old.shared) }
         ensures updates { IfOk result (λ c. c.updates
             ≡ cut_of self.new.shared.channels self.new.shared.log c.frame) }

@@ -69,7 +69,7 @@ returns-in-Err-clause-accounted c = λ k.
 pub returns-in-Err-clause-unchanged : goal.returns-in-Err-clause-unchanged
 returns-in-Err-clause-unchanged c =
     let i = c.self.inside in
-    seen_same i.ahead i.channels i.history.entries c.reserve.new.self.entries i.seat i.stopped i.world c.edit.new.self i.copies c.reserve.ensures.entries
+    seen_same i.ahead i.channels i.history.entries c.reserve.new.self.entries i.history.told c.reserve.new.self.told i.seat i.stopped i.world c.edit.new.self i.copies c.reserve.ensures.entries c.reserve.ensures.told
     c.in-Err.ensures.unchanged c.edit.ensures.trimmed.most c.in-Err.ensures.out
     ∙ c.self.view_is
 
