@@ -1,5 +1,6 @@
 pub mod Alike
 pub mod AnyOrder
+pub mod Ceilings
 pub mod Depths
 pub mod EdgeLines
 pub mod FaceHits

@@ -6,10 +6,10 @@ use Rattle.fx_math.specs.Plain.{Point}
 use Rattle.fx_math.specs.declared.lenses.Lens.{Lens}
 use Rattle.fx_math.specs.Hit.{Edges, ray}
 use Rattle.fx_math.proofs.Ring.{expand, linear, order, times_lt, mul-neg}
-use Rattle.fx_math.proofs.Floor.{least_floor, below_floor}
+use Rattle.fx_math.proofs.Floor.{below_floor}
 use lib.IntN.{*ℤ-zero}
-use Rattle.tri_cover.specs.Extents.{IsInside, AreBefore, place_times, place_of, least_of, greatest_of}
-use Rattle.tri_cover.proofs.Weighing.{AreWeights, mix, mean_at_least, mean_below}
+use Rattle.tri_cover.specs.Extents.{IsInside, AreBefore, place_times, first_place, last_place, least_of, greatest_of, least_column, greatest_column, least_row, greatest_row}
+use Rattle.tri_cover.proofs.Weighing.{AreWeights, mix, mean_below}
 use Rattle.tri_cover.proofs.Depths.{weights_of, sum_above}
 
 -- a number between two others
@@ -58,30 +58,29 @@ product_above v k h g =
 twice_above : (x : ℤ) → pos 1 ≤ℤ x → pos 0 <ℤ (pos 2 *ℤ x)
 twice_above x h = omega (arith, ints, h)
 
+mix_neg : (a b c x y z m p : ℤ) → mix a b c x y z ≡ m *ℤ p → mix a b c (neg_ℤ x) (neg_ℤ y) (neg_ℤ z) ≡ m *ℤ neg_ℤ p
+mix_neg a b c x y z m p e = omega (arith, linear, order, e, mul-neg a x, mul-neg b y, mul-neg c z, mul-neg m p)
+
 pub places_between : (f size p : ℕ) (a b c v s t r x y z : ℤ) → 1 ≤ f → 1 ≤ size → AreWeights a b c → pos 0 <ℤ (a +ℤ b +ℤ c) → pos 0 <ℤ v
     → pos 1 ≤ℤ x → pos 1 ≤ℤ y → pos 1 ≤ℤ z
     → mix a b c x y z ≡ v *ℤ pos (2 * f) → mix a b c s t r ≡ v *ℤ (pos (2 * p + 1) -ℤ pos size)
-    → IsBetween (least_of (place_of f size s x) (place_of f size t y) (place_of f size r z)) (greatest_of (place_of f size s x) (place_of f size t y) (place_of f size r z)) (pos p)
+    → IsBetween (least_of (first_place f size s x) (first_place f size t y) (first_place f size r z)) (greatest_of (last_place f size s x) (last_place f size t y) (last_place f size r z)) (pos p)
 places_between f size p a b c v s t r x y z focus some w weight volume i j k depths sides = record {
-  low = mean_at_least a b c (pos 2 *ℤ x) (pos 2 *ℤ y) (pos 2 *ℤ z) (place_times f size s x) (place_times f size t y) (place_times f size r z) m (pos p) least
-      w above divisors numerators
-      (least_floor (place_times f size s x) (pos 2 *ℤ x) least (twice_above x i) lows.0)
-      (least_floor (place_times f size t y) (pos 2 *ℤ y) least (twice_above y j) lows.1)
-      (least_floor (place_times f size r z) (pos 2 *ℤ z) least (twice_above z k) lows.2);
+  low = omega (arith, ints, above_least);
   high = omega (arith, ints, below);
 }
   where
     least : ℤ
-    least = least_of (place_of f size s x) (place_of f size t y) (place_of f size r z)
+    least = least_of (first_place f size s x) (first_place f size t y) (first_place f size r z)
 
     greatest : ℤ
-    greatest = greatest_of (place_of f size s x) (place_of f size t y) (place_of f size r z)
+    greatest = greatest_of (last_place f size s x) (last_place f size t y) (last_place f size r z)
 
-    lows : (least ≤ℤ place_of f size s x) × (least ≤ℤ place_of f size t y) × (least ≤ℤ place_of f size r z)
-    lows = least_below (place_of f size s x) (place_of f size t y) (place_of f size r z)
+    lows : (least ≤ℤ first_place f size s x) × (least ≤ℤ first_place f size t y) × (least ≤ℤ first_place f size r z)
+    lows = least_below (first_place f size s x) (first_place f size t y) (first_place f size r z)
 
-    highs : (place_of f size s x ≤ℤ greatest) × (place_of f size t y ≤ℤ greatest) × (place_of f size r z ≤ℤ greatest)
-    highs = greatest_above (place_of f size s x) (place_of f size t y) (place_of f size r z)
+    highs : (last_place f size s x ≤ℤ greatest) × (last_place f size t y ≤ℤ greatest) × (last_place f size r z ≤ℤ greatest)
+    highs = greatest_above (last_place f size s x) (last_place f size t y) (last_place f size r z)
 
     m : ℤ
     m = pos 2 *ℤ (v *ℤ pos (2 * f))
@@ -108,8 +107,19 @@ places_between f size p a b c v s t r x y z focus some w weight volume i j k dep
         (below_floor (place_times f size t y) (pos 2 *ℤ y) (greatest +ℤ pos 1) (twice_above y j) (next _ highs.1))
         (below_floor (place_times f size r z) (pos 2 *ℤ z) (greatest +ℤ pos 1) (twice_above z k) (next _ highs.2))
 
+    -- the same of the numbers turned in sign
+    turned : (q : ℤ) → least ≤ℤ neg_ℤ q → q <ℤ (neg_ℤ least +ℤ pos 1)
+    turned q h = omega (arith, ints, h)
+
+    above_least : neg_ℤ (pos p) <ℤ (neg_ℤ least +ℤ pos 1)
+    above_least = mean_below a b c (pos 2 *ℤ x) (pos 2 *ℤ y) (pos 2 *ℤ z) (neg_ℤ (place_times f size s x)) (neg_ℤ (place_times f size t y)) (neg_ℤ (place_times f size r z)) m (neg_ℤ (pos p)) (neg_ℤ least +ℤ pos 1)
+        w above weight divisors (mix_neg a b c (place_times f size s x) (place_times f size t y) (place_times f size r z) m (pos p) numerators)
+        (below_floor (neg_ℤ (place_times f size s x)) (pos 2 *ℤ x) (neg_ℤ least +ℤ pos 1) (twice_above x i) (turned _ lows.0))
+        (below_floor (neg_ℤ (place_times f size t y)) (pos 2 *ℤ y) (neg_ℤ least +ℤ pos 1) (twice_above y j) (turned _ lows.1))
+        (below_floor (neg_ℤ (place_times f size r z)) (pos 2 *ℤ z) (neg_ℤ least +ℤ pos 1) (twice_above z k) (turned _ lows.2))
+
 pub columns_between : (lens : Lens) (px py : ℕ) (u v w : Point) (volume : ℤ) (e : Edges) → IsInside lens px py u v w volume e → AreBefore u v w
-    → IsBetween (least_of (place_of lens.f lens.w u.x u.y) (place_of lens.f lens.w v.x v.y) (place_of lens.f lens.w w.x w.y)) (greatest_of (place_of lens.f lens.w u.x u.y) (place_of lens.f lens.w v.x v.y) (place_of lens.f lens.w w.x w.y)) (pos px)
+    → IsBetween (least_column lens u v w) (greatest_column lens u v w) (pos px)
 unfolding ray
 columns_between lens px py u v w volume e i before =
     places_between lens.f lens.w px e.e0 e.e1 e.e2 volume u.x v.x w.x u.y v.y w.y lens.in_range.some_focus lens.in_range.some_width
@@ -122,7 +132,7 @@ down_mix a b c x y z v h q e =
     omega (arith, linear, order, e, turned, mul-neg a x, mul-neg b y, mul-neg c z)
 
 pub rows_between : (lens : Lens) (px py : ℕ) (u v w : Point) (volume : ℤ) (e : Edges) → IsInside lens px py u v w volume e → AreBefore u v w
-    → IsBetween (least_of (place_of lens.f lens.h (neg_ℤ u.z) u.y) (place_of lens.f lens.h (neg_ℤ v.z) v.y) (place_of lens.f lens.h (neg_ℤ w.z) w.y)) (greatest_of (place_of lens.f lens.h (neg_ℤ u.z) u.y) (place_of lens.f lens.h (neg_ℤ v.z) v.y) (place_of lens.f lens.h (neg_ℤ w.z) w.y)) (pos py)
+    → IsBetween (least_row lens u v w) (greatest_row lens u v w) (pos py)
 unfolding ray
 rows_between lens px py u v w volume e i before =
     places_between lens.f lens.h py e.e0 e.e1 e.e2 volume (neg_ℤ u.z) (neg_ℤ v.z) (neg_ℤ w.z) u.y v.y w.y lens.in_range.some_focus lens.in_range.some_height

@@ -2,7 +2,7 @@
 use Rattle.std.proofs.Common.{◌≡◌, arith, ◌∙◌, ap}
 use Rattle.std.specs.Prelude.{ℤ, pos, ◌+ℤ◌, ◌*ℤ◌, ◌≤ℤ◌, ◌<ℤ◌}
 use Rattle.std.proofs.lemmas.Int.{ints, by_lt_z}
-use Rattle.fx_math.proofs.Ring.{expand, linear, order, times_le, times_lt, times_one}
+use Rattle.fx_math.proofs.Ring.{expand, linear, order, times_le, times_one}
 
 -- the weights
 pub record AreWeights (a b c : ℤ) : Type 0 where
@@ -24,22 +24,8 @@ pub mix_le : (a b c x y z p q r : ℤ) → AreWeights a b c → x ≤ℤ p → y
 mix_le a b c x y z p q r w i j k =
     omega (arith, order, times_le a x p w.first i, times_le b y q w.second j, times_le c z r w.third k)
 
--- a mean is at least what bounds its numbers from below: k times it is the sum of the numerators, and k that of the divisors
-pub mean_at_least : (a b c x y z m n o k p l : ℤ) → AreWeights a b c → pos 0 <ℤ k
-    → mix a b c x y z ≡ k → mix a b c m n o ≡ k *ℤ p
-    → (x *ℤ l) ≤ℤ m → (y *ℤ l) ≤ℤ n → (z *ℤ l) ≤ℤ o → l ≤ℤ p
-mean_at_least a b c x y z m n o k p l w some divisors numerators i j h = by_lt_z p l
-    (λ below. absurd (omega (
-      arith,
-      order,
-      times_lt k p l some below,
-      mix_le a b c (x *ℤ l) (y *ℤ l) (z *ℤ l) m n o w i j h,
-      mix_times a b c x y z l ∙ ap (λ (d : ℤ). d *ℤ l) divisors,
-      numerators,
-    )))
-    (λ at_least. at_least)
-
--- and below what bounds them from above, where some weight is above 0
+-- a mean is below what bounds its numbers from above, where some weight is above 0: k times it is the sum of the numerators, and
+-- k that of the divisors
 pub mean_below : (a b c x y z m n o k p l : ℤ) → AreWeights a b c → pos 0 <ℤ k → pos 0 <ℤ (a +ℤ b +ℤ c)
     → mix a b c x y z ≡ k → mix a b c m n o ≡ k *ℤ p
     → m <ℤ (x *ℤ l) → n <ℤ (y *ℤ l) → o <ℤ (z *ℤ l) → p <ℤ l

@@ -80,9 +80,16 @@ IsSpanOf size least greatest (Some s) = IsSpanFrom size least greatest s
 abbrev pub place_times : (f size : ℕ) → (side depth : ℤ) → ℤ
 place_times f size side depth = pos (2 * f) *ℤ side +ℤ pos (size - 1) *ℤ depth
 
--- the place of the pixel at which a point is seen
-abbrev pub place_of : (f size : ℕ) → (side depth : ℤ) → ℤ
-place_of f size side depth = floor_div (place_times f size side depth) (pos 2 *ℤ depth)
+-- the least whole number that is not below n / d, for a divisor that is not 0
+abbrev pub ceil_div : ℤ → ℤ → ℤ
+ceil_div n d = neg_ℤ (floor_div (neg_ℤ n) d)
+
+-- the first pixel that does not lie before the place at which a point is seen, and the last one that does not lie behind it
+abbrev pub first_place : (f size : ℕ) → (side depth : ℤ) → ℤ
+first_place f size side depth = ceil_div (place_times f size side depth) (pos 2 *ℤ depth)
+
+abbrev pub last_place : (f size : ℕ) → (side depth : ℤ) → ℤ
+last_place f size side depth = floor_div (place_times f size side depth) (pos 2 *ℤ depth)
 
 abbrev pub least_of : (a b c : ℤ) → ℤ
 least_of a b c = int_min (int_min a b) c
@@ -90,24 +97,31 @@ least_of a b c = int_min (int_min a b) c
 abbrev pub greatest_of : (a b c : ℤ) → ℤ
 greatest_of a b c = int_max (int_max a b) c
 
--- the pixel's column and row at which a point is seen
-abbrev pub column_of : Lens → Point → ℤ
-column_of lens p = place_of lens.f lens.w p.x p.y
+-- the same of the columns and rows of a picture
+abbrev pub first_column : Lens → Point → ℤ
+first_column lens p = first_place lens.f lens.w p.x p.y
 
-abbrev pub row_of : Lens → Point → ℤ
-row_of lens p = place_of lens.f lens.h (neg_ℤ p.z) p.y
+abbrev pub last_column : Lens → Point → ℤ
+last_column lens p = last_place lens.f lens.w p.x p.y
 
+abbrev pub first_row : Lens → Point → ℤ
+first_row lens p = first_place lens.f lens.h (neg_ℤ p.z) p.y
+
+abbrev pub last_row : Lens → Point → ℤ
+last_row lens p = last_place lens.f lens.h (neg_ℤ p.z) p.y
+
+-- the columns and rows between three points
 abbrev pub least_column : Lens → (u v w : Point) → ℤ
-least_column lens u v w = least_of (column_of lens u) (column_of lens v) (column_of lens w)
+least_column lens u v w = least_of (first_column lens u) (first_column lens v) (first_column lens w)
 
 abbrev pub greatest_column : Lens → (u v w : Point) → ℤ
-greatest_column lens u v w = greatest_of (column_of lens u) (column_of lens v) (column_of lens w)
+greatest_column lens u v w = greatest_of (last_column lens u) (last_column lens v) (last_column lens w)
 
 abbrev pub least_row : Lens → (u v w : Point) → ℤ
-least_row lens u v w = least_of (row_of lens u) (row_of lens v) (row_of lens w)
+least_row lens u v w = least_of (first_row lens u) (first_row lens v) (first_row lens w)
 
 abbrev pub greatest_row : Lens → (u v w : Point) → ℤ
-greatest_row lens u v w = greatest_of (row_of lens u) (row_of lens v) (row_of lens w)
+greatest_row lens u v w = greatest_of (last_row lens u) (last_row lens v) (last_row lens w)
 
 -- the box lies in the picture
 pub record IsInPicture (lens : Lens) (x : Extent) : Type 0 where

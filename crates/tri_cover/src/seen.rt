@@ -1,17 +1,25 @@
 //! Where a triangle may be seen: a box of pixels, and depths.
 //!
-//! Where all vertices lie between the lens's depths, so does each point of the triangle, and its pixels lie between those of
-//! its vertices. Else the box is the whole picture.
+//! Where all vertices lie between the lens's depths, so does each point of the triangle, and the middles of its pixels lie
+//! between its vertices: there are none where no middle does. Else the box is the whole picture.
 ghost use Rattle.std.specs.Prelude.{◌≡◌, ◌↔◌, ◌-◌, ◌*◌, ◌≤◌, ◌<◌, ◌^◌, pos, ◌*ℤ◌, ◌≤ℤ◌, unsigned_abs, IfSome, IsTrue};
 ghost use Rattle.std.specs.Int.{int_min, int_max};
 ghost use Rattle.fx_math.specs.Limits.{size_limit};
 ghost use Rattle.fx_math.specs.Within.{IsWithin, IsCoordinate};
 ghost use Rattle.fx_math.specs.Views.{point_of};
 ghost use Rattle.fx_math.specs.Fixed.{floor_div};
-ghost use Rattle.tri_cover.specs.Extents.{IsExtentOf, IsSpanOf, AreBetween, IsDeepEnough, AreNearer, IsNearer, AreFarther, IsFarther, AreBefore, column_of, row_of, least_column, greatest_column, least_row, greatest_row, least_of, greatest_of, place_times, place_of, IsInPicture, IsWhole};
+ghost use Rattle.tri_cover.specs.Extents.{IsExtentOf, IsSpanOf, AreBetween, IsDeepEnough, AreNearer, IsNearer, AreFarther, IsFarther, AreBefore, first_column, last_column, first_row, last_row, least_column, greatest_column, least_row, greatest_row, least_of, greatest_of, place_times, ceil_div, first_place, last_place, IsInPicture, IsWhole};
 
 use crate::extent::{Extent, Span};
 use fx_math::{Lens, Vec3};
+
+/// The places around that at which a point is seen: the first one that does not lie before it, and the last one that does not lie
+/// behind it. They are one where the point is seen at a pixel's middle.
+#[derive(Clone, Copy)]
+struct Ends {
+    first: i64,
+    last: i64,
+}
 
 /// The extent of the triangle of these vertices; None where it has no hit.
 pub(crate) fn extent_of(u: Vec3, v: Vec3, w: Vec3, lens: &Lens) -> Option<Extent>
@@ -106,11 +114,12 @@ fn columns(u: Vec3, v: Vec3, w: Vec3, lens: &Lens) -> Option<Span>
     span_of(lens.w, column(u, lens), column(v, lens), column(w, lens))
 }
 
-fn column(p: Vec3, lens: &Lens) -> i64
+fn column(p: Vec3, lens: &Lens) -> Ends
     requires { pos 1 ≤ℤ p.y }
-    ensures { result ≡ column_of lens.now (point_of p) }
+    ensures first { result.first ≡ first_column lens.now (point_of p) }
+    ensures last { result.last ≡ last_column lens.now (point_of p) }
 {
-    place(lens.f, lens.w, p.x, p.y)
+    places(lens.f, lens.w, p.x, p.y)
 }
 
 /// The rows between those of three points before the eye.
@@ -122,19 +131,25 @@ fn rows(u: Vec3, v: Vec3, w: Vec3, lens: &Lens) -> Option<Span>
     span_of(lens.h, row(u, lens), row(v, lens), row(w, lens))
 }
 
-fn row(p: Vec3, lens: &Lens) -> i64
+fn row(p: Vec3, lens: &Lens) -> Ends
     requires { pos 1 ≤ℤ p.y }
-    ensures { result ≡ row_of lens.now (point_of p) }
+    ensures first { result.first ≡ first_row lens.now (point_of p) }
+    ensures last { result.last ≡ last_row lens.now (point_of p) }
 {
-    place(lens.f, lens.h, -p.z, p.y)
+    places(lens.f, lens.h, -p.z, p.y)
 }
 
-/// The pixels of a side between three places; None where there are none.
-fn span_of(size: u16, p: i64, q: i64, r: i64) -> Option<Span>
+/// The pixels of a side between three points; None where there are none.
+fn span_of(size: u16, p: Ends, q: Ends, r: Ends) -> Option<Span>
     requires size { 1 ≤ size }
-    ensures { IsSpanOf size (least_of p q r) (greatest_of p q r) result }
+    ensures { IsSpanOf size (least_of p.first q.first r.first) (greatest_of p.last q.last r.last) result }
 {
-    clipped(size, least(p, q, r), greatest(p, q, r))
+    let least = least(p.first, q.first, r.first);
+    let greatest = greatest(p.last, q.last, r.last);
+    if greatest < least {
+        return None;
+    }
+    clipped(size, least, greatest)
 }
 
 fn clipped(size: u16, least: i64, greatest: i64) -> Option<Span>
@@ -171,17 +186,18 @@ fn greatest(p: i64, q: i64, r: i64) -> i64
     p.max(q).max(r)
 }
 
-/// The place, along a side of `size` pixels, of the pixel at which a point is seen, which is `side` from the middle and at this
+/// The places, along a side of `size` pixels, around that at which a point is seen, which is `side` from the middle and at this
 /// depth.
-fn place(f: u16, size: u16, side: i32, depth: i32) -> i64
+fn places(f: u16, size: u16, side: i32, depth: i32) -> Ends
     requires size { 1 ≤ size }
     requires most { size ≤ size_limit }
     requires side { IsCoordinate side }
     requires coordinate { IsCoordinate depth }
     requires depth { pos 1 ≤ℤ depth }
-    ensures { result ≡ place_of f size side depth }
+    ensures first { result.first ≡ first_place f size side depth }
+    ensures last { result.last ≡ last_place f size side depth }
 {
-    floor_quotient(place_times(f, size, side, depth), 2 * i64::from(depth))
+    around(place_times(f, size, side, depth), 2 * i64::from(depth))
 }
 
 fn place_times(f: u16, size: u16, side: i32, depth: i32) -> i64
@@ -211,6 +227,19 @@ fn across(size: u16, depth: i32) -> i64
     ensures bound { IsWithin (2 ^ 40) result }
 {
     i64::from(size - 1) * i64::from(depth)
+}
+
+/// The whole numbers around `n / d`, by one division.
+fn around(n: i64, d: i64) -> Ends
+    requires some { pos 1 ≤ℤ d }
+    requires divisor { IsWithin (2 ^ 32) d }
+    requires small { unsigned_abs n < 2 ^ 60 }
+    ensures first { result.first ≡ ceil_div n d }
+    ensures last { result.last ≡ floor_div n d }
+{
+    let last = floor_quotient(n, d);
+    let first = if d * last < n { last + 1 } else { last };
+    Ends { first, last }
 }
 
 /// The greatest whole number that is not above `n / d`.
