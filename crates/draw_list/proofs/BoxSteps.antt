@@ -15,10 +15,10 @@ use Rattle.fx_math.proofs.Still.{shift_zero}
 use Rattle.draw_list.proofs.StepLaws.{moved_whole, three}
 
 -- ---- the least and the greatest product
-first_of : (x y : ℤ) → x ≤ℤ y → int_min x y ≡ x
+pub first_of : (x y : ℤ) → x ≤ℤ y → int_min x y ≡ x
 first_of x y h = omega (arith, ints, clamps)
 
-last_of : (x y : ℤ) → x ≤ℤ y → int_max x y ≡ y
+pub last_of : (x y : ℤ) → x ≤ℤ y → int_max x y ≡ y
 last_of x y h = omega (arith, ints, clamps)
 
 wider : (x y : ℤ) → x ≤ℤ y → (x *ℤ pos 65536) ≤ℤ (y *ℤ pos 65536)
@@ -32,10 +32,10 @@ least_unit x y h = first_of (x *ℤ pos 65536) (y *ℤ pos 65536) (wider x y h) 
 greatest_unit : (x y : ℤ) → x ≤ℤ y → int_max (x *ℤ pos 65536) (y *ℤ pos 65536) ≡ pos 65536 *ℤ y
 greatest_unit x y h = last_of (x *ℤ pos 65536) (y *ℤ pos 65536) (wider x y h) ∙ *ℤ_comm y (pos 65536)
 
-least_none : (x y : ℤ) → int_min (x *ℤ pos 0) (y *ℤ pos 0) ≡ pos 0
+pub least_none : (x y : ℤ) → int_min (x *ℤ pos 0) (y *ℤ pos 0) ≡ pos 0
 least_none x y = ap (λ (a : ℤ). int_min a (y *ℤ pos 0)) (*ℤ-zero x) ∙ ap (λ (a : ℤ). int_min (pos 0) a) (*ℤ-zero y)
 
-greatest_none : (x y : ℤ) → int_max (x *ℤ pos 0) (y *ℤ pos 0) ≡ pos 0
+pub greatest_none : (x y : ℤ) → int_max (x *ℤ pos 0) (y *ℤ pos 0) ≡ pos 0
 greatest_none x y = ap (λ (a : ℤ). int_max a (y *ℤ pos 0)) (*ℤ-zero x) ∙ ap (λ (a : ℤ). int_max (pos 0) a) (*ℤ-zero y)
 
 -- ---- sums of which one number alone is not 0
@@ -56,27 +56,27 @@ third_alone a b c k e f g =
 
 -- ---- the ends of a box along the axes
 module _ (b : Bounds) (box : IsBox b) where
-  low_x : least_dot b (pos 65536) (pos 0) (pos 0) ≡ pos 65536 *ℤ b.lo.x
+  pub low_x : least_dot b (pos 65536) (pos 0) (pos 0) ≡ pos 65536 *ℤ b.lo.x
   unfolding least_dot
   low_x = first_alone _ _ _ _ (least_unit b.lo.x b.hi.x box.x_ordered) (least_none b.lo.y b.hi.y) (least_none b.lo.z b.hi.z)
 
-  low_y : least_dot b (pos 0) (pos 65536) (pos 0) ≡ pos 65536 *ℤ b.lo.y
+  pub low_y : least_dot b (pos 0) (pos 65536) (pos 0) ≡ pos 65536 *ℤ b.lo.y
   unfolding least_dot
   low_y = second_alone _ _ _ _ (least_none b.lo.x b.hi.x) (least_unit b.lo.y b.hi.y box.y_ordered) (least_none b.lo.z b.hi.z)
 
-  low_z : least_dot b (pos 0) (pos 0) (pos 65536) ≡ pos 65536 *ℤ b.lo.z
+  pub low_z : least_dot b (pos 0) (pos 0) (pos 65536) ≡ pos 65536 *ℤ b.lo.z
   unfolding least_dot
   low_z = third_alone _ _ _ _ (least_none b.lo.x b.hi.x) (least_none b.lo.y b.hi.y) (least_unit b.lo.z b.hi.z box.z_ordered)
 
-  high_x : greatest_dot b (pos 65536) (pos 0) (pos 0) ≡ pos 65536 *ℤ b.hi.x
+  pub high_x : greatest_dot b (pos 65536) (pos 0) (pos 0) ≡ pos 65536 *ℤ b.hi.x
   unfolding greatest_dot
   high_x = first_alone _ _ _ _ (greatest_unit b.lo.x b.hi.x box.x_ordered) (greatest_none b.lo.y b.hi.y) (greatest_none b.lo.z b.hi.z)
 
-  high_y : greatest_dot b (pos 0) (pos 65536) (pos 0) ≡ pos 65536 *ℤ b.hi.y
+  pub high_y : greatest_dot b (pos 0) (pos 65536) (pos 0) ≡ pos 65536 *ℤ b.hi.y
   unfolding greatest_dot
   high_y = second_alone _ _ _ _ (greatest_none b.lo.x b.hi.x) (greatest_unit b.lo.y b.hi.y box.y_ordered) (greatest_none b.lo.z b.hi.z)
 
-  high_z : greatest_dot b (pos 0) (pos 0) (pos 65536) ≡ pos 65536 *ℤ b.hi.z
+  pub high_z : greatest_dot b (pos 0) (pos 0) (pos 65536) ≡ pos 65536 *ℤ b.hi.z
   unfolding greatest_dot
   high_z = third_alone _ _ _ _ (greatest_none b.lo.x b.hi.x) (greatest_none b.lo.y b.hi.y) (greatest_unit b.lo.z b.hi.z box.z_ordered)
 

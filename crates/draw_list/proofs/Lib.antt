@@ -1,5 +1,7 @@
 mod StepLaws
 mod BoxSteps
+mod TurnLaws
+mod ExtentLaws
 mod StepLists
 mod Marks
 mod Orders

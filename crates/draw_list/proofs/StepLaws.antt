@@ -17,13 +17,13 @@ moved_whole z t =
     let whole : floor_div (pos 65536 *ℤ z) (pos 65536) ≡ z = floor_times (pos 65536) z (omega (arith, ints)) in
     ap (λ (q : ℤ). clamp (q +ℤ t)) whole
 
-first_alone : (a b c : ℤ) → a *ℤ pos 65536 +ℤ b *ℤ pos 0 +ℤ c *ℤ pos 0 ≡ pos 65536 *ℤ a
+pub first_alone : (a b c : ℤ) → a *ℤ pos 65536 +ℤ b *ℤ pos 0 +ℤ c *ℤ pos 0 ≡ pos 65536 *ℤ a
 first_alone a b c = simp (*ℤ-zero, +ℤ_idr) (*ℤ_comm a (pos 65536))
 
-second_alone : (a b c : ℤ) → a *ℤ pos 0 +ℤ b *ℤ pos 65536 +ℤ c *ℤ pos 0 ≡ pos 65536 *ℤ b
+pub second_alone : (a b c : ℤ) → a *ℤ pos 0 +ℤ b *ℤ pos 65536 +ℤ c *ℤ pos 0 ≡ pos 65536 *ℤ b
 second_alone a b c = simp (*ℤ-zero, +ℤ_idr, +ℤ_idl) (*ℤ_comm b (pos 65536))
 
-third_alone : (a b c : ℤ) → a *ℤ pos 0 +ℤ b *ℤ pos 0 +ℤ c *ℤ pos 65536 ≡ pos 65536 *ℤ c
+pub third_alone : (a b c : ℤ) → a *ℤ pos 0 +ℤ b *ℤ pos 0 +ℤ c *ℤ pos 65536 ≡ pos 65536 *ℤ c
 third_alone a b c = simp (*ℤ-zero, +ℤ_idr, +ℤ_idl) (*ℤ_comm c (pos 65536))
 
 pub three : (x y z u v w : ℤ) → x ≡ u → y ≡ v → z ≡ w → point x y z ≡ point u v w

@@ -7,8 +7,9 @@ use Rattle.fx_math.specs.Steps.{identity, origin, scaling, shift}
 use Rattle.draw_list.specs.declared.steps.Step.{Step}
 use Rattle.draw_list.specs.declared.steps.Step.TheVariants.{Still, Shift, Linear}
 use Rattle.draw_list.specs.declared.euler_steps.Factor.{Factor}
-use Rattle.draw_list.specs.declared.euler_steps.Turn.{Turn}
+use Rattle.draw_list.specs.declared.turns.Turn.{Turn}
 use Rattle.draw_list.specs.declared.euler_steps.EulerSteps.{EulerSteps}
+use Rattle.draw_list.specs.declared.view_steps.ViewSteps.{ViewSteps}
 use Rattle.draw_list.specs.declared.joint_steps.JointSteps.{JointSteps}
 use Rattle.draw_list.specs.declared.joint_steps.JointSteps.TheVariants.{One, Euler}
 
@@ -63,6 +64,10 @@ abbrev pub euler_matrices : EulerSteps → List Matrix
 euler_matrices e =
     scale_matrix e.scale ∷ roll_matrix e.roll ∷ pitch_matrix e.pitch ∷ heading_matrix e.heading
     ∷ shift (point_of e.shift) ∷ []
+
+abbrev pub view_matrices : ViewSteps → List Matrix
+view_matrices v =
+    shift (point_of v.shift) ∷ heading_matrix v.heading ∷ pitch_matrix v.pitch ∷ roll_matrix v.roll ∷ []
 
 abbrev pub joint_matrices : JointSteps → List Matrix
 joint_matrices (One s) = step_matrix s ∷ []

@@ -1,15 +1,14 @@
-//! The steps of a joint toward the joint that it leads to, and those of the view.
-ghost use Rattle.std.specs.Prelude.{◌≡◌, map};
+//! The steps of a joint toward the joint that it leads to.
+ghost use Rattle.std.specs.Prelude.{◌≡◌};
 ghost use Rattle.fx_math.specs.Views.{point_of, bounds_of};
 ghost use Rattle.fx_math.specs.Fixed.{carry, carry_box};
 ghost use Rattle.pf_model.specs.Kinds.{pose_steps};
-ghost use Rattle.pf_model.specs.Walks.{steps_of_view};
-ghost use Rattle.draw_list.specs.Steps.{step_matrix, joint_matrices};
+ghost use Rattle.draw_list.specs.Steps.{joint_matrices};
 
 use crate::euler_steps::EulerSteps;
 use crate::steps::Step;
 use fx_math::{Box3, Vec3};
-use pf_model::{Pose, View};
+use pf_model::Pose;
 
 /// The steps of one pose.
 #[derive(Clone, Copy, Debug, PartialEq, Eq)]
@@ -48,39 +47,4 @@ impl JointSteps {
             JointSteps::Euler(steps) => steps.carry_box(b),
         }
     }
-}
-
-/// The steps of a view.
-pub(crate) fn view_steps(view: &View) -> [Step; 4]
-    ensures { map step_matrix result ≡ steps_of_view view.now }
-{
-    let [moved, turned, pitched, rolled] = view.steps();
-    [
-        Step::of(&moved),
-        Step::of(&turned),
-        Step::of(&pitched),
-        Step::of(&rolled),
-    ]
-}
-
-/// A point after the steps of a view.
-pub(crate) fn carried(steps: &[Step; 4], v: Vec3) -> Vec3
-    ensures { point_of result ≡ carry (map step_matrix steps.now) (point_of v) }
-{
-    let mut carried = v;
-    for step in steps {
-        carried = step.carry(carried);
-    }
-    carried
-}
-
-/// A box after the steps of a view.
-pub(crate) fn carried_box(steps: &[Step; 4], b: &Box3) -> Box3
-    ensures { bounds_of result ≡ carry_box (map step_matrix steps.now) (bounds_of b.now) }
-{
-    let mut carried = *b;
-    for step in steps {
-        carried = step.carry_box(&carried);
-    }
-    carried
 }

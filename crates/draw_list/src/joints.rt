@@ -1,5 +1,5 @@
 //! Joints: steps to the eye, each above another joint.
-ghost use Rattle.std.specs.Prelude.{◌≡◌, ◌+◌, ◌<◌, ◌≤◌, [], ◌∷◌, if◌then◌else◌, ◌==◌, length, OnOk};
+ghost use Rattle.std.specs.Prelude.{◌≡◌, ◌+◌, ◌<◌, ◌≤◌, [], ◌∷◌, if◌then◌else◌, ◌==◌, max, length, OnOk};
 ghost use Rattle.fx_math.specs.Views.{point_of, bounds_of};
 ghost use Rattle.fx_math.specs.Fixed.{carry, carry_box};
 ghost use Rattle.pf_model.specs.Angles.{home_view};
@@ -7,13 +7,17 @@ ghost use Rattle.pf_model.specs.Kinds.{pose_steps};
 ghost use Rattle.pf_model.specs.Walks.{steps_of_view};
 ghost use Rattle.draw_list.specs.Joints.{steps_at, with_joint};
 
-use crate::joint_steps::{JointSteps, carried, carried_box, view_steps};
-use crate::steps::Step;
+use crate::joint_steps::JointSteps;
+use crate::tables::grown;
+use crate::view_steps::ViewSteps;
 use fx_math::{Box3, Vec3};
 use pf_io::NoMemory;
 use pf_model::{Pose, View};
 use std::alloc::Global;
 use std::marker::Model;
+
+/// The most joints that have a number, but for the joint 0.
+const MOST: usize = 4_294_967_294;
 
 /// Steps, and the number of the joint that they lead to.
 #[derive(Clone, Copy, Debug)]
@@ -25,20 +29,20 @@ pub(crate) struct Joint {
 /// The view, which is the joint 0, and the joints 1, 2 and so on, with room for more.
 #[derive(Debug, Drop)]
 pub(crate) struct Joints {
-    view: [Step; 4],
+    view: ViewSteps,
     joints: Vec<Joint>,
     room: usize,
 }
 
 impl Model for Joints {
-    ghost use Rattle.std.specs.Prelude.{◌+◌, ◌-◌, ◌<◌, ◌≤◌, ◌^◌, map};
+    ghost use Rattle.std.specs.Prelude.{◌+◌, ◌-◌, ◌<◌, ◌≤◌, ◌^◌};
     ghost use Rattle.std.specs.Vec.{vec_len, vec_capacity};
-    ghost use Rattle.draw_list.specs.Steps.{step_matrix};
+    ghost use Rattle.draw_list.specs.Steps.{view_matrices};
     ghost use Rattle.draw_list.specs.Joints.{JointList, step_lists, AreBefore};
 
     ghost Value = { JointList };
 
-    ghost view = { λ d. record { lists = step_lists (map step_matrix d.view) d.joints.items; spare = d.room - vec_len d.joints } };
+    ghost view = { λ d. record { lists = step_lists (view_matrices d.view) d.joints.items; spare = d.room - vec_len d.joints } };
 
     ghost invariant = { λ d. AreBefore 1 d.joints.items × (vec_len d.joints ≤ d.room)
         × (d.room ≤ vec_capacity d.joints) × (d.room + 1 < 2 ^ 32) };
@@ -50,7 +54,7 @@ impl Joints {
         ensures { result ≡ record { lists = steps_of_view home_view ∷ []; spare = 0 } }
     {
         Joints {
-            view: view_steps(&View::home()),
+            view: ViewSteps::of(&View::home()),
             joints: Vec::new(alloc),
             room: 0,
         }
@@ -67,17 +71,10 @@ impl Joints {
     pub(crate) fn reserve(&mut self, n: usize) -> Result<(), NoMemory>
         ensures lists { self.new.lists ≡ self.old.lists }
         ensures more { self.old.spare ≤ self.new.spare }
+        ensures few { self.new.spare ≤ max self.old.spare n }
         ensures room { OnOk result (n ≤ self.new.spare) }
     {
-        let len = self.joints.len();
-        if n <= self.room - len {
-            return Ok(());
-        }
-        if n >= 4_294_967_295 - len {
-            return Err(NoMemory);
-        }
-        self.joints.reserve(n)?;
-        self.room = len + n;
+        self.room = grown(&mut self.joints, self.room, n, MOST)?;
         Ok(())
     }
 
@@ -86,7 +83,7 @@ impl Joints {
         ensures lists { self.new.lists ≡ steps_of_view view.now ∷ [] }
         ensures room { self.new.spare + length self.new.lists ≡ self.old.spare + length self.old.lists }
     {
-        self.view = view_steps(view);
+        self.view = ViewSteps::of(view);
         self.joints.clear();
     }
 
@@ -119,7 +116,7 @@ impl Joints {
             point = next.steps.carry(point);
             at = next.up as usize;
         }
-        carried(&self.view, point)
+        self.view.carry(point)
     }
 
     /// A box of a joint's coordinates in eye coordinates.
@@ -134,6 +131,6 @@ impl Joints {
             around = next.steps.carry_box(&around);
             at = next.up as usize;
         }
-        carried_box(&self.view, &around)
+        self.view.carry_box(&around)
     }
 }

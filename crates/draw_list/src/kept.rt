@@ -1,11 +1,11 @@
 //! The triangles that a draw list keeps, each geode's once.
-ghost use Rattle.std.specs.Prelude.{◌≡◌, ℕ, ◌+◌, ◌^◌, ◌<◌, ◌≤◌, [], None, length, slice_get, IfOk, OnOk};
-ghost use Rattle.std.specs.Vec.{vec_len, vec_capacity};
+ghost use Rattle.std.specs.Prelude.{◌≡◌, ℕ, ◌+◌, ◌<◌, ◌≤◌, max, [], None, length, slice_get, OnOk};
 ghost use Rattle.draw_list.specs.Items.{tris_at};
 ghost use Rattle.draw_list.specs.Kept.{span_at, kept_span, with_kept};
 
 use crate::items::Span;
 use crate::spans::Spans;
+use crate::tables::grown;
 use pf_io::NoMemory;
 use pf_model::{Geom, Tri};
 use std::alloc::Global;
@@ -58,10 +58,11 @@ impl Kept {
         ensures tris { self.new.tris ≡ self.old.tris }
         ensures spans { (id : ℕ) → span_at self.new id ≡ span_at self.old id }
         ensures more { self.old.spare ≤ self.new.spare }
+        ensures few { self.new.spare ≤ max self.old.spare n }
         ensures room { OnOk result (n ≤ self.new.spare) }
     {
         self.spans.reserve()?;
-        self.room = grown(&mut self.tris, self.room, n)?;
+        self.room = grown(&mut self.tris, self.room, n, MOST)?;
         Ok(())
     }
 
@@ -133,28 +134,4 @@ impl Kept {
     {
         self.tris.len()
     }
-}
-
-/// Room for n more triangles.
-fn grown(tris: &mut Vec<Tri>, room: usize, n: usize) -> Result<usize, NoMemory>
-    requires within { vec_len tris.old ≤ room }
-    requires reserved { room ≤ vec_capacity tris.old }
-    requires small { room < 2 ^ 32 }
-    ensures tris { tris.new.items ≡ tris.old.items }
-    ensures len { vec_len tris.new ≡ vec_len tris.old }
-    ensures room { IfOk result (λ r. vec_len tris.old + n ≤ r) }
-    ensures more { IfOk result (λ r. room ≤ r) }
-    ensures reserved { IfOk result (λ r. r ≤ vec_capacity tris.new) }
-    ensures small { IfOk result (λ r. r < 2 ^ 32) }
-    ensures capacity { vec_capacity tris.old ≤ vec_capacity tris.new }
-{
-    let len = tris.len();
-    if n <= room - len {
-        return Ok(room);
-    }
-    if n > MOST - len {
-        return Err(NoMemory);
-    }
-    tris.reserve(n)?;
-    Ok(len + n)
 }

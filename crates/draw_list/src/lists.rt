@@ -1,5 +1,5 @@
 //! Draw lists.
-ghost use Rattle.std.specs.Prelude.{◌≡◌, ℕ, ◌+◌, ◌^◌, ◌<◌, ◌≤◌, [], ◌∷◌, None, if◌then◌else◌, ◌==◌, nat_lt, length, slice_get, is_ok, IfErr, IfSome, OnOk};
+ghost use Rattle.std.specs.Prelude.{◌≡◌, ℕ, ◌+◌, ◌^◌, ◌<◌, ◌≤◌, [], ◌∷◌, None, if◌then◌else◌, ◌==◌, nat_lt, max, length, slice_get, is_ok, IfErr, IfSome, OnOk};
 ghost use Rattle.std.specs.Option.{option_copied};
 ghost use Rattle.std.specs.List.Sorted.{IsPermutation, IsSortedBy};
 ghost use Rattle.fx_math.specs.Views.{point_of, bounds_of};
@@ -88,7 +88,8 @@ impl DrawList {
         self.kept.spare()
     }
 
-    /// Makes room for `n` more items, for `n` more joints and for `t` more triangles. The list stays.
+    /// Makes room for `n` more items, for `n` more joints and for `t` more triangles, and for no more than these where it
+    /// was missing. The list stays.
     pub fn reserve(&mut self, n: usize, t: usize) -> Result<(), NoMemory>
         ensures items { OnOk result (n ≤ self.new.items.spare) }
         ensures joints { OnOk result (n ≤ self.new.joints.spare) }
@@ -96,6 +97,9 @@ impl DrawList {
         ensures more_items { self.old.items.spare ≤ self.new.items.spare }
         ensures more_joints { self.old.joints.spare ≤ self.new.joints.spare }
         ensures more_tris { self.old.kept.spare ≤ self.new.kept.spare }
+        ensures few_items { self.new.items.spare ≤ max self.old.items.spare n }
+        ensures few_joints { self.new.joints.spare ≤ max self.old.joints.spare n }
+        ensures few_tris { self.new.kept.spare ≤ max self.old.kept.spare t }
         ensures same_items { self.new.items.items ≡ self.old.items.items }
         ensures same_joints { self.new.joints.lists ≡ self.old.joints.lists }
         ensures same_tris { self.new.kept.tris ≡ self.old.kept.tris }

@@ -1,6 +1,5 @@
 use Rattle.std.proofs.Common.{◌+◌, length, ap, arith}
-use Rattle.std.specs.Prelude.{map}
-use Rattle.draw_list.specs.Steps.{step_matrix}
+use Rattle.draw_list.specs.Steps.{view_matrices}
 use Rattle.draw_list.specs.Joints.{JointList}
 use Rattle.draw_list.proofs.StepLists.{length_lists}
 use Rattle.draw_list.proofs.joints.Joints.clear.Goals as goal
@@ -9,8 +8,8 @@ pub returns-clause-room : goal.returns-clause-room
 returns-clause-room c =
     omega (
       arith,
-      length_lists (map step_matrix c.view_steps-self-inside.result) c.clear.new.self.items,
-      length_lists (map step_matrix c.self.inside.view) c.self.inside.joints.items,
+      length_lists (view_matrices c.of-self-inside.result) c.clear.new.self.items,
+      length_lists (view_matrices c.self.inside.view) c.self.inside.joints.items,
       c.clear.ensures.len,
       c.clear.new.self.ok.0,
       c.self.inside.joints.ok.0,

@@ -1,6 +1,5 @@
 use Rattle.std.proofs.Common.{◌≡◌, ◌-◌, length, ap, sym, subst, arith}
-use Rattle.std.specs.Prelude.{map}
-use Rattle.draw_list.specs.Steps.{step_matrix}
+use Rattle.draw_list.specs.Steps.{view_matrices}
 use Rattle.draw_list.specs.Joints.{JointList, AreBefore}
 use Rattle.draw_list.proofs.StepLists.{length_lists, before-push, answered}
 use Rattle.draw_list.proofs.joints.Joints.push.Goals as goal
@@ -12,7 +11,7 @@ invariant_of-self c = (
       (omega (
         arith,
         c.requires,
-        length_lists (map step_matrix c.self.inside.view) c.self.inside.joints.items,
+        length_lists (view_matrices c.self.inside.view) c.self.inside.joints.items,
         ap (λ (d : JointList). length d.lists) c.self.view_is,
       ))),
   grind (arith, c.in-Ok.ensures.len, c.self.invariant.1, c.len-len.ensures, c.if-len-self.false),
@@ -29,6 +28,6 @@ returns-clause-answer c =
       arith,
       c.len-len.ensures,
       c.self.inside.joints.ok.0,
-      length_lists (map step_matrix c.self.inside.view) c.self.inside.joints.items,
+      length_lists (view_matrices c.self.inside.view) c.self.inside.joints.items,
       ap (λ (d : JointList). length d.lists) c.self.view_is,
     ))
