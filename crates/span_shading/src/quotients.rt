@@ -1,10 +1,13 @@
 //! Means of a channel: quotients of a weighed sum and a weight, guessed and judged.
 ghost use Rattle.std.specs.Prelude.{◌≡◌, ◌*◌, ◌/◌, ◌<◌, ◌^◌, pos, ◌-ℤ◌, ◌*ℤ◌, ◌<ℤ◌, IsTrue, ◌↔◌};
 ghost use Rattle.fx_math.specs.Within.{IsWithin};
-ghost use Rattle.span_shading.specs.Quotients.{IsMean, IsChannel, IsLeft};
+ghost use Rattle.span_shading.specs.Quotients.{IsMean, IsChannel, IsLeft, IsInverse};
 
-/// About 2^64 divided by a weight. Whatever it is, the means that are guessed by it are judged.
-pub(crate) fn inverse(weight: i64) -> u64 {
+/// About 2^64 divided by a weight, and 0 for a weight that is not above 0. Whatever it is, the means that are guessed by it
+/// are judged.
+pub(crate) fn inverse(weight: i64) -> u64
+    ensures { IsInverse weight result }
+{
     if weight <= 0 {
         return 0;
     }

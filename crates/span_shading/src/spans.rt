@@ -4,7 +4,7 @@
 //! a weight, both linear in the pixel. It is guessed by a product with the weight's inverse, and judged by what it leaves. The
 //! inverse is divided out once, and goes on from pixel to pixel by one step of Newton's method.
 ghost use Rattle.std.specs.Prelude.{◌<◌, ◌^◌, pos, ◌<ℤ◌, IsTrue, ◌↔◌};
-ghost use Rattle.span_shading.specs.Quotients.{IsMean, IsChannel};
+ghost use Rattle.span_shading.specs.Quotients.{IsMean, IsChannel, IsInverse};
 ghost use Rattle.span_shading.specs.Spans.{HasMeanAtEnds};
 
 use crate::lines::{Sum, Weight};
@@ -31,10 +31,11 @@ pub struct Span {
 impl Span {
     ghost use Rattle.span_shading.specs.Spans.{IsSpanOf, HasShade, IsShade, IsNextSpan, DoFit, HasShadeAtEnds, HasShadeTo};
 
-    /// That of three weighed sums and their weight.
+    /// That of three weighed sums and their weight, with the inverse of the weight.
     #[inline(always)]
     pub fn new(red: Sum, green: Sum, blue: Sum, weight: Weight) -> Span
-        ensures { IsSpanOf red green blue weight result }
+        ensures sums { IsSpanOf red green blue weight result }
+        ensures inverse { IsInverse weight.here result.inverse }
     {
         Span {
             red,
