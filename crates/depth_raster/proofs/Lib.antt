@@ -28,6 +28,8 @@ pub mod Mixed
 pub mod Narrowed
 pub mod NextPane
 pub mod Painted
+pub mod Parted
+pub mod Falling
 pub mod Once
 pub mod Owing
 pub mod PaneOrder

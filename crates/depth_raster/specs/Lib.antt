@@ -14,6 +14,7 @@ pub mod Means
 pub mod Runs
 pub mod Spans
 pub mod Blocks
+pub mod Parts
 pub mod Marks
 pub mod Following
 pub mod Drawing

@@ -1,6 +1,9 @@
 //! Blocks of pixels.
-ghost use Rattle.std.specs.Prelude.{◌≡◌, ◌-◌, min};
+ghost use Rattle.std.specs.Prelude.{◌≡◌, ◌+◌, ◌-◌, ◌≤◌, min};
+ghost use Rattle.fx_math.specs.Limits.{size_limit};
 ghost use Rattle.depth_raster.specs.Blocks.{place_in};
+
+use crate::extents::Extent;
 
 /// Some columns and rows of a picture: the first of each, and how many they are.
 #[derive(Clone, Copy)]
@@ -12,6 +15,8 @@ pub(crate) struct Block {
 }
 
 impl Block {
+    ghost use Rattle.depth_raster.specs.Parts.{IsPartIn};
+
     /// Where the pixel in the block's column `q` and row `r` lies among its pixels, row after row.
     pub(crate) fn place(&self, q: u16, r: u16) -> usize
         ensures { result ≡ place_in self.now q r }
@@ -45,5 +50,22 @@ impl Block {
         ensures { result ≡ min self.now.rows (bottom - self.now.first) }
     {
         self.rows.min(bottom.saturating_sub(self.first))
+    }
+
+    /// The part of the block that lies in the columns and rows of an extent, which may be empty.
+    #[inline(always)]
+    pub(crate) fn part_in(&self, extent: &Extent) -> Block
+        requires columns { self.now.left + self.now.width ≤ size_limit }
+        requires rows { self.now.first + self.now.rows ≤ size_limit }
+        ensures { IsPartIn extent.now self.now result }
+    {
+        let start = self.width.min(self.columns_from(extent.left));
+        let top = self.rows.min(self.rows_from(extent.top));
+        Block {
+            left: self.left + start,
+            first: self.first + top,
+            width: self.columns_to(extent.right).saturating_sub(start),
+            rows: self.rows_to(extent.bottom).saturating_sub(top),
+        }
     }
 }

@@ -5,7 +5,8 @@ ghost use Rattle.fx_math.specs.Within.{IsWithin};
 ghost use Rattle.tri_cover.specs.Linears.{value_at, step_of};
 ghost use Rattle.edge_values.specs.Small.{AreWithin};
 ghost use Rattle.depth_raster.specs.Edges.{AreValuesAt, AreSlopesOf};
-ghost use Rattle.depth_raster.specs.Narrow.{AreNarrowAt, AreNarrowSlopes, IsLineAt};
+ghost use Rattle.edge_values.specs.Narrow.{DoFit, IsSumOf};
+ghost use Rattle.depth_raster.specs.Narrow.{AreNarrowAt, AreNarrowSlopes, AreNarrowFalls, IsLineAt, fall_of};
 ghost use Rattle.depth_raster.specs.Small.{IsSmallFace, IsSmallLinear};
 
 use edge_values::{EdgeValues, NarrowLine, NarrowValues, small_step, small_value};
@@ -78,6 +79,35 @@ fn small_steps_of(face: &Face) -> NarrowValues
     }
 }
 
+/// By how much small edge values of a face change from a pixel to the one below it.
+pub(crate) fn small_falls_of(face: &Face) -> NarrowValues
+    requires small { IsSmallFace face.now }
+    ensures falls { AreNarrowFalls face.now result }
+    ensures bound { AreWithin (2 ^ 40) result.first result.second result.third }
+{
+    NarrowValues {
+        first: fall(&face.edges.e0),
+        second: fall(&face.edges.e1),
+        third: fall(&face.edges.e2),
+    }
+}
+
+/// The same part of the row below, after its edge values have changed by so much.
+#[inline(always)]
+pub(crate) fn line_below(line: &NarrowLine, falls: &NarrowValues) -> NarrowLine
+    requires start { DoFit line.now.start falls.now }
+    requires last { DoFit line.now.last falls.now }
+    ensures start { IsSumOf line.now.start falls.now result.start }
+    ensures last { IsSumOf line.now.last falls.now result.last }
+    ensures steps { result.steps ≡ line.now.steps }
+{
+    NarrowLine {
+        start: line.start.plus(falls),
+        last: line.last.plus(falls),
+        steps: line.steps,
+    }
+}
+
 /// The value of a small linear function at a pixel of a picture.
 #[inline(always)]
 pub(crate) fn value(linear: &Linear, px: u16, py: u16) -> i64
@@ -98,4 +128,14 @@ pub(crate) fn step(linear: &Linear) -> i64
     ensures bound { IsWithin (2 ^ 40) result }
 {
     small_step(linear.a)
+}
+
+/// By how much it changes from a pixel to the one below it.
+#[inline(always)]
+fn fall(linear: &Linear) -> i64
+    requires { IsSmallLinear linear.now }
+    ensures value { result ≡ fall_of linear.now }
+    ensures bound { IsWithin (2 ^ 40) result }
+{
+    small_step(linear.b)
 }

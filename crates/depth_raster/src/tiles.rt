@@ -1,5 +1,5 @@
 //! Faces over the marks of a tile.
-ghost use Rattle.std.specs.Prelude.{◌≡◌, ℕ, ◌+◌, ◌-◌, ◌<◌, ◌≤◌, None, All, length, min, slice_set, slice_index_or};
+ghost use Rattle.std.specs.Prelude.{◌≡◌, ℕ, ◌+◌, ◌-◌, ◌<◌, ◌≤◌, true, None, All, length, min, slice_set, slice_index_or};
 ghost use Rattle.fx_math.specs.declared.lenses.Lens.{Lens};
 ghost use Rattle.depth_raster.specs.Around.{IsWithin};
 ghost use Rattle.depth_raster.specs.Blocks.{IsBlockOf, size_of};
@@ -18,7 +18,7 @@ ghost use Rattle.tri_cover.specs.declared.face.Face as faces;
 
 use crate::blocks::Block;
 use crate::covers::covering_top;
-use crate::edges::{small_line, steps_of, values_at};
+use crate::edges::{line_below, small_falls_of, small_line, steps_of, values_at};
 use crate::hiding::{is_beyond, is_hidden};
 use crate::last::is_after;
 use crate::marks::Mark;
@@ -46,19 +46,20 @@ pub(crate) fn draw_piece(tile: &mut Tile, lens: &Lens, piece: &Piece)
     }
 }
 
-/// Draws the piece of a face over the marks of a tile.
+/// Draws the piece of a face over the marks of a tile, unless its edge values tell that it changes none in the part of the tile
+/// that it can reach.
 fn draw_face(tile: &mut Tile, lens: &Lens, piece: &Piece, face: &Face)
     requires block { IsBlockOf lens.now tile.old.block }
     requires ready { IsPieceOf lens.now piece.now }
     requires face { HasFace piece.now face.now }
     ensures { MarksFollow (face_over lens.now piece.now.face) tile.old tile.new }
 {
-    let block = tile.block;
+    let part = tile.block.part_in(&piece.extent);
     let limit = limit(tile.top, piece.face.shift);
-    if is_hidden(face, &block, limit) {
+    if is_hidden(face, &part, limit) {
         return;
     }
-    if is_beyond(face, &block, limit - 1) {
+    if is_beyond(face, &part, limit - 1) {
         draw_at_top(tile, lens, piece, face);
     } else {
         draw_over(tile, lens, piece, face);
@@ -182,13 +183,87 @@ pub(crate) fn draw_marks(marks: &mut [Mark], block: &Block, lens: &Lens, piece: 
         return;
     }
     let stamp = Stamp::of(piece, face);
+    if piece.small {
+        draw_lines(marks, block, lens, piece, face, &stamp, start, end);
+        return;
+    }
     for r in block.rows_from(extent.top)..block.rows_to(extent.bottom) {
         let run = Run { r, start, end };
         draw_row(marks, block, lens, piece, face, &stamp, &run);
     }
 }
 
-/// Draws the piece of a face over the marks of a row of a block: the run has all columns in which the piece can be hit.
+/// Draws the piece of a face with small edge values over the marks of a block, in all columns in which it can be hit, from each row
+/// to the next.
+fn draw_lines(
+    marks: &mut [Mark],
+    block: &Block,
+    lens: &Lens,
+    piece: &Piece,
+    face: &Face,
+    stamp: &Stamp,
+    start: u16,
+    end: u16,
+)
+    requires len { length marks.old ≡ size_of block.now }
+    requires block { IsBlockOf lens.now block.now }
+    requires ready { IsPieceOf lens.now piece.now }
+    requires face { HasFace piece.now face.now }
+    requires stamp { IsStampOf piece.now face.now stamp.now }
+    requires small { piece.now.small ≡ true }
+    requires some { start < end }
+    requires start { start ≡ piece.now.extent.left - block.now.left }
+    requires end { end ≡ min block.now.width (piece.now.extent.right - block.now.left) }
+    ensures { Follows block.now.width block.now.rows (mark_in block.now marks.old) (mark_in block.now marks.new)
+        (within block.now (face_over lens.now piece.now.face)) }
+{
+    let top = block.rows_from(piece.extent.top);
+    let bottom = block.rows_to(piece.extent.bottom);
+    if bottom <= top {
+        return;
+    }
+    let falls = small_falls_of(face);
+    let px = block.left + start;
+    let last = block.left + (end - 1);
+    let mut line = small_line(face, px, last, block.first + top);
+    for r in top..bottom {
+        let run = Run { r, start, end };
+        draw_line(marks, block, lens, piece, face, stamp, &line, &run);
+        line = line_below(&line, &falls);
+    }
+}
+
+/// Draws the piece of a face with small edge values over the marks of a row of a block: the run has all columns in which the piece
+/// can be hit, and the line is that of the face in it.
+fn draw_line(
+    marks: &mut [Mark],
+    block: &Block,
+    lens: &Lens,
+    piece: &Piece,
+    face: &Face,
+    stamp: &Stamp,
+    line: &NarrowLine,
+    run: &Run,
+)
+    requires len { length marks.old ≡ size_of block.now }
+    requires block { IsBlockOf lens.now block.now }
+    requires ready { IsPieceOf lens.now piece.now }
+    requires face { HasFace piece.now face.now }
+    requires stamp { IsStampOf piece.now face.now stamp.now }
+    requires line { IsLineAt face.now (block.now.left + run.now.start) (block.now.left + (run.now.end - 1))
+        (block.now.first + run.now.r) line.now }
+    requires run { IsRunOf block.now run.now }
+    requires start { run.now.start ≡ piece.now.extent.left - block.now.left }
+    requires end { run.now.end ≡ min block.now.width (piece.now.extent.right - block.now.left) }
+    requires top { piece.now.extent.top ≤ block.now.first + run.now.r }
+    requires bottom { block.now.first + run.now.r < piece.now.extent.bottom }
+    ensures { RowFollows block.now (mark_in block.now marks.old) (mark_in block.now marks.new)
+        (within block.now (face_over lens.now piece.now.face)) run.now.r }
+{
+    draw_narrow(marks, block, lens, piece, face, stamp, line, run);
+}
+
+/// Draws the piece of any face over the marks of a row of a block: the run has all columns in which the piece can be hit.
 fn draw_row(
     marks: &mut [Mark],
     block: &Block,
@@ -211,14 +286,7 @@ fn draw_row(
     ensures { RowFollows block.now (mark_in block.now marks.old) (mark_in block.now marks.new)
         (within block.now (face_over lens.now piece.now.face)) run.now.r }
 {
-    if piece.small {
-        let px = block.left + run.start;
-        let end = block.left + (run.end - 1);
-        let line = small_line(face, px, end, block.first + run.r);
-        draw_narrow(marks, block, lens, piece, face, stamp, &line, run);
-    } else {
-        draw_wide(marks, block, lens, piece, face, stamp, run);
-    }
+    draw_wide(marks, block, lens, piece, face, stamp, run);
 }
 
 /// Draws the piece of a face over the marks of a run in its box by its edge values in 64 bits. Where these tell that all pixels
