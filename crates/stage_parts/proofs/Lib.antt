@@ -17,3 +17,5 @@ pub mod DbaseSteps
 pub mod Moves
 pub mod Numbers
 pub mod Full
+pub mod AsksMore
+pub mod Growing

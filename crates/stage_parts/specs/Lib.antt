@@ -14,3 +14,4 @@ pub mod Moves
 pub mod Answers
 pub mod Texts
 pub mod Numbers
+pub mod Grows

@@ -6,6 +6,7 @@ ghost use Rattle.stage_parts.specs.DbaseSteps.{DbaseLaw, LinesLaw, OpeningLaw};
 ghost use Rattle.stage_parts.specs.Gathering.{GatheringLaw, CountingLaw};
 ghost use Rattle.stage_parts.specs.Moves.{MovesLaw};
 ghost use Rattle.stage_parts.specs.Numbers.{NumbersLaw};
+ghost use Rattle.stage_parts.specs.Grows.{AppGrowsLaw, DbaseGrowsLaw, PipeGrowsLaw};
 
 /// Where a pipe of at most four channels fits what its stages are given, and culling keeps the picture, the stream is
 /// whole pictures of the history and a front of the next one; the retired frames are among those that were wholly written; and once the
@@ -86,4 +87,20 @@ pub fn parts_are_facts()
 /// number; and where only the numbers below some have entries, each entry has one of them.
 pub fn numbers_tell()
     ensures { NumbersLaw }
+{}
+
+/// What APP keeps of its section stays while lines are given to it, until it closes, whatever number of merges the play
+/// then has.
+pub fn app_keeps_while_lines_are_given()
+    ensures { AppGrowsLaw }
+{}
+
+/// What DBASE keeps of its section stays while lines are given to it.
+pub fn dbase_keeps_while_lines_are_given()
+    ensures { DbaseGrowsLaw }
+{}
+
+/// A pipe that fits a play fits it with more lines, until the application closes.
+pub fn a_pipe_fits_while_lines_are_given()
+    ensures { PipeGrowsLaw }
 {}
