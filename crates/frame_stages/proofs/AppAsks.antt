@@ -6,6 +6,7 @@ use Rattle.pf_model.specs.declared.lines.AppStep.{AppStep}
 use Rattle.pf_model.specs.declared.lines.AppLine.{AppLine}
 use Rattle.pf_history.specs.Asks.{asked_from}
 use Rattle.stage_parts.specs.States.{Setup, still_asked}
+use Rattle.stage_parts.specs.Grows.{synced_by}
 use Rattle.frame_stages.specs.Scripts.{next_step}
 use Rattle.frame_stages.specs.AppWorks.{AppWork, IsGiven}
 use Rattle.frame_stages.proofs.ScriptLines.{drop_one, line_there}
@@ -35,10 +36,11 @@ pub asked_next : (g : Setup) (w : AppWork) (step : AppStep) → IsGiven g w → 
 asked_next g w step given going next =
     asked_at g w given going ∙ ap (asked_from w.state.need w.state.synced) (next_is w.rest step next)
 
--- what was given stays as a line is passed
+-- what was given stays as a line is passed, where a Sync stands behind it as the line says
 pub given_passed : (g : Setup) (w w' : AppWork) (step : AppStep) → IsGiven g w → next_step w.rest ≡ Some step →
-    w' ≡ record w { rest = drop 1 w.rest; state = w'.state; home = w'.home } → w'.state.at ≡ w.state.at + 1 → IsGiven g w'
-given_passed g w w' step given next is at =
+    w' ≡ record w { rest = drop 1 w.rest; state = w'.state; home = w'.home } → w'.state.at ≡ w.state.at + 1 →
+    synced_by w'.state.synced (steps (drop 1 w.rest)) ≡ synced_by w.state.synced (step ∷ steps (drop 1 w.rest)) → IsGiven g w'
+given_passed g w w' step given next is at on =
     record {
       within = let here = line_there w.state.at g.lines step (ap next_step (sym given.rest) ∙ next) in omega (arith, here, at);
       rest = ap (λ (v : AppWork). v.rest) is ∙ ap (drop 1) given.rest ∙ drop_one w.state.at g.lines ∙ ap (λ n. drop n g.lines) (sym at);
@@ -47,4 +49,7 @@ given_passed g w w' step given next is at =
       back = ap (λ (v : AppWork). v.back) is ∙ given.back;
       ahead = ap (λ (v : AppWork). v.ahead) is ∙ given.ahead;
       channels = ap (λ (v : AppWork). v.channels) is ∙ given.channels;
+      stands =
+          ap (λ (v : AppWork). synced_by w'.state.synced (steps v.rest)) is ∙ on
+          ∙ ap (synced_by w.state.synced) (sym (next_is w.rest step next)) ∙ given.stands;
     }

@@ -27,6 +27,7 @@ use Rattle.frame_stages.proofs.AppLogs.{keeps_found, merges_found}
 use Rattle.frame_stages.proofs.AppHome.{home_found, home_same, home_back}
 use Rattle.frame_stages.proofs.AppAsks.{asked_at, asked_next, given_passed}
 use Rattle.frame_stages.proofs.AppPolled.{kept_on, idle}
+use Rattle.frame_stages.proofs.BroughtBack.{brought_back, brought_short}
 
 -- a Sync is due that is to be made next, and at the end of the section
 pub sync_due : (asked synced : Bool) (step : Option AppStep) → SyncIsNext asked synced step → is_sync_due step synced ≡ true
@@ -36,7 +37,7 @@ sync_due false synced step next = ap (λ (s : Option AppStep). is_sync_due s syn
 pub end_due : (synced : Bool) (step : Option AppStep) → step ≡ None → is_sync_due step synced ≡ true
 end_due synced step none = ap (λ (s : Option AppStep). is_sync_due s synced) none
 
--- a packet came back, and its picture was wholly written
+-- a packet came back before a Sync, and its picture was wholly written
 pub came_back : (k : ℕ) (a : Application) (f : FlightState) (packet : Packet) (seen : Log) (told : Option SceneState) (taken taken' : List Packet)
     (told_sent : Option (List Packet)) (sink sink' : SinkSide) (ends : Ends) → taken' ≡ taken ++ packet ∷ [] →
     a.held ≡ None → is_sync_due (next_step a.script.rest) a.synced ≡ true →
@@ -44,56 +45,29 @@ pub came_back : (k : ℕ) (a : Application) (f : FlightState) (packet : Packet) 
     Polled k (Ok did.Did) (work_of a) (work_of (record a { flight = f }))
     (around seen told (with_back taken told_sent sink ends)) (around seen told (with_back taken' told_sent sink' ends))
 came_back k a f packet seen told taken taken' told_sent sink sink' ends took bare due away whole came =
-    subst (λ (v : FlightState). Polled k (Ok did.Did) (work_of a) (work_of (record a { flight = v }))
-    (around seen told (with_back taken told_sent sink ends)) (around seen told (with_back taken' told_sent sink' ends))) (sym came.state)
-    (record {
-      given = λ g given. record {
-        within = given.within;
-        rest = given.rest;
-        merges = given.merges;
-        lens = given.lens;
-        back = given.back;
-        ahead = given.ahead;
-        channels = given.channels;
-      };
-      part = λ g stream given own keeps.
-          let all = keeps.streams.all in
-          let short : cut_short a.flight.fault ≡ 0 = ap cut_short whole in
-          record {
-            more = bytes_in packet;
-            wrote = ap (λ (s : SinkSide). s.bytes) came.wrote;
-            keeps = subst (λ (t : List Packet). AppKeeps g k
-                (record (work_of a).state { written = a.flight.written + 1; spare = f.spare; stats = f.stats }) seen t ends.sent (stream ++ bytes_in packet))
-                (sym took)
-                ((app_law g k (work_of a).state seen taken ends.sent stream keeps).writes packet f.spare f.stats whole
-                (omega (arith, all, short, away)) came.kept.spare came.kept.stats);
-          };
-      home = λ g stream given own keeps has.
-          let after : AppWork = record (work_of a) {
-            state = record (work_of a).state { written = a.flight.written + 1; spare = f.spare; stats = f.stats };
-            home = f.home;
-          } in
-          subst (λ (t : List Packet). HasHome g k after seen t) (sym took)
-          (home_back g k (work_of a) after seen taken ends.sent stream packet given keeps away whole refl came.kept.home has);
-      counted = λ holds right. holds;
-      passes = λ enough. enough;
-      waited = λ enough. enough;
-      whole = λ ok. refl;
-      adds = record { found = seen; goes_on = found-self k seen; adds = inl refl };
+    let back = brought_back k a f packet seen told taken taken' told_sent sink sink' ends took away whole came in
+    record {
+      given = back.kept.given;
+      part = back.kept.part;
+      home = back.kept.home;
+      counted = back.kept.counted;
+      passes = back.kept.passes;
+      waited = back.kept.waited;
+      whole = λ ok. back.says.fault;
+      adds = back.kept.adds;
       answer = inr (inl (record {
         at = refl;
         own = refl;
         told = refl;
-        ends = ap (λ (s : SinkSide). with_back taken' told_sent s ends)
-            (came.wrote ∙ ap (λ (b : Option (List ℕ)). record sink { bytes = b }) (sym (ap (λ (s : SinkSide). s.bytes) came.wrote)));
-        many = ap length took ∙ length_push taken packet;
-        written = refl;
+        ends = back.says.ends;
+        many = back.many;
+        written = back.says.written;
         bare = bare;
         due = due;
       }));
-    })
+    }
 
--- a packet came back, and a fault cut its picture short
+-- a packet came back before a Sync, and a fault cut its picture short
 pub came_short : (k : ℕ) (a : Application) (f : FlightState) (packet : Packet) (seen seen' : Log) (told told' : Option SceneState)
     (taken taken' : List Packet) (told_sent : Option (List Packet)) (sink sink' : SinkSide) (ends : Ends) → taken' ≡ taken ++ packet ∷ [] →
     a.held ≡ None → is_sync_due (next_step a.script.rest) a.synced ≡ true →
@@ -102,57 +76,30 @@ pub came_short : (k : ℕ) (a : Application) (f : FlightState) (packet : Packet)
     Polled k (Err error.FrameFault) (work_of a) (work_of (record a { flight = f }))
     (around seen told (with_back taken told_sent sink ends)) (around seen' told' (with_back taken' told_sent sink' ends))
 came_short k a f packet seen seen' told told' taken taken' told_sent sink sink' ends took bare due away whole came marks counted =
-    subst (λ (v : FlightState). Polled k (Err error.FrameFault) (work_of a) (work_of (record a { flight = v }))
-    (around seen told (with_back taken told_sent sink ends)) (around seen' told' (with_back taken' told_sent sink' ends))) (sym came.state)
-    (record {
-      given = λ g given. record {
-        within = given.within;
-        rest = given.rest;
-        merges = given.merges;
-        lens = given.lens;
-        back = given.back;
-        ahead = given.ahead;
-        channels = given.channels;
-      };
-      part = λ g stream given own keeps.
-          let all = keeps.streams.all in
-          let short : cut_short a.flight.fault ≡ 0 = ap cut_short whole in
-          let next : AppState = record (work_of a).state { fault = Some came.bytes; spare = f.spare; stats = f.stats } in
-          record {
-            more = take came.bytes (bytes_in packet);
-            wrote = came.wrote;
-            keeps = subst (λ (t : List Packet). AppKeeps g k next seen' t ends.sent (stream ++ take came.bytes (bytes_in packet)))
-                (sym took)
-                (keeps_found g k next seen seen' (taken ++ packet ∷ []) ends.sent (stream ++ take came.bytes (bytes_in packet)) marks.goes_on
-                ((app_law g k (work_of a).state seen taken ends.sent stream keeps).fails packet came.bytes f.spare f.stats whole
-                (omega (arith, all, short, away)) came.kept.spare came.kept.stats));
-          };
-      home = λ g stream given own keeps has.
-          let after : AppWork = record (work_of a) {
-            state = record (work_of a).state { fault = Some came.bytes; spare = f.spare; stats = f.stats };
-            home = f.home;
-          } in
-          subst (λ (t : List Packet). HasHome g k after seen' t) (sym took)
-          (home_found g k after seen seen' (taken ++ packet ∷ []) marks.goes_on
-          (home_back g k (work_of a) after seen taken ends.sent stream packet given keeps away whole refl came.kept.home has));
-      counted = λ holds right. counted holds;
-      passes = λ enough. enough;
-      waited = λ enough. let more = merges_found k seen seen' marks.goes_on in omega (arith, enough, more);
+    let back =
+    brought_short k a f packet seen seen' told told' taken taken' told_sent sink sink' ends took away whole came marks counted in
+    record {
+      given = back.kept.given;
+      part = back.kept.part;
+      home = back.kept.home;
+      counted = back.kept.counted;
+      passes = back.kept.passes;
+      waited = back.kept.waited;
       whole = λ ok. absurd (cc);
-      adds = record { found = seen'; goes_on = marks.goes_on; adds = inl refl };
+      adds = back.kept.adds;
       answer = record {
         at = refl;
-        own = of_found k seen seen' marks.goes_on;
-        told = marks.tells;
-        many = ap length took ∙ length_push taken packet;
-        ends = refl;
-        rose = came.rose;
-        last = came.last;
-        fault = refl;
+        own = back.own;
+        told = back.says.told;
+        many = back.many;
+        ends = back.says.ends;
+        rose = back.says.rose;
+        last = back.says.last;
+        fault = back.says.fault;
         bare = bare;
         due = due;
       };
-    })
+    }
 
 or_false : (t : Bool) → (t || false) ≡ t
 or_false true = refl
@@ -173,6 +120,7 @@ was_sent k a packet last seen told sent sent' room told_taken ends bare going la
         back = given.back;
         ahead = given.ahead;
         channels = given.channels;
+        stands = given.stands;
       };
       part = λ g stream given own keeps.
           kept_on g k (work_of (record a { ended = last })).state seen told (with_sent sent' room told_taken ends) stream
@@ -227,11 +175,11 @@ pub passes_wait : (k wanted : ℕ) (w : AppWork) (seen : Log) (told : Option Sce
 passes_wait k wanted w seen told ends bare going next here before =
     let enough : max w.state.need wanted ≤ merges_in seen = omega (arith, here, before) in
     record {
-      given = λ g given. given_passed g w after (app.Wait wanted) given next refl refl;
+      given = λ g given. given_passed g w after (app.Wait wanted) given next refl refl refl;
       part = λ g stream given own keeps.
           kept_on g k after.state seen told ends stream
           ((app_law g k w.state seen ends.taken ends.sent stream keeps).waits (w.state.at + 1) (max w.state.need wanted) (omega arith)
-          (asked_at g after (given_passed g w after (app.Wait wanted) given next refl refl) going
+          (asked_at g after (given_passed g w after (app.Wait wanted) given next refl refl refl) going
           ∙ sym (asked_next g w (app.Wait wanted) given going next)));
       home = λ g stream given own keeps has. home_same g k w after seen ends.taken refl refl has;
       counted = λ holds right. holds;

@@ -31,13 +31,14 @@ use Rattle.stage_parts.specs.States.{Setup, still_asked}
 use Rattle.stage_parts.specs.Parts.{AppKeeps}
 use Rattle.stage_parts.specs.Steps.{next_frame}
 use Rattle.stage_parts.specs.AppSteps.{IsOwnTurn}
+use Rattle.stage_parts.specs.Grows.{synced_by}
 use Rattle.stage_parts.proofs.AppSteps.{app_law}
 use Rattle.frame_stages.specs.Scripts.{next_step, SyncIsNext, own_lines}
 use Rattle.frame_stages.specs.Flights.{HaveFirst, IsFitFor}
 use Rattle.frame_stages.specs.AppWorks.{AppWork, IsGiven, merges_in, with_load}
 use Rattle.frame_stages.specs.AppAnswers.{Ends}
 use Rattle.frame_stages.proofs.AppLogs.{own_frames, merges_are, own_is_at}
-use Rattle.frame_stages.proofs.AppAsks.{steps, asked_at, asked_next, none_is, given_passed}
+use Rattle.frame_stages.proofs.AppAsks.{steps, asked_at, asked_next, next_is, none_is, given_passed}
 use Rattle.frame_stages.proofs.AppPolled.{GoesOnBy}
 use Rattle.frame_stages.proofs.AppHome.{home_turn, home_synced}
 
@@ -53,8 +54,9 @@ own_turn g k found c before after ask by_app first meets enough =
 abbrev pub past : AppWork → AppWork
 past w = record w { rest = drop 1 w.rest; state = record w.state { at = w.state.at + 1 } }
 
-given_past : (g : Setup) (w : AppWork) (step : AppStep) → IsGiven g w → next_step w.rest ≡ Some step → IsGiven g (past w)
-given_past g w step given next = given_passed g w (past w) step given next refl refl
+given_past : (g : Setup) (w : AppWork) (step : AppStep) → IsGiven g w → next_step w.rest ≡ Some step →
+    synced_by w.state.synced (steps (drop 1 w.rest)) ≡ synced_by w.state.synced (step ∷ steps (drop 1 w.rest)) → IsGiven g (past w)
+given_past g w step given next on = given_passed g w (past w) step given next refl refl on
 
 -- how many lines the next entry passes, by the next step
 lines_of : (w : AppWork) (step : Option AppStep) → next_step w.rest ≡ step →
@@ -73,7 +75,8 @@ edit_goes k e ends w found going next enough =
       need = refl;
       passes = λ enough. omega (arith, enough);
       fault = refl;
-      given = λ g given. given_past g w (app.Edit e) given next;
+      stays_open = λ some. refl;
+      given = λ g given. given_past g w (app.Edit e) given next refl;
       part = λ g stream given own keeps.
           (app_law g k w.state found.log ends.taken ends.sent stream keeps).edits (own_entry found.channels found.log k (command.Edit e))
           (w.state.at + 1) (omega arith) refl (λ r. refl)
@@ -81,7 +84,7 @@ edit_goes k e ends w found going next enough =
           (record { need = w.state.need; wanted = WantEdit e }) refl
           (asked_next g w (app.Edit e) given going next
           ∙ ap (λ (asks : List Ask). record { need = w.state.need; wanted = WantEdit e } ∷ asks)
-          (sym (asked_at g (past w) (given_past g w (app.Edit e) given next) going)))
+          (sym (asked_at g (past w) (given_past g w (app.Edit e) given next refl) going)))
           refl enough);
       home = λ g stream given keeps has.
           home_turn g k found (command.Edit e) w (past w) ends.taken refl (λ r. refl) refl has.few has;
@@ -100,7 +103,8 @@ view_goes k channel v ends w found going next enough =
       need = refl;
       passes = λ enough. omega (arith, enough);
       fault = refl;
-      given = λ g given. given_past g w (app.View channel v) given next;
+      stays_open = λ some. refl;
+      given = λ g given. given_past g w (app.View channel v) given next refl;
       part = λ g stream given own keeps.
           (app_law g k w.state found.log ends.taken ends.sent stream keeps).edits (own_entry found.channels found.log k (command.View channel v))
           (w.state.at + 1) (omega arith) refl (λ r. refl)
@@ -108,7 +112,7 @@ view_goes k channel v ends w found going next enough =
           (record { need = w.state.need; wanted = WantView channel v }) refl
           (asked_next g w (app.View channel v) given going next
           ∙ ap (λ (asks : List Ask). record { need = w.state.need; wanted = WantView channel v } ∷ asks)
-          (sym (asked_at g (past w) (given_past g w (app.View channel v) given next) going)))
+          (sym (asked_at g (past w) (given_past g w (app.View channel v) given next refl) going)))
           refl enough);
       home = λ g stream given keeps has.
           home_turn g k found (command.View channel v) w (past w) ends.taken refl (λ r. refl) refl has.few has;
@@ -136,7 +140,8 @@ sync_goes true k ends w found going whole next enough room =
       need = refl;
       passes = λ enough. omega (arith, enough);
       fault = refl;
-      given = λ g given. given_passed g w (synced_work true w) app.Sync given next refl refl;
+      stays_open = λ some. refl;
+      given = λ g given. given_passed g w (synced_work true w) app.Sync given next refl refl refl;
       part = λ g stream given own keeps.
           let ahead = given.ahead in
           let begun = frames_begun g k w found.log ends stream own keeps in
@@ -146,7 +151,7 @@ sync_goes true k ends w found going whole next enough room =
           (record { need = w.state.need; wanted = WantSync }) refl
           (asked_next g w app.Sync given going next
           ∙ ap (λ (asks : List Ask). record { need = w.state.need; wanted = WantSync } ∷ asks)
-          (sym (asked_at g (synced_work true w) (given_passed g w (synced_work true w) app.Sync given next refl refl) going)))
+          (sym (asked_at g (synced_work true w) (given_passed g w (synced_work true w) app.Sync given next refl refl refl) going)))
           (omega (arith, room, ahead, begun)) enough);
       home = λ g stream given keeps has.
           let ahead = given.ahead in
@@ -161,6 +166,7 @@ sync_goes false k ends w found going whole next enough room =
       need = refl;
       passes = λ enough. enough;
       fault = refl;
+      stays_open = λ some. refl;
       given = given_same;
       part = λ g stream given own keeps.
           let ahead = given.ahead in
@@ -188,6 +194,9 @@ sync_goes false k ends w found going whole next enough room =
           back = given.back;
           ahead = given.ahead;
           channels = given.channels;
+          stands =
+              ap (synced_by true) (next_is w.rest app.Frame next.0)
+              ∙ sym (ap (synced_by w.state.synced) (next_is w.rest app.Frame next.0)) ∙ given.stands;
         }
 
 -- the closing Sync was made, and the End is held
@@ -206,6 +215,7 @@ close_goes k ends w found going whole bare next enough back room all =
       need = refl;
       passes = λ enough. enough;
       fault = refl;
+      stays_open = λ some. absurd (some next);
       given = λ g given.
           record {
             within = given.within;
@@ -215,6 +225,7 @@ close_goes k ends w found going whole bare next enough back room all =
             back = given.back;
             ahead = given.ahead;
             channels = given.channels;
+            stands = given.stands;
           };
       part = λ g stream given own keeps.
           let ahead = given.ahead in
@@ -342,6 +353,7 @@ frame_goes k old load load' ends w found going bare synced next enough fit may c
       need = refl;
       passes = λ enough. omega (arith, enough);
       fault = refl;
+      stays_open = λ some. refl;
       given = given_begun;
       part = λ g stream given own keeps.
           let a = (with_load old w).state in
@@ -366,4 +378,4 @@ frame_goes k old load load' ends w found going bare synced next enough fit may c
     }
   where
     given_begun : (g : Setup) → IsGiven g (with_load old w) → IsGiven g (begun_work load' w)
-    given_begun g given = given_passed g (with_load old w) (begun_work load' w) app.Frame given next refl refl
+    given_begun g given = given_passed g (with_load old w) (begun_work load' w) app.Frame given next refl refl refl

@@ -26,7 +26,7 @@ use Rattle.frame_stages.specs.Scripts.{next_step, is_sync_due, own_lines}
 use Rattle.frame_stages.specs.AppTurns.{Tells, Made, Wanting, IsMarked, Marks}
 use Rattle.frame_stages.specs.AppWorks.{AppWork, IsGiven, PassesEnough, merges_in}
 use Rattle.frame_stages.specs.Copies.{HoldsCopies, IsHomeRight, HasHome}
-use Rattle.frame_stages.specs.AppAnswers.{Ends, Around, around, IsLonger, MayWant, AppWaits, AppAnswers, AppAdds, KeepsOn, Polled}
+use Rattle.frame_stages.specs.AppAnswers.{Ends, Around, around, IsLonger, MayWant, AppWaits, AppAnswers, AppAdds, KeepsOn, IsKeptBy, Polled}
 use Rattle.frame_stages.proofs.AppLogs.{keeps_found, merges_more, merges_found, one_more}
 use Rattle.frame_stages.proofs.AppHome.{home_found, home_same}
 
@@ -120,6 +120,7 @@ out k w w' seen seen' told told' ends wanted bare marks counted as_before =
         back = given.back;
         ahead = given.ahead;
         channels = given.channels;
+        stands = given.stands;
       };
       part = λ g stream given own keeps.
           kept_on g k (record w.state { spare = w'.state.spare }) seen' told' ends stream
@@ -172,6 +173,7 @@ pub record GoesOnBy (k : ℕ) (c : Command) (ends : Ends) (w w' : AppWork) (foun
   pub need : w'.state.need ≡ w.state.need
   pub passes : PassesEnough w.state → PassesEnough w'.state
   pub fault : w'.state.fault ≡ w.state.fault
+  pub stays_open : (next_step w.rest ≡ None → ⊥) → w'.state.closed ≡ w.state.closed
   pub given : (g : Setup) → IsGiven g w → IsGiven g w'
   pub part : (g : Setup) (stream : List ℕ) → IsGiven g w → AreOwnFrames k found.log →
       AppKeeps g k w.state found.log ends.taken ends.sent stream →
@@ -226,6 +228,7 @@ by_entry k c May w w' seen seen' told told' ends m bare back counted by =
         ends = refl;
         bare = bare;
         line = by.line;
+        stays_open = by.stays_open;
         back = back;
       })));
     }
@@ -255,6 +258,7 @@ looked_answer (Ok did.Did) k w w' first seen told ends after own (inr (inr (inr 
       ends = s.ends;
       bare = s.bare;
       line = s.line;
+      stays_open = s.stays_open;
       back = s.back;
     })))
 looked_answer (Ok did.NotYet) k w w' first seen told ends after own (s, waits) =
@@ -300,4 +304,18 @@ looked r k w w' first seen told ends after found polled =
       whole = polled.whole;
       adds = adds_later k w'.state.written first seen after.seen found polled.adds;
       answer = looked_answer r k w w' first seen told ends after (of_found k first seen found) polled.answer;
+    }
+
+-- what a poll keeps
+pub polled_keeps : (r : Result Did StageError) (k : ℕ) (w w' : AppWork) (before after : Around) → Polled k r w w' before after →
+    IsKeptBy k w w' before after
+polled_keeps r k w w' before after polled =
+    record {
+      given = polled.given;
+      part = polled.part;
+      home = polled.home;
+      counted = polled.counted;
+      passes = polled.passes;
+      waited = polled.waited;
+      adds = polled.adds;
     }

@@ -17,7 +17,7 @@ use Rattle.frame_stages.specs.DbaseLines.{kind_of, next_line, need_after, is_mer
 use Rattle.frame_stages.specs.DbaseAnswers.{Passes}
 
 -- a buffer of few lines has room for one more
-pub filled_has_room : (lines : ℕ) (b : BufferState) → IsFilled lines b → lines ≤ 262144 → CountsOneMore b
+pub filled_has_room : (lines : ℕ) (b : BufferState) → IsFilled lines b → lines ≤ 2147483648 → CountsOneMore b
 filled_has_room lines b f few =
     let c = count_law f.steps in
     let short = f.short in
@@ -48,7 +48,7 @@ can_fill w l ls o rest kind =
     by l.step w.hand kind fit order whole o.ranged (omega (arith, few))
   where
     by : (s : BaseStep) (h : InHand) → kind_of s ≡ next.Fill → base_fits s ≡ true →
-        open_after (is_open h) (record l { step = s } ∷ ls) ≡ Some false → is_whole h ≡ is_merge s → IsRanged w.at h → w.at ≤ 262144 →
+        open_after (is_open h) (record l { step = s } ∷ ls) ≡ Some false → is_whole h ≡ is_merge s → IsRanged w.at h → w.at ≤ 2147483648 →
         CanFill s h
     by base.Buffer h k f o m r few = tt
     by (base.Edit e) hand.Nothing k f o m r few = absurd (cc)
@@ -107,7 +107,7 @@ tail_fits l ls w o rest =
     let here = subst (λ (xs : List BaseLine). list_all (λ x. base_fits x.step) xs ≡ true) rest o.fit in
     (and_parts (base_fits l.step) (list_all (λ x. base_fits x.step) ls) here).1
 
-tail_few : (l : BaseLine) (ls : List BaseLine) (w : DbaseWork) → IsInOrder w → w.rest ≡ l ∷ ls → w.at + 1 + length ls ≤ 262144
+tail_few : (l : BaseLine) (ls : List BaseLine) (w : DbaseWork) → IsInOrder w → w.rest ≡ l ∷ ls → w.at + 1 + length ls ≤ 2147483648
 tail_few l ls w o rest = let few = o.few in let long : length w.rest ≡ length (l ∷ ls) = ap length rest in omega (arith, few, long)
 
 pub filled_in_order : (w : DbaseWork) (l : BaseLine) (ls : List BaseLine) (b : BufferState) (h : InHand) → IsInOrder w →
@@ -140,7 +140,7 @@ merge_closes t l ls kind order = by t l.step kind order
     by t (base.Await n) k o = absurd (cc)
 
 -- where no buffer is open, no merge is next
-none_merges : (ls : List BaseLine) → open_after false ls ≡ Some false → merges_next ls ≡ false
+pub none_merges : (ls : List BaseLine) → open_after false ls ≡ Some false → merges_next ls ≡ false
 none_merges [] order = refl
 none_merges (l ∷ ls) order = by l.step order
   where

@@ -1,5 +1,5 @@
 -- What the database process holds to of its section, it holds to.
-use Rattle.std.proofs.Common.{◌≡◌, ℕ, zero, suc, ◌+◌, ◌≤◌, Bool, true, false, cond, ◌&&◌, ◌==◌, List, [], ◌∷◌, ◌++◌, map, take, drop, refl, sym, ap, ◌∙◌, subst, arith, add-one, eq-eqb}
+use Rattle.std.proofs.Common.{◌≡◌, ℕ, zero, suc, ◌+◌, ◌≤◌, Bool, true, false, cond, ◌&&◌, ◌==◌, List, [], ◌∷◌, ◌++◌, map, take, drop, length, refl, sym, ap, ◌∙◌, subst, arith, add-one, eq-eqb}
 use Rattle.std.proofs.lemmas.List.{drop-map}
 use Rattle.std.proofs.lemmas.List.Sums.{fold-append}
 use Rattle.std.proofs.lemmas.Bool.{and_from}
@@ -23,6 +23,7 @@ use Rattle.dbase_buffer.proofs.Lines.{line_law}
 use Rattle.pf_scene.specs.Scenes.{Shared}
 use Rattle.stage_parts.specs.States.{DbaseState, since_step, steps_since, still_asked_dbase}
 use Rattle.stage_parts.specs.Parts.{DbaseKeeps}
+use Rattle.stage_parts.specs.Grows.{awaited_by, StandsInDbase}
 use Rattle.stage_parts.proofs.DbaseSteps.{dbase_law}
 use Rattle.stage_parts.proofs.Numbers.{not_own}
 use Rattle.stage_parts.specs.declared.answers.Did.{Did}
@@ -46,6 +47,7 @@ holds_on lines channels seat w seen more holds none =
       keeps = (dbase_law lines channels seat (dbase_state lines w) seen holds.keeps).stays more none;
       awaited = omega (arith, awaited, frames);
       stands = holds.stands;
+      stands_in = holds.stands_in;
     }
 
 -- while the desk finds others' entries
@@ -119,6 +121,34 @@ stands_on lines l w after stands passes on =
       hand = subst (HoldsBuffer after.hand) (sym next) (passes.hand (buffer_at lines w.at) stands.hand);
     }
 
+awaited_step : (need : ℕ) (s : BaseStep) (rest : List BaseStep) → awaited_by (need_after need s) rest ≡ awaited_by need (s ∷ rest)
+awaited_step need base.Buffer rest = refl
+awaited_step need (base.Edit e) rest = refl
+awaited_step need (base.Ask e) rest = refl
+awaited_step need base.Merge rest = refl
+awaited_step need (base.Await n) rest = refl
+
+there_within : {X : Type 0} (xs : List X) (i : ℕ) (x : X) (ys : List X) → drop i xs ≡ x ∷ ys → i + 1 ≤ length xs
+there_within [] zero x ys at = absurd (cc)
+there_within [] (suc i) x ys at = absurd (cc)
+there_within (z ∷ xs) zero x ys at = omega arith
+there_within (z ∷ xs) (suc i) x ys at = let rest = there_within xs i x ys at in omega (arith, rest)
+
+-- it stands in it too by the greatest await
+stood_on : (lines : List BaseLine) (l : BaseLine) (w after : DbaseWork) → StandsIn lines w → StandsInDbase lines (dbase_state lines w) →
+    Passes l w after → IsOn lines w.at l after.rest → StandsInDbase lines (dbase_state lines after)
+stood_on lines l w after stands stood passes on =
+    let steps = steps_of lines in
+    let next = drop (w.at + 1) steps in
+    let here = there_within lines w.at l after.rest (stands.rest ∙ passes.line) in
+    let at = passes.at in
+    record {
+      within = omega (arith, here, at);
+      awaited =
+          ap (λ n. awaited_by after.need (drop n steps)) at ∙ ap (λ n. awaited_by n next) passes.need ∙ awaited_step w.need l.step next
+          ∙ ap (awaited_by w.need) (sym on.left) ∙ stood.awaited;
+    }
+
 -- what is still asked one line on, in the words of the line before
 asked_on : (lines : List BaseLine) (l : BaseLine) (w after : DbaseWork) → Passes l w after → IsOn lines w.at l after.rest →
     still_asked_dbase lines (dbase_state lines after)
@@ -153,6 +183,7 @@ holds_passes lines channels seat w after l log holds passes other awaited =
       keeps = (dbase_law lines channels seat (dbase_state lines w) log holds.keeps).passes (dbase_state lines after) asks refl;
       awaited = omega (arith, need, awaited);
       stands = λ runs. stands_on lines l w after (holds.stands passes.running) passes on;
+      stands_in = stood_on lines l w after (holds.stands passes.running) holds.stands_in passes on;
     }
 
 -- as it makes a merge
@@ -182,6 +213,7 @@ holds_merges lines channels seat w after l m log c holds passes step held =
           (and_from (seat == seat) true (eq-eqb seat seat refl) refl) asks (ap command.Merge made) awaited refl;
       awaited = omega (arith, need, awaited, more);
       stands = λ runs. stands_on lines l w after stands passes on;
+      stands_in = stood_on lines l w after stands holds.stands_in passes on;
     }
 
 -- whatever it answers
@@ -227,6 +259,7 @@ given_up_holds lines channels seat w after log up holds =
       keeps = subst (λ (d : DbaseState). DbaseKeeps lines channels seat d log) state holds.keeps;
       awaited = omega (arith, need, awaited);
       stands = λ runs. absurd (let no : true ≡ false = sym failed ∙ runs in cc);
+      stands_in = subst (StandsInDbase lines) state holds.stands_in;
     }
 
 pub answer_holds : (lines : List BaseLine) (channels number : ℕ) (result : Result Did StageError) (w after : DbaseWork) (known knows : Known) →

@@ -13,7 +13,10 @@ pub mod AppHome
 pub mod AppAsks
 pub mod AppPolled
 pub mod AppGoes
+pub mod BroughtBack
 pub mod AppBack
+pub mod AppGiven
+pub mod DbaseGiven
 pub mod AppTakes
 pub mod AppLooks
 pub mod AppTurned

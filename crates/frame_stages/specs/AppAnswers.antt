@@ -113,6 +113,8 @@ pub record MakesEntry (k : ℕ) (old new : AppWork) (before after : Around) : Ty
   pub ends : after.ends ≡ before.ends
   pub bare : old.state.held ≡ None
   pub line : new.state.at ≡ old.state.at + own_lines (next_step old.rest) old.state.synced
+  -- where a line is left, it does not close
+  pub stays_open : (next_step old.rest ≡ None → ⊥) → new.state.closed ≡ old.state.closed
   pub back : is_sync_due (next_step old.rest) old.state.synced ≡ true → old.state.written < old.state.frames →
       IsDry before.ends.told_sent before.ends.taken
 
@@ -206,6 +208,27 @@ pub record KeepsOn (g : Setup) (k : ℕ) (a : AppState) (written : Option (List 
   pub more : List ℕ
   pub wrote : after.ends.sink.bytes ≡ append_known written more
   pub keeps : AppKeeps g k a after.seen after.ends.taken after.ends.sent (stream ++ more)
+
+-- What each step of APP keeps, whatever it is, for a desk of number k.
+pub record IsKeptBy (k : ℕ) (old new : AppWork) (before after : Around) : Type 0 where
+  -- what was given stays
+  pub given : (g : Setup) → IsGiven g old → IsGiven g new
+  -- it keeps its part, where all Frames are its own
+  pub part : (g : Setup) (stream : List ℕ) → IsGiven g old → AreOwnFrames k after.seen →
+      AppKeeps g k old.state before.seen before.ends.taken before.ends.sent stream →
+      KeepsOn g k new.state before.ends.sink.bytes after stream
+  -- the lists that go home are those of the packets that came back since its last Sync
+  pub home : (g : Setup) (stream : List ℕ) → IsGiven g old → AreOwnFrames k after.seen →
+      AppKeeps g k old.state before.seen before.ends.taken before.ends.sent stream →
+      HasHome g k old before.seen before.ends.taken → HasHome g k new after.seen after.ends.taken
+  -- the scene's copies stay accounted for, where the lists that go home are right
+  pub counted : HoldsCopies before.told → IsHomeRight old before.told → HoldsCopies after.told
+  -- it passed a line for each frame
+  pub passes : PassesEnough old.state → PassesEnough new.state
+  -- the merges that it waited for stand in the log
+  pub waited : old.state.need ≤ merges_in before.seen → new.state.need ≤ merges_in after.seen
+  -- it adds at most one entry, and that is its own; each Sync retires just the frames whose pictures are wholly written
+  pub adds : AppAdds k new.state.written before.seen after.seen
 
 -- the answer is a fault of the frame sink
 abbrev pub is_fault : Result Did StageError → Bool

@@ -1,5 +1,5 @@
 -- What contracts see of the application's stage.
-use Rattle.std.specs.Prelude.{◌≡◌, ℕ, ◌≤◌, true, false, Bool, ◌||◌, List, [], ◌∷◌, ◌++◌, drop, length, Option, None, Some, is_some}
+use Rattle.std.specs.Prelude.{◌≡◌, ℕ, ◌≤◌, true, false, Bool, ◌||◌, List, [], ◌∷◌, ◌++◌, map, drop, length, Option, None, Some, is_some}
 use Rattle.std.specs.List.{AllByRecursion}
 use Rattle.fx_math.specs.declared.lenses.Lens.{Lens}
 use Rattle.pf_model.specs.declared.lines.AppLine.{AppLine}
@@ -13,6 +13,7 @@ use Rattle.stage_parts.specs.Loads.{LoadState}
 use Rattle.stage_parts.specs.Packets.{is_end}
 use Rattle.stage_parts.specs.States.{Setup, AppState}
 use Rattle.stage_parts.specs.DbaseSteps.{opening_app}
+use Rattle.stage_parts.specs.Grows.{synced_by}
 use Rattle.frame_stages.specs.declared.application.Application.{Application}
 
 -- The application's stage: the lines that are left, what else it is given, its state, and the update lists that go home
@@ -66,7 +67,8 @@ holding p w = record w { state = record w.state { held = Some p; closed = w.stat
 abbrev pub with_load : LoadState → AppWork → AppWork
 with_load l w = record w { state = record w.state { spare = w.state.spare ++ l ∷ [] } }
 
--- What the stage was given when it began: of the lines those are left that it did not pass.
+-- What the stage was given so far: of the lines those are left that it did not pass, behind which a Sync stands since the
+-- last Frame as the lines alone say.
 pub record IsGiven (g : Setup) (w : AppWork) : Type 0 where
   pub within : w.state.at ≤ length g.lines
   pub rest : w.rest ≡ drop w.state.at g.lines
@@ -75,6 +77,7 @@ pub record IsGiven (g : Setup) (w : AppWork) : Type 0 where
   pub back : w.back ≡ g.back
   pub ahead : w.ahead ≡ g.ahead
   pub channels : w.channels ≡ g.channels
+  pub stands : synced_by w.state.synced (map (λ l. l.step) w.rest) ≡ synced_by false (map (λ l. l.step) g.lines)
 
 -- the stage before its first step, with these loads in hand
 abbrev pub opening_work : Setup → List LoadState → AppWork
@@ -89,6 +92,10 @@ opening_work g loads =
       state = opening_app loads;
       home = [];
     }
+
+-- the same, with more lines and of a play with so many merges
+abbrev pub more_work : List AppLine → ℕ → AppWork → AppWork
+more_work more merges w = record w { rest = w.rest ++ more; merges = merges }
 
 -- it is over: the End was sent, or a fault cut a picture short
 abbrev pub is_done : AppState → Bool

@@ -11,6 +11,7 @@ use Rattle.frame_stages.specs.declared.in_hand.InHand.{InHand}
 use Rattle.frame_stages.specs.declared.in_hand.InHand.TheVariants as hand
 use Rattle.frame_stages.specs.declared.next_line.NextLine.{NextLine}
 use Rattle.frame_stages.specs.declared.next_line.NextLine.TheVariants as next
+use Rattle.frame_stages.specs.Scripts.{most_lines}
 use Rattle.frame_stages.specs.DbaseWorks.{DbaseWork}
 
 -- what a line is to the database process
@@ -61,8 +62,8 @@ pub record IsFilled (lines : ℕ) (b : BufferState) : Type 0 where
 
 -- One more edit of a buffer is counted without overflow.
 pub record CountsOneMore (b : BufferState) : Type 0 where
-  pub serials : b.graph.next_serial ≤ 262145
-  pub drops : b.dropped ≤ 262144
+  pub serials : b.graph.next_serial ≤ 2147483649
+  pub drops : b.dropped ≤ 2147483648
 
 -- a line of a buffer may come where this is in hand
 abbrev pub CanFill : BaseStep → InHand → Type 0
@@ -87,7 +88,7 @@ IsRanged at (hand.Merge m) = list_all fits m.edits ≡ true
 -- What the type of the database process keeps: its lines are few and in the order of a play, each edit is in its ranges,
 -- a merge is in hand exactly before its line, and no line is left where memory was wanted.
 pub record IsInOrder (w : DbaseWork) : Type 0 where
-  pub few : w.at + length w.rest ≤ 262144
+  pub few : w.at + length w.rest ≤ most_lines
   pub fit : list_all (λ l. base_fits l.step) w.rest ≡ true
   pub order : open_after (is_open w.hand) w.rest ≡ Some false
   pub whole : is_whole w.hand ≡ merges_next w.rest

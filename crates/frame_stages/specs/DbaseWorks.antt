@@ -1,5 +1,5 @@
 -- What contracts see of the database process, and what it keeps of its section and of the log that its desk has seen.
-use Rattle.std.specs.Prelude.{◌≡◌, ℕ, ◌≤◌, Bool, true, false, not, ◌&&◌, List, [], ◌∷◌, ◌++◌, map, take, drop}
+use Rattle.std.specs.Prelude.{◌≡◌, ℕ, ◌≤◌, Bool, true, false, not, if◌then◌else◌, ◌&&◌, List, [], ◌∷◌, ◌++◌, map, take, drop}
 use Rattle.std.specs.List.{AllByRecursion}
 use Rattle.pf_model.specs.declared.lines.BaseLine.{BaseLine}
 use Rattle.pf_model.specs.Merges.{BufferState, empty_buffer, buffer_after}
@@ -8,6 +8,7 @@ use Rattle.pf_history.specs.declared.commands.Caller.TheVariants.{Dbase}
 use Rattle.pf_history.specs.Asks.{merge_of, is_at}
 use Rattle.stage_parts.specs.States.{DbaseState, steps_since}
 use Rattle.stage_parts.specs.Parts.{DbaseKeeps}
+use Rattle.stage_parts.specs.Grows.{StandsInDbase}
 use Rattle.frame_stages.specs.declared.in_hand.InHand.{InHand}
 use Rattle.frame_stages.specs.declared.in_hand.InHand.TheVariants as hand
 
@@ -23,6 +24,10 @@ pub record DbaseWork : Type 0 where
 -- the database process before its first line
 abbrev pub opening_work : List BaseLine → DbaseWork
 opening_work lines = record { rest = lines; at = 0; need = 0; failed = false; hand = hand.Nothing }
+
+-- the same, with more lines; they are dropped where it ended for want of memory
+abbrev pub more_work : List BaseLine → DbaseWork → DbaseWork
+more_work more w = record w { rest = if w.failed then w.rest else w.rest ++ more }
 
 -- whether no line is left: the section is done, or was given up for want of memory
 abbrev pub is_ended : List BaseLine → Bool
@@ -53,12 +58,13 @@ pub record StandsIn (lines : List BaseLine) (w : DbaseWork) : Type 0 where
   pub hand : HoldsBuffer w.hand (buffer_at lines w.at)
 
 -- What the database process holds to, of its section and of the log that its desk has seen: its turns are the first of
--- the merges that the section asks for; as many frames were begun as the awaits passed ask for; and, unless it ended for
--- want of memory, it stands in the section.
+-- the merges that the section asks for; as many frames were begun as the awaits passed ask for; by these it stands in the
+-- section, and, unless it ended for want of memory, by the lines left too.
 pub record DbaseHolds (lines : List BaseLine) (channels seat : ℕ) (w : DbaseWork) (log : Log) : Type 0 where
   pub keeps : DbaseKeeps lines channels seat (dbase_state lines w) log
   pub awaited : w.need ≤ (state_of channels log).frames
   pub stands : w.failed ≡ false → StandsIn lines w
+  pub stands_in : StandsInDbase lines (dbase_state lines w)
 
 -- what the database process holds to stays while the log grows by entries of which none is its own, under its number
 abbrev pub HoldsOnLaw : Type 0

@@ -42,9 +42,9 @@ pub record IsInFlight (frames written ahead : ℕ) (fault : Option ℕ) (spare :
   pub numbers : frames ≤ room
   pub settled : Each (λ l. HaveFirst l.lists) spare
 
--- a play begins at most so many frames
+-- a play begins at most so many frames, since each has a line
 abbrev pub most_frames : ℕ
-most_frames = 262144
+most_frames = 2147483648
 
 -- a frame is begun
 abbrev pub begun : FlightState → FlightState

@@ -15,3 +15,4 @@ pub mod Flights
 pub mod AppWorks
 pub mod Copies
 pub mod AppAnswers
+pub mod AppBacks

@@ -1,5 +1,5 @@
 -- The lines of the application's section, and how it goes through them.
-use Rattle.std.specs.Prelude.{◌≡◌, ℕ, ◌+◌, ◌≤◌, Bool, true, false, not, if◌then◌else◌, List, [], ◌∷◌, drop, Option, None, Some}
+use Rattle.std.specs.Prelude.{◌≡◌, ℕ, ◌+◌, ◌≤◌, Bool, true, false, not, if◌then◌else◌, List, [], ◌∷◌, length, drop, Option, None, Some}
 use Rattle.pf_model.specs.declared.edits.Edit.{Edit}
 use Rattle.pf_model.specs.declared.lines.AppStep.{AppStep}
 use Rattle.pf_model.specs.declared.lines.AppStep.TheVariants as app
@@ -59,11 +59,10 @@ abbrev pub Exchanged : List AppLine → (put got : AppStep) → List AppLine →
 Exchanged [] put got after = ⊥
 Exchanged (l ∷ lines) put got after = (got ≡ l.step) × (after ≡ record l { step = put } ∷ lines)
 
--- a section has at most 262,144 lines
+-- a section has at most 2^31 lines, those included that were passed
 abbrev pub most_lines : ℕ
-most_lines = 262144
+most_lines = 2147483648
 
--- So many of the lines were passed.
-pub record IsScript (lines : List AppLine) (len at : ℕ) : Type 0 where
-  pub within : at ≤ len
-  pub few : len ≤ most_lines
+-- So many lines were passed, and these are left.
+pub record IsScript (rest : List AppLine) (at : ℕ) : Type 0 where
+  pub few : at + length rest ≤ most_lines

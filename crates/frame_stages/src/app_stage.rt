@@ -1,13 +1,19 @@
 //! The application.
-ghost use Rattle.std.specs.Prelude.{◌≡◌, ◌≤◌, ◌<◌, true, false, ℕ, length, Some, Ok, IfOk};
+ghost use Rattle.std.specs.Prelude.{◌≡◌, ◌+◌, ◌≤◌, ◌<◌, true, false, ℕ, List, [], ◌∷◌, length, None, Some, Ok, IfOk, OnOk, OnErr};
 ghost use Rattle.stage_parts.specs.declared.answers.Did.TheVariants as did;
 ghost use Rattle.stage_parts.specs.Answers.{is_over};
 ghost use Rattle.stage_parts.specs.Loads.{Each};
 ghost use Rattle.frame_stages.specs.Flights.{IsFitFor};
 ghost use Rattle.frame_stages.specs.Scripts.{most_lines};
-ghost use Rattle.frame_stages.specs.AppWorks.{opening_work, is_done};
+ghost use Rattle.pf_history.specs.Logs.{Log};
+ghost use Rattle.stage_parts.specs.declared.packets.Packet.{Packet};
+ghost use Rattle.stage_parts.specs.States.{Setup};
+ghost use Rattle.stage_parts.specs.Parts.{AppKeeps};
+ghost use Rattle.stage_parts.specs.Grows.{with_lines};
+ghost use Rattle.frame_stages.specs.AppWorks.{opening_work, more_work, IsGiven, is_done};
 ghost use Rattle.frame_stages.specs.Looks.{FoundMark};
-ghost use Rattle.frame_stages.specs.AppAnswers.{around, Polled};
+ghost use Rattle.frame_stages.specs.AppAnswers.{Ends, around, with_back, Polled};
+ghost use Rattle.frame_stages.specs.AppBacks.{TakesOnly};
 ghost use Rattle.frame_stages.specs.Stays.{desk_place, end_place};
 
 use crate::application::Application;
@@ -116,6 +122,98 @@ impl AppStage {
         ensures { result ≡ self.now.state.ended }
     {
         self.parts.ended
+    }
+
+    /// How many merges it waits for before it closes.
+    pub fn merges(&self) -> u32
+        ensures { result ≡ self.now.merges }
+    {
+        self.parts.merges
+    }
+
+    /// Whether one line more may be given.
+    pub fn has_room(&self) -> bool
+        ensures yes { result ≡ true → self.now.state.at + length self.now.rest < most_lines }
+        ensures no { result ≡ false → most_lines ≤ self.now.state.at + length self.now.rest }
+    {
+        self.parts.script.has_room()
+    }
+
+    /// Whether a packet may be taken back: none is held to send, and it is not over.
+    pub fn can_take_back(&self) -> bool
+        ensures bare { result ≡ true → self.now.state.held ≡ None }
+        ensures going { result ≡ true → is_done self.now.state ≡ false }
+        ensures whole { result ≡ true → self.now.state.fault ≡ None }
+        ensures none { result ≡ false → is_done self.now.state ≡ false → self.now.state.held ≡ None → ⊥ }
+    {
+        self.parts.can_take_back()
+    }
+
+    /// Whether only a line more, or the close, is left to do: no line is left, no packet is held, and it is not over. A poll
+    /// would then take a packet back or close.
+    pub fn wants_line(&self) -> bool
+        ensures bare { result ≡ true → self.now.state.held ≡ None }
+        ensures going { result ≡ true → is_done self.now.state ≡ false }
+        ensures all { result ≡ true → self.now.rest ≡ [] }
+        ensures none { result ≡ false → is_done self.now.state ≡ false → self.now.state.held ≡ None
+            → 0 < length self.now.rest }
+    {
+        self.parts.wants_line()
+    }
+
+    /// Puts a line behind those of its section, until it closes. Returns an error, and keeps its lines, where there is no
+    /// memory.
+    pub fn give(&mut self, line: AppLine) -> Result<(), NoMemory>
+        requires room { self.old.state.at + length self.old.rest < most_lines }
+        requires going { self.old.state.closed ≡ false }
+        ensures state { OnOk result (self.new ≡ more_work (line ∷ []) self.old.merges self.old) }
+
+        // It was given the longer section, of which it keeps its part.
+        ensures given { OnOk result ((g : Setup) → IsGiven g self.old → IsGiven (with_lines g (line ∷ []) g.merges) self.new) }
+        ensures part { OnOk result ((g : Setup) (seat : ℕ) (log : Log) (taken sent : List Packet) (stream : List ℕ)
+            → IsGiven g self.old → AppKeeps g seat self.old.state log taken sent stream
+            → AppKeeps (with_lines g (line ∷ []) g.merges) seat self.new.state log taken sent stream) }
+        ensures unchanged { OnErr result (self.new ≡ self.old) }
+    {
+        self.parts.give(line)
+    }
+
+    /// Notes how many merges the play has, where lines were given to the database process, before it closes.
+    pub fn note_merges(&mut self, merges: u32)
+        requires going { self.old.state.closed ≡ false }
+        ensures state { self.new ≡ record self.old { merges = merges } }
+
+        // It was given a play of so many merges, of which it keeps its part.
+        ensures given { (g : Setup) → IsGiven g self.old → IsGiven (record g { merges = merges }) self.new }
+        ensures part { (g : Setup) (seat : ℕ) (log : Log) (taken sent : List Packet) (stream : List ℕ)
+            → IsGiven g self.old → AppKeeps g seat self.old.state log taken sent stream
+            → AppKeeps (record g { merges = merges }) seat self.new.state log taken sent stream }
+    {
+        self.parts.merges = merges;
+    }
+
+    /// Takes a packet back, where a frame is away and one came, and writes its picture, wherever in its section it stands.
+    /// Returns `Did` where it did, else `NotYet`; and `FrameFault` where a fault of the sink cut the picture short.
+    pub fn take_back<D: Desk<Scene>, T: TakeEnd<Packet>, O: Sink>(
+        &mut self,
+        desk: &mut D,
+        from_draw: &mut T,
+        frames: &mut O,
+    ) -> Result<Did, StageError>
+        requires whole { self.old.state.fault ≡ None }
+        // It keeps its part, makes no turn but to set the stop mark at a fault, and this is what its answer says.
+        ensures back { (ends : Ends) → TakesOnly (D.number desk.old) result self.old self.new
+            (around (D.seen desk.old) (D.told desk.old) (with_back (T.taken from_draw.old) (T.told_sent from_draw.old)
+            (record { bytes = O.written frames.old; faults = O.faults frames.old; at_fault = O.at_fault frames.old }) ends))
+            (around (D.seen desk.new) (D.told desk.new) (with_back (T.taken from_draw.new) (T.told_sent from_draw.old)
+            (record { bytes = O.written frames.new; faults = O.faults frames.new; at_fault = O.at_fault frames.new }) ends)) }
+
+        // It leaves all else of the desk and the link.
+        ensures desk { desk_place (D.number desk.new) (D.stands desk.new) ≡ desk_place (D.number desk.old) (D.stands desk.old) }
+        ensures from_draw { end_place (T.take_at from_draw.new) (T.take_room from_draw.new) (T.told_sent from_draw.new)
+            ≡ end_place (T.take_at from_draw.old) (T.take_room from_draw.old) (T.told_sent from_draw.old) }
+    {
+        self.parts.take_back(desk, from_draw, frames)
     }
 
     /// One step: sends the packet that it holds, or takes the next step of its section. It takes a packet back and writes

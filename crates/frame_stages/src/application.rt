@@ -1,5 +1,5 @@
 //! The steps of the application, each to be taken where the scene was just looked at.
-ghost use Rattle.std.specs.Prelude.{◌≡◌, ◌<◌, ◌≤◌, ℕ, true, false, Option, None, Some, Ok, Err};
+ghost use Rattle.std.specs.Prelude.{◌≡◌, ◌+◌, ◌<◌, ◌≤◌, ◌++◌, ◌∷◌, [], ℕ, true, false, length, Option, None, Some, Ok, Err, OnOk, OnErr};
 ghost use Rattle.pf_model.specs.declared.lines.AppStep.TheVariants as app;
 ghost use Rattle.pf_history.specs.Logs.{Log};
 ghost use Rattle.pf_scene.specs.Scenes.{SceneState};
@@ -13,6 +13,7 @@ ghost use Rattle.frame_stages.specs.Flights.{HaveFirst, begun, IsTaken, IsFitFor
 ghost use Rattle.frame_stages.specs.Looks.{FoundMark};
 ghost use Rattle.frame_stages.specs.AppWorks.{work_of, is_done, merges_in, holding, with_load};
 ghost use Rattle.frame_stages.specs.AppAnswers.{Ends, around, with_sent, with_back, IsBackFrom, Polled};
+ghost use Rattle.frame_stages.specs.AppBacks.{TakesOnly};
 ghost use Rattle.frame_stages.specs.Stays.{desk_place, end_place};
 
 use crate::app_turns::{Came, look, make_edit, make_frame, make_view, stop};
@@ -21,7 +22,7 @@ use crate::taking_back::{Brought, Flight, new_load};
 use frame_link::{SendEnd, TakeEnd};
 use fx_math::Lens;
 use pf_io::{Gate, NoMemory, Sink, Stage};
-use pf_model::View;
+use pf_model::{AppLine, View};
 use pf_scene::Scene;
 use seat_lock::Desk;
 use stage_parts::{Did, Load, Packet, StageError};
@@ -544,6 +545,71 @@ impl Application {
             return true;
         }
         self.flight.is_cut()
+    }
+
+    /// Whether a packet may be taken back: none is held to send, and it is not over.
+    pub(crate) fn can_take_back(&self) -> bool
+        ensures bare { result ≡ true → self.now.held ≡ None }
+        ensures going { result ≡ true → is_done (work_of self.now).state ≡ false }
+        ensures whole { result ≡ true → self.now.flight.fault ≡ None }
+        ensures none { result ≡ false → is_done (work_of self.now).state ≡ false → self.now.held ≡ None → ⊥ }
+    {
+        if self.is_done() {
+            return false;
+        }
+        self.held.is_none()
+    }
+
+    /// Whether only a line more, or the close, is left to do: no line is left, no packet is held, and it is not over.
+    pub(crate) fn wants_line(&self) -> bool
+        ensures bare { result ≡ true → self.now.held ≡ None }
+        ensures going { result ≡ true → is_done (work_of self.now).state ≡ false }
+        ensures all { result ≡ true → self.now.script.rest ≡ [] }
+        ensures none { result ≡ false → is_done (work_of self.now).state ≡ false → self.now.held ≡ None
+            → 0 < length self.now.script.rest }
+    {
+        if self.can_take_back() {
+            return self.script.is_empty();
+        }
+        false
+    }
+
+    /// Puts a line behind those of its section.
+    pub(crate) fn give(&mut self, line: AppLine) -> Result<(), NoMemory>
+        requires room { self.old.script.at + length self.old.script.rest < most_lines }
+        ensures given { OnOk result (self.new ≡ record self.old {
+          script = record self.old.script { rest = self.old.script.rest ++ line ∷ [] };
+        }) }
+        ensures same { OnErr result (self.new ≡ self.old) }
+    {
+        self.script.give(line)
+    }
+
+    /// Takes a packet back, where a frame is away and one came, and writes its picture, wherever in its section it stands.
+    pub(crate) fn take_back<D: Desk<Scene>, T: TakeEnd<Packet>, O: Sink>(
+        &mut self,
+        desk: &mut D,
+        from: &mut T,
+        frames: &mut O,
+    ) -> Result<Did, StageError>
+        requires whole { self.old.flight.fault ≡ None }
+        ensures back { (ends : Ends) → TakesOnly (D.number desk.old) result (work_of self.old) (work_of self.new)
+            (around (D.seen desk.old) (D.told desk.old) (with_back (T.taken from.old) (T.told_sent from.old)
+            (record { bytes = O.written frames.old; faults = O.faults frames.old; at_fault = O.at_fault frames.old }) ends))
+            (around (D.seen desk.new) (D.told desk.new) (with_back (T.taken from.new) (T.told_sent from.old)
+            (record { bytes = O.written frames.new; faults = O.faults frames.new; at_fault = O.at_fault frames.new }) ends)) }
+        ensures desk { desk_place (D.number desk.new) (D.stands desk.new) ≡ desk_place (D.number desk.old) (D.stands desk.old) }
+        ensures from { end_place (T.take_at from.new) (T.take_room from.new) (T.told_sent from.new)
+            ≡ end_place (T.take_at from.old) (T.take_room from.old) (T.told_sent from.old) }
+    {
+        match self.flight.bring_back(from, frames) {
+            Brought::Nothing => Ok(Did::NotYet),
+            Brought::Whole => Ok(Did::Did),
+            Brought::Short => {
+                stop(desk);
+                Err(StageError::FrameFault)
+            }
+        }
     }
 
     /// One step, after a look at the scene.

@@ -1,13 +1,14 @@
 //! The database process.
-ghost use Rattle.std.specs.Prelude.{◌≡◌, ℕ, ◌≤◌, ◌↔◌, IsTrue, true, false, List, [], length, Some, Ok, OnOk, OnErr};
+ghost use Rattle.std.specs.Prelude.{◌≡◌, ℕ, ◌+◌, ◌<◌, ◌≤◌, ◌↔◌, ◌++◌, IsTrue, true, false, List, [], length, Some, Ok, OnOk, OnErr};
 ghost use Rattle.std.specs.List.{list_all};
 ghost use Rattle.pf_model.specs.declared.lines.BaseLine.{BaseLine};
 ghost use Rattle.pf_model.specs.declared.lines.BaseStep.TheVariants as base;
-ghost use Rattle.pf_history.specs.Logs.{state_of};
+ghost use Rattle.pf_history.specs.Logs.{Log, state_of};
 ghost use Rattle.play_format.specs.Plays.{base_fits, open_after};
 ghost use Rattle.stage_parts.specs.Answers.{is_over};
 ghost use Rattle.frame_stages.specs.Looks.{FoundMark};
-ghost use Rattle.frame_stages.specs.DbaseWorks.{opening_work, is_ended, has_ended, DbaseHolds};
+ghost use Rattle.frame_stages.specs.Scripts.{most_lines};
+ghost use Rattle.frame_stages.specs.DbaseWorks.{opening_work, more_work, is_ended, has_ended, DbaseHolds};
 ghost use Rattle.frame_stages.specs.DbaseLines.{kind_of, next_line};
 ghost use Rattle.frame_stages.specs.Copies.{HoldsCopies};
 ghost use Rattle.frame_stages.specs.DbaseAnswers.{DbaseAdds, Passes, GivesUp, Tries, IsDbaseAnswer};
@@ -20,6 +21,7 @@ use crate::filling::{fill, hand_of};
 use crate::in_hand::InHand;
 use crate::looks::sight;
 use crate::next_line::{NextLine, merges_next, next_line};
+use crate::script::MOST_LINES;
 use pf_io::{Gate, NoMemory, Stage};
 use pf_model::BaseLine;
 use pf_scene::{Outcome, Scene, Sight};
@@ -80,10 +82,17 @@ impl Model for DbaseStage {
     }) };
 }
 
+/// Lines as a queue.
+fn queue_of(lines: Vec<BaseLine>) -> VecDeque<BaseLine>
+    ensures { result.items ≡ lines.items }
+{
+    VecDeque::from(lines)
+}
+
 impl DbaseStage {
     /// The database process before its first line. It takes no memory.
     pub fn new(alloc: Global, dbase: Vec<BaseLine>) -> Result<DbaseStage, NoMemory>
-        requires few { length dbase.items ≤ 262144 }
+        requires few { length dbase.items ≤ most_lines }
         requires fit { list_all (λ l. base_fits l.step) dbase.items ≡ true }
         requires order { open_after false dbase.items ≡ Some false }
         ensures made { result ≡ Ok (opening_work dbase.items) }
@@ -98,6 +107,56 @@ impl DbaseStage {
             failed: false,
             hand: InHand::Nothing,
         })
+    }
+
+    /// Whether so many lines more may be given.
+    pub fn has_room(&self, lines: usize) -> bool
+        ensures yes { result ≡ true → self.now.at + (length self.now.rest + lines) ≤ most_lines }
+        ensures no { result ≡ false → most_lines < self.now.at + (length self.now.rest + lines) }
+    {
+        lines <= MOST_LINES - self.at as usize - self.rest.len()
+    }
+
+    /// Puts whole buffers behind the lines of its section, with the awaits before, between and behind them. Where it ended
+    /// for want of memory they are dropped. Returns an error, and keeps its lines, where there is no memory.
+    pub fn give(&mut self, more: Vec<BaseLine>) -> Result<(), NoMemory>
+        requires few { self.old.at + (length self.old.rest + length more.items) ≤ most_lines }
+        requires fit { list_all (λ l. base_fits l.step) more.items ≡ true }
+        requires order { open_after false more.items ≡ Some false }
+        ensures state { OnOk result (self.new ≡ more_work more.items self.old) }
+
+        // It holds to the longer section.
+        ensures holds { OnOk result ((lines : List BaseLine) (channels seat : ℕ) (log : Log)
+            → DbaseHolds lines channels seat self.old log → DbaseHolds (lines ++ more.items) channels seat self.new log) }
+        ensures unchanged { OnErr result (self.new ≡ self.old) }
+    {
+        if self.has_failed() {
+            return Ok(());
+        }
+        self.put_behind(more)
+    }
+
+    /// Whether it ended for want of memory.
+    fn has_failed(&self) -> bool
+        ensures { result ≡ self.now.failed }
+    {
+        self.failed
+    }
+
+    /// Puts whole buffers behind the lines that are left.
+    fn put_behind(&mut self, more: Vec<BaseLine>) -> Result<(), NoMemory>
+        requires few { self.old.at + (length self.old.rest + length more.items) ≤ most_lines }
+        requires fit { list_all (λ l. base_fits l.step) more.items ≡ true }
+        requires order { open_after false more.items ≡ Some false }
+        requires runs { self.old.failed ≡ false }
+        ensures state { OnOk result (self.new ≡ record self.old { rest = self.old.rest ++ more.items }) }
+        ensures unchanged { OnErr result (self.new ≡ self.old) }
+    {
+        let mut block = queue_of(more);
+        match self.rest.append(&mut block) {
+            Ok(()) => Ok(()),
+            Err(_) => Err(NoMemory),
+        }
     }
 
     /// Whether it has ended: each line of its section is passed. Where memory ran out it has not.

@@ -1,11 +1,16 @@
 //! The lines of the application's section, and how it goes through them.
-ghost use Rattle.std.specs.Prelude.{◌≡◌, ◌+◌, ◌<◌, ◌≤◌, max, length, slice_get, slice_set, Some, drop};
+ghost use Rattle.std.specs.Prelude.{◌≡◌, ◌+◌, ◌<◌, ◌≤◌, ◌++◌, ◌∷◌, [], max, true, false, length, Some, OnOk, OnErr};
 ghost use Rattle.pf_model.specs.declared.lines.AppLine.{AppLine};
 ghost use Rattle.frame_stages.specs.Scripts.{next_step, IsNext, passed, Exchanged, most_lines};
 
+use pf_io::NoMemory;
 use pf_model::{AppLine, AppStep, View};
+use std::collections::VecDeque;
 use std::marker::Model;
 use std::mem;
+
+/// How many lines a section may have.
+pub(crate) const MOST_LINES: usize = 2_147_483_648;
 
 /// What the next line asks for; the edit itself stays with the line.
 #[derive(Clone, Copy, Debug, PartialEq, Eq)]
@@ -19,33 +24,23 @@ pub(crate) enum Next {
     Close,
 }
 
-/// The lines of the application's section, with the place of the next one, and the greatest wait that was passed.
+/// The lines that are left of the application's section, how many were passed, and the greatest wait among these. Lines that
+/// were passed leave memory.
 #[derive(Drop)]
 pub(crate) struct Script {
-    lines: Vec<AppLine>,
+    rest: VecDeque<AppLine>,
     at: u32,
     need: u32,
 }
 
 impl Model for Script {
-    ghost use Rattle.std.specs.Prelude.{drop};
-    ghost use Rattle.std.specs.Vec.{vec_len};
     ghost use Rattle.frame_stages.specs.Scripts.{ScriptState, IsScript};
 
     ghost Value = { ScriptState };
 
-    ghost view = { λ s. record { rest = drop s.at s.lines.items; at = s.at; need = s.need } };
+    ghost view = { λ s. record { rest = s.rest.items; at = s.at; need = s.need } };
 
-    ghost invariant = { λ s. IsScript s.lines.items (vec_len s.lines) s.at };
-}
-
-/// Exchanges the step of a line.
-fn exchange(lines: &mut [AppLine], at: usize, step: AppStep) -> AppStep
-    requires { at < length lines.old }
-    ensures exchanged { Exchanged (drop at lines.old) step result (drop at lines.new) }
-    ensures many { length lines.new ≡ length lines.old }
-{
-    mem::replace(&mut lines[at].step, step)
+    ghost invariant = { λ s. IsScript s.rest.items s.at };
 }
 
 /// What a line asks for.
@@ -75,7 +70,7 @@ impl Script {
         ensures { result ≡ record { rest = lines.items; at = 0; need = 0 } }
     {
         Script {
-            lines,
+            rest: VecDeque::from(lines),
             at: 0,
             need: 0,
         }
@@ -93,7 +88,7 @@ impl Script {
         ensures next { IsNext result (next_step self.now.rest) }
         ensures few { self.now.at + length self.now.rest ≤ most_lines }
     {
-        match self.lines.get(self.at as usize) {
+        match self.rest.front() {
             Some(line) => next_of(line),
             None => Next::Close,
         }
@@ -104,6 +99,7 @@ impl Script {
         requires { 0 < length self.old.rest }
         ensures { self.new ≡ passed self.old }
     {
+        let _ = self.rest.pop_front();
         self.at += 1;
     }
 
@@ -112,6 +108,7 @@ impl Script {
         requires { 0 < length self.old.rest }
         ensures { self.new ≡ record (passed self.old) { need = max self.old.need merges } }
     {
+        let _ = self.rest.pop_front();
         self.at += 1;
         self.need = greater(self.need, merges);
     }
@@ -122,6 +119,37 @@ impl Script {
         ensures exchanged { Exchanged self.old.rest step result self.new.rest }
         ensures same { self.new ≡ record self.old { rest = self.new.rest } }
     {
-        exchange(self.lines.as_mut_slice(), self.at as usize, step)
+        match self.rest.front_mut() {
+            Some(line) => mem::replace(&mut line.step, step),
+            None => unreachable!(),
+        }
+    }
+
+    /// Whether no line is left.
+    pub(crate) fn is_empty(&self) -> bool
+        ensures yes { result ≡ true → self.now.rest ≡ [] }
+        ensures no { result ≡ false → 0 < length self.now.rest }
+    {
+        self.rest.is_empty()
+    }
+
+    /// Whether the section may have one line more.
+    pub(crate) fn has_room(&self) -> bool
+        ensures yes { result ≡ true → self.now.at + length self.now.rest < most_lines }
+        ensures no { result ≡ false → most_lines ≤ self.now.at + length self.now.rest }
+    {
+        self.rest.len() < MOST_LINES - self.at as usize
+    }
+
+    /// Puts a line behind those that are left.
+    pub(crate) fn give(&mut self, line: AppLine) -> Result<(), NoMemory>
+        requires { self.old.at + length self.old.rest < most_lines }
+        ensures given { OnOk result (self.new ≡ record self.old { rest = self.old.rest ++ line ∷ [] }) }
+        ensures same { OnErr result (self.new ≡ self.old) }
+    {
+        match self.rest.push_back(line) {
+            Ok(()) => Ok(()),
+            Err(_) => Err(NoMemory),
+        }
     }
 }
