@@ -9,4 +9,4 @@ mod Own
 mod Exact
 mod Walking
 mod Whole
-mod Rooms
+pub mod Rooms

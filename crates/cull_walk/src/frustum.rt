@@ -9,13 +9,13 @@ use pf_bounds::outside;
 use pf_model::Steps;
 use std::sync::ledger::Ledger;
 
-/// A frustum that tells of a box whether it is outside, and nothing else: each answer is a step of the ledger. Its lens is
-/// seen by contracts alone, so whoever culls through any frustum learns of no box but by a step.
+/// A frustum by which boxes are tested, each test counting a step of the ledger. Contracts alone see its lens, so who
+/// culls through any frustum learns of a box only by a counted step.
 pub trait Frustum<L: Ledger> {
     /// The lens whose frustum it is.
     ghost lens: { Self → Lens };
 
-    /// Whether a box in eye coordinates lies outside. It counts a step.
+    /// Counts a step, and returns whether a box in eye coordinates is outside the frustum.
     fn is_outside(&self, around: &Box3, steps: &mut Steps<L>) -> bool
         ensures answer { result ≡ is_outside (lens self.now) (bounds_of around.now) }
         ensures step { steps.new ≡ steps.old + 1 };

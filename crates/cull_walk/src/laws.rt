@@ -24,8 +24,8 @@ pub fn shown_instances_are_those_in_sight()
     ensures rise { (look : Look) → (time : ℕ) → (v : Viewpoint) → (lens : Lens) → PlacesRise (shown look time v lens) }
 {}
 
-/// The picture of the draw list is the picture of the whole walk, of what is opaque and of glass; and so is that of what
-/// is shown in any other order.
+/// The picture of the draw list is the picture of the whole walk, of what is opaque and of glass; and so is that of
+/// what is shown in any other order.
 pub fn culling_keeps_the_picture()
     ensures list { (look : Look) → (time : ℕ) → (v : Viewpoint) → (lens : Lens)
         → HaveOnePictureThrough lens (instances look time v) (draw_list look time v lens) }

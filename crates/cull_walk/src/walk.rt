@@ -18,11 +18,14 @@ use fx_math::{Box3, Lens};
 use pf_model::{Kind, NodeView, Pose, SceneView, Steps, View, chosen_children, squared_distance};
 use std::sync::ledger::Ledger;
 
-/// Fills a list with what a scene shows at a time, for a view and through a lens, in the order of the walk. A node that is
-/// outside the frustum is left with all below it, and so costs one test; each test of a node is a step of `steps`.
+/// Clears a list and fills it with what a scene shows in frame `time`, for a view and through a lens, in the order of
+/// the walk. A node outside the frustum is left out with all below it, and so costs one test. Each test of a node is a
+/// step of `steps`.
 ///
-/// On every scene it goes no deeper than 32 nodes, and leaves out what finds no room: an item or triangles alone, and with a
-/// joint all below it. What it leaves of the room is what was not filled, and the joint 0 is the view. It takes no memory.
+/// Returns how many instances are shown, how many states the opaque ones have, and how many nodes were visited.
+///
+/// On every scene it goes no deeper than 32 nodes, and leaves out what finds no room: an item or triangles alone, and
+/// with a joint all below it. The list keeps its room, and its joint 0 is the view. It takes no memory.
 pub fn cull<V: SceneView, L: Ledger>(
     scene: &V,
     time: u32,
@@ -51,12 +54,14 @@ pub fn cull<V: SceneView, L: Ledger>(
     cull_through(scene, time, view, lens, out, steps)
 }
 
-/// Fills a list with what a scene shows at a time, for a view and through a frustum, in the order of the walk. A node that is
-/// outside is left with all below it, and so costs one test. Of the frustum it knows its answers alone, each of which is a
-/// step of `steps`; a node without a box is a step too.
+/// Clears a list and fills it with what a scene shows in frame `time`, for a view and through a frustum, in the order
+/// of the walk. A node outside is left out with all below it, and so costs one test. It learns of a box only by asking
+/// the frustum, a step of `steps` each time; a node without a box is a step too.
 ///
-/// On every scene it goes no deeper than 32 nodes, and leaves out what finds no room: an item or triangles alone, and with a
-/// joint all below it. What it leaves of the room is what was not filled, and the joint 0 is the view. It takes no memory.
+/// Returns how many instances are shown, how many states the opaque ones have, and how many nodes were visited.
+///
+/// On every scene it goes no deeper than 32 nodes, and leaves out what finds no room: an item or triangles alone, and
+/// with a joint all below it. The list keeps its room, and its joint 0 is the view. It takes no memory.
 pub fn cull_through<V: SceneView, F: Frustum<L>, L: Ledger>(
     scene: &V,
     time: u32,
@@ -93,8 +98,8 @@ pub fn cull_through<V: SceneView, F: Frustum<L>, L: Ledger>(
     }
 }
 
-/// Walks through a node and the chosen children below it, with at most so many levels, and appends what is in sight to a
-/// list. A node that is outside is left with all below it. `joint` is that of the coordinates above the node.
+/// Walks through a node and the chosen children below it, at most `levels` levels, and appends what is in sight to a
+/// list. A node that is outside is left out with all below it. `joint` is that of the coordinates above the node.
 pub(crate) fn cull_from<V: SceneView, F: Frustum<L>, L: Ledger>(
     scene: &V,
     time: u32,
@@ -152,7 +157,7 @@ pub(crate) fn cull_from<V: SceneView, F: Frustum<L>, L: Ledger>(
     }
 }
 
-/// The box of a node in eye coordinates, where it has one that is not outside. It is one step in any case.
+/// Returns the box of a node in eye coordinates, if it has one that is not outside. It is one step in any case.
 fn box_in_sight<V: SceneView, F: Frustum<L>, L: Ledger>(
     scene: &V,
     frustum: &F,
@@ -178,7 +183,7 @@ fn box_in_sight<V: SceneView, F: Frustum<L>, L: Ledger>(
     }
 }
 
-/// Appends what a node itself draws, where it has room.
+/// Appends what a node itself draws, if there is room.
 fn show(kind: &Kind, id: u16, joint: u32, shift: u32, around: &Box3, out: &mut DrawList)
     requires { joint < length out.old.joints.lists }
     ensures { out.new ≡ with_drawn (record { id = id; joint = joint; shift = shift }) (bounds_of around.now) out.old (surface_of kind.now) }
@@ -204,7 +209,7 @@ fn show(kind: &Kind, id: u16, joint: u32, shift: u32, around: &Box3, out: &mut D
     }
 }
 
-/// The tint of glass of an alpha with this eye box.
+/// Returns the tint of glass of an alpha with this eye box.
 fn tint(alpha: Option<u8>, around: &Box3) -> Option<Tint>
     ensures { result ≡ option_map (tint_at (bounds_of around.now)) alpha }
 {
@@ -217,7 +222,7 @@ fn tint(alpha: Option<u8>, around: &Box3) -> Option<Tint>
     }
 }
 
-/// The joint of a node's children, which a coordinate system appends; none where it has no room.
+/// Returns the joint of a node's children, which a coordinate system appends, or `None` if there is no room for it.
 fn lower(kind: &Kind, joint: u32, out: &mut DrawList) -> Option<u32>
     requires { joint < length out.old.joints.lists }
     ensures joint { result ≡ joint_below joint out.old (own_pose kind.now) }
@@ -232,7 +237,7 @@ fn lower(kind: &Kind, joint: u32, out: &mut DrawList) -> Option<u32>
     }
 }
 
-/// The pose of a coordinate system.
+/// Returns the pose of a coordinate system.
 fn pose_of(kind: &Kind) -> Option<Pose>
     ensures { result ≡ own_pose kind.now }
 {

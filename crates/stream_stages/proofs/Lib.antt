@@ -26,6 +26,7 @@ mod RouteLaws
 mod Measure
 mod Passing
 mod Rooms
+mod FillTurns
 mod PassLaws
 mod FillLaws
 pub mod Dealing

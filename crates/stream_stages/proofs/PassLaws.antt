@@ -14,6 +14,8 @@ use Rattle.stream_stages.specs.Sending.{sent_to}
 use Rattle.stream_stages.specs.Going.{Stepped, stepped}
 use Rattle.stream_stages.specs.Underway.{IsRoute, walking_of}
 use Rattle.stream_stages.specs.Filled.{HasSameRoom, CanPass, Passes, CountsTests, IsOver, IsFilled, sent_to_there}
+use Rattle.stream_stages.specs.Fills.{glass_turn, GoesTo}
+use Rattle.stream_stages.proofs.FillTurns.{glazing, goes_nowhere, glass_next}
 use Rattle.stream_stages.proofs.Stepping.{IsRoutine, IsStepped, step_goes}
 use Rattle.stream_stages.proofs.Passing.{passes_none, passes_both, passes_step, passes_held, held_full, orders, passes_glass, glass_full, glass_over}
 use Rattle.stream_stages.proofs.Measure.{left_to_do, step_less}
@@ -175,6 +177,7 @@ pub record IsGlazing (look : Look) (most from : ℕ) (r q : Route) (d e : Drawab
   pub joint : 0 < length e.joints.lists
   pub few : length e.items.items ≤ most
   pub room : HasSameRoom d e
+  pub turns : (a : Sight) (t : ℕ) → GoesTo (glass_turn look most) (glazing a r from d t) (glazing a r k e t)
   pub passes : (s : Scene) (a : Sight) (t : ℕ) → s.look ≡ look → CanPass s most (sent_to_there (walking_of a r) from) d → Passes s most (sent_to_there (walking_of a r) from) (sent_to_there (walking_of a r) k) d e t t
 
 sent_route : (r : Route) (k : ℕ) → IsRoute r → k ≤ vec_len r.glass → IsRoute (record r { sent = Some k })
@@ -198,6 +201,7 @@ glazing_none look most from r d sound place joint few = record {
   joint = joint;
   few = few;
   room = same_room d;
+  turns = λ a t. goes_nowhere (glass_turn look most) (glazing a r from d t);
   passes = λ s a t same can. passes_none s most (sent_to_there (walking_of a r) from) d t can;
 }
 
@@ -217,6 +221,7 @@ glazing_next look most from r q t d e f k x route p at few list done next = reco
   joint = subst (λ (g : Drawables). 0 < length g.joints.lists) (sym list) takes.first;
   few = subst (λ (g : Drawables). length g.items.items ≤ most) (sym list) (omega (arith, takes.more, few));
   room = subst (HasSameRoom d) (sym list) (room_both d e (sent_to look x e).list p.room takes.room);
+  turns = λ a t. glass_next look most a r from k d e f t x (p.turns a t) at few list done;
   passes = λ s a t one can.
       let before : Passes s most (sent_to_there (walking_of a r) from) (sent_to_there (walking_of a r) k) d e t t = p.passes s a t one can in
       subst (λ (g : Drawables). Passes s most (sent_to_there (walking_of a r) from) (sent_to_there (walking_of a r) (k + 1)) d g t t) (ap (λ (l : Look). (sent_to l x e).list) one ∙ sym list)

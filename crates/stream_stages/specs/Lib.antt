@@ -7,6 +7,7 @@ pub mod Sending
 pub mod Going
 pub mod Underway
 pub mod Filled
+pub mod Fills
 pub mod Links
 pub mod PieceFrames
 pub mod Drawing

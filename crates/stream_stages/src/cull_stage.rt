@@ -25,13 +25,12 @@ use stage_parts::{Did, Load, Packet, StageError};
 use std::alloc::Global;
 use std::marker::Model;
 
-/// The cull of the streamed draw list: it takes the loads that the application sends, keeps its copy of the scene by their
-/// update lists, and sends them on without draw lists. Then it sends for each channel of the load what is in sight, in the
-/// pieces that come back to it, of which the last one of a list has the mark. No poll answers want of
-/// memory.
+/// The cull of the streamed draw list. It takes the loads that the application sends, keeps its copy of the scene by
+/// their update lists, and sends them on without draw lists. Then it sends for each channel of the load what is in
+/// sight, in the pieces that return to it, of which the last one of a list has the mark.
 ///
-/// Contracts see the lens, how many items a piece takes, the copy with its boxes, whether the End was passed on, the packet
-/// and the piece that it holds to send, the frame whose pieces are sent, and the walk.
+/// Contracts see the lens, how many items a piece takes, the copy with its boxes, whether the End was passed on, the
+/// packet and the piece that it holds to send, the frame whose pieces are sent, and the walk.
 pub struct StreamCullStage {
     lens: Lens,
     limit: u32,
@@ -74,7 +73,7 @@ impl Model for StreamCullStage {
     ghost invariant = { λ c. IfSome c.frame (λ s. s.channel < 4) };
 }
 
-/// Whether a packet is the End.
+/// Returns whether a packet is the End.
 fn is_end(packet: &Packet) -> bool
     ensures { result ≡ is_end packet.now }
 {
@@ -85,7 +84,8 @@ fn is_end(packet: &Packet) -> bool
 }
 
 impl StreamCullStage {
-    /// The cull of a lens whose pieces take at most `limit` items, which has not begun: its copy is the scene alone.
+    /// Returns the cull of a lens whose pieces take at most `limit` items, which has not begun: its copy is the scene
+    /// alone. Returns `Err(NoMemory)` if memory runs out.
     pub fn new(alloc: Global, lens: Lens, limit: u32) -> Result<StreamCullStage, NoMemory>
         ensures lens { IfOk result (λ c. c.lens ≡ lens) }
         ensures limit { IfOk result (λ c. c.limit ≡ limit) }
@@ -109,7 +109,7 @@ impl StreamCullStage {
         })
     }
 
-    /// Sends a packet, or holds it where the link has no room, and answers whether it was sent.
+    /// Sends a packet, or holds it if the link has no room. Returns whether it was sent.
     fn send<S: SendEnd<Packet>>(&mut self, packet: Packet, to: &mut S) -> bool
         requires going { self.old.state.ended ≡ false }
         requires bare { self.old.state.held ≡ None }
@@ -138,7 +138,7 @@ impl StreamCullStage {
         }
     }
 
-    /// Sends a piece, or holds it where the link has no room, and answers whether it was sent.
+    /// Sends a piece, or holds it if the link has no room. Returns whether it was sent.
     fn send_piece<P: SendEnd<Piece>>(&mut self, piece: Piece, pieces: &mut P) -> bool
         requires bare { self.old.state.piece ≡ None }
         ensures given { IsAsGiven self.old self.new }
@@ -180,7 +180,7 @@ impl StreamCullStage {
         self.piece = Some(piece);
     }
 
-    /// Takes a piece that came back, and fills it. One that takes another number of items is dropped. Answers whether one
+    /// Takes a returned piece, and fills it. One that takes another number of items is dropped. Returns whether one
     /// came.
     fn take_piece<B: TakeEnd<Piece>>(&mut self, frame: Sending, back: &mut B) -> bool
         requires few { frame.channel < 4 }
@@ -214,7 +214,7 @@ impl StreamCullStage {
         }
     }
 
-    /// Takes the update list of a load into the copy, begins its frame, and holds it with what stood there.
+    /// Takes the update list of a load into the copy, begins its frame, and holds it with the previous nodes.
     fn begin(&mut self, load: Load)
         requires going { self.old.state.ended ≡ false }
         requires bare { self.old.state.held ≡ None }
@@ -231,7 +231,7 @@ impl StreamCullStage {
         self.held = Some(Packet::Frame(load));
     }
 
-    /// Takes a packet and holds what it makes of it, and answers whether one came.
+    /// Takes a packet and holds what it makes of it. Returns whether one came.
     fn take<T: TakeEnd<Packet>, G: Gate>(&mut self, from: &mut T, gate: &G) -> bool
         requires going { self.old.state.ended ≡ false }
         requires bare { self.old.state.held ≡ None }
@@ -262,7 +262,8 @@ impl StreamCullStage {
         }
     }
 
-    /// Takes a piece that came back for the frame that is under way, or a packet where none is; answers whether one came.
+    /// Takes a returned piece for the frame whose pieces are sent, or a packet if there is none. Returns whether one
+    /// came.
     fn take_next<T: TakeEnd<Packet>, B: TakeEnd<Piece>, G: Gate>(
         &mut self,
         from: &mut T,
@@ -297,7 +298,7 @@ impl StreamCullStage {
         }
     }
 
-    /// Sends the piece that it holds, or else takes what comes next; answers whether something moved.
+    /// Sends the piece that it holds, or else takes what comes next. Returns whether something moved.
     fn go_on<T: TakeEnd<Packet>, P: SendEnd<Piece>, B: TakeEnd<Piece>, G: Gate>(
         &mut self,
         from: &mut T,
@@ -334,7 +335,7 @@ impl StreamCullStage {
         }
     }
 
-    /// Sends the packet that it holds, or else goes on with pieces; answers whether something moved.
+    /// Sends the packet that it holds, or else goes on with pieces. Returns whether something moved.
     fn go<S: SendEnd<Packet>, T: TakeEnd<Packet>, P: SendEnd<Piece>, B: TakeEnd<Piece>, G: Gate>(
         &mut self,
         from: &mut T,
@@ -373,22 +374,25 @@ impl StreamCullStage {
         }
     }
 
-    /// The copy of the scene that it culls, with the cache of its boxes.
+    /// Returns the copy of the scene that it culls, with the cache of its boxes.
     pub fn copy(&self) -> &StageCopy
         ensures { result.now ≡ self.now.state.copy }
     {
         &self.copy
     }
 
-    /// Whether it has ended: the End was passed on.
+    /// Returns whether it has ended: the End was passed on.
     pub fn has_ended(&self) -> bool
         ensures { result ≡ self.now.state.ended }
     {
         self.ended
     }
 
-    /// One step: sends the packet or the piece that it holds, or takes a piece that came back and fills it, or takes a packet
+    /// One step: sends the packet or the piece that it holds, or takes a returned piece and fills it, or takes a packet
     /// and holds what it makes of it.
+    ///
+    /// Returns `Did` if a packet or a piece moved, `NotYet` if none could, and `Over` if it has ended or finds the stop
+    /// mark. It returns no error.
     pub fn poll<
         D: Desk<Scene>,
         S: SendEnd<Packet>,
@@ -410,17 +414,17 @@ impl StreamCullStage {
         ensures part { StreamCullPart self.old.lens self.old.limit self.old.state (T.taken from.old) (S.sent to.old) (P.sent pieces.old)
             → StreamCullPart self.new.lens self.new.limit self.new.state (T.taken from.new) (S.sent to.new) (P.sent pieces.new) }
 
-        // It sends and holds as many pieces as came back for its number of items, and each takes that number.
+        // It sends and holds as many pieces as returned for its number of items, and each takes that number.
         ensures own { RefillsPieces self.old.limit self.old.state.piece (B.taken back.old) (P.sent pieces.old)
             → RefillsPieces self.new.limit self.new.state.piece (B.taken back.new) (P.sent pieces.new) }
 
-        // It sends the packet that it holds first, then the piece, and takes a packet only where it holds nothing and no frame is
-        // under way.
+        // It sends the packet that it holds first, then the piece, and takes a packet only if it holds nothing and no
+        // frame's pieces are left to send.
         ensures turn { CullsInTurn
             (moment self.old.state (T.taken from.old) (S.sent to.old) (B.taken back.old) (P.sent pieces.old))
             (moment self.new.state (T.taken from.new) (S.sent to.new) (B.taken back.new) (P.sent pieces.new)) }
 
-        // What its answer says. It is over exactly where the End was passed on or this look found the stop mark.
+        // What it returns. It is over exactly if the End was passed on or this look found the stop mark.
         ensures answer { Answers result
             (moment self.old.state (T.taken from.old) (S.sent to.old) (B.taken back.old) (P.sent pieces.old))
             (moment self.new.state (T.taken from.new) (S.sent to.new) (B.taken back.new) (P.sent pieces.new))

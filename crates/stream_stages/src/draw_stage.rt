@@ -27,12 +27,12 @@ use std::alloc::Global;
 use std::marker::Model;
 use std::thread::Threads;
 
-/// The draw of the streamed draw list: it takes the loads that the cull sends, and for each channel of a load the pieces up
-/// to the one marked `last`, draws their pictures, gives each piece back, and sends the loads back. No poll
-/// answers want of memory: a picture that several processors draw takes some, and is the same without.
+/// The draw of the streamed draw list. It takes the loads that the cull sends, and for each channel of a load the
+/// pieces up to the one marked `last`, draws their pictures, returns each piece, and sends the loads back. A picture
+/// that several processors draw takes memory, and is the same without.
 ///
-/// Contracts see the lens, the background, whether the End was taken, the piece and the packet that it holds, the frame whose
-/// pieces come, and its renderer.
+/// Contracts see the lens, the background, whether the End was taken, the piece and the packet that it holds, the frame
+/// whose pieces come, and its renderer.
 pub struct StreamDrawStage {
     lens: Lens,
     back: [u8; 3],
@@ -76,7 +76,8 @@ impl Model for StreamDrawStage {
 }
 
 impl StreamDrawStage {
-    /// The draw of a lens before a background, which has not begun.
+    /// Returns the draw of a lens before a background of red, green and blue, which has not begun. Returns
+    /// `Err(NoMemory)` if memory runs out.
     pub fn new(alloc: Global, lens: Lens, back: [u8; 3]) -> Result<StreamDrawStage, NoMemory>
         ensures lens { IfOk result (λ d. d.lens ≡ lens) }
         ensures back { IfOk result (λ d. d.back ≡ back) }
@@ -100,7 +101,7 @@ impl StreamDrawStage {
         })
     }
 
-    /// Gives a piece back, or holds it where the link has no room, and answers whether it was given.
+    /// Gives a piece back, or holds it if the link has no room. Returns whether it was given.
     fn give_back<B: SendEnd<Piece>>(&mut self, piece: Piece, back: &mut B) -> bool
         requires bare { self.old.state.spent ≡ None }
         ensures given { IsGivenAsBefore self.old self.new }
@@ -124,7 +125,7 @@ impl StreamDrawStage {
         }
     }
 
-    /// Sends a packet, or holds it where the link has no room, and answers whether it was sent.
+    /// Sends a packet, or holds it if the link has no room. Returns whether it was sent.
     fn send<S: SendEnd<Packet>>(&mut self, packet: Packet, to: &mut S) -> bool
         requires bare { self.old.state.held ≡ None }
         ensures given { IsGivenAsBefore self.old self.new }
@@ -148,7 +149,7 @@ impl StreamDrawStage {
         }
     }
 
-    /// Goes on with a frame: waits for the pieces of its next channel, or holds its load to send where none is left.
+    /// Goes on with a frame: waits for the pieces of its next channel, or holds its load to send if none is left.
     fn go_on(&mut self, frame: Drawing)
         requires bare { self.old.state.held ≡ None }
         requires between { self.old.state.frame ≡ None }
@@ -165,7 +166,7 @@ impl StreamDrawStage {
         self.held = Some(Packet::Frame(frame.finished()));
     }
 
-    /// Takes a piece and draws it, and answers whether one came.
+    /// Takes a piece and draws it. Returns whether one came.
     fn take_piece<R: Threads + Sync, P: TakeEnd<Piece>>(
         &mut self,
         rt: &R,
@@ -203,7 +204,7 @@ impl StreamDrawStage {
         }
     }
 
-    /// Takes a packet and begins its frame, and answers whether one came.
+    /// Takes a packet and begins its frame. Returns whether one came.
     fn take<T: TakeEnd<Packet>, G: Gate>(&mut self, from: &mut T, gate: &G) -> bool
         requires bare { self.old.state.held ≡ None }
         requires between { self.old.state.frame ≡ None }
@@ -232,7 +233,7 @@ impl StreamDrawStage {
         }
     }
 
-    /// Takes a piece of the frame that is under way, or a packet where none is; answers whether one came.
+    /// Takes a piece of the frame that is being drawn, or a packet if there is none. Returns whether one came.
     fn take_next<R: Threads + Sync, T: TakeEnd<Packet>, P: TakeEnd<Piece>, G: Gate>(
         &mut self,
         rt: &R,
@@ -265,7 +266,7 @@ impl StreamDrawStage {
         }
     }
 
-    /// Sends the packet that it holds, or else takes what comes next; answers whether something moved.
+    /// Sends the packet that it holds, or else takes what comes next. Returns whether something moved.
     fn go_forward<
         R: Threads + Sync,
         S: SendEnd<Packet>,
@@ -301,7 +302,7 @@ impl StreamDrawStage {
         }
     }
 
-    /// Gives the piece that it holds back, or else goes forward; answers whether something moved.
+    /// Gives the piece that it holds back, or else goes forward. Returns whether something moved.
     fn go<
         R: Threads + Sync,
         S: SendEnd<Packet>,
@@ -340,15 +341,18 @@ impl StreamDrawStage {
         }
     }
 
-    /// Whether it has ended: the End was taken.
+    /// Returns whether it has ended: the End was taken.
     pub fn has_ended(&self) -> bool
         ensures { result ≡ self.now.state.ended }
     {
         self.ended
     }
 
-    /// One step: gives back the piece or sends the packet that it holds, or takes a piece of the frame that is under way and
-    /// draws it, or takes a packet.
+    /// One step: gives back the piece or sends the packet that it holds, or takes a piece of the frame that is being
+    /// drawn and draws it, or takes a packet.
+    ///
+    /// Returns `Did` if a packet or a piece moved, `NotYet` if none could, and `Over` if it has ended or finds the stop
+    /// mark. It returns no error.
     pub fn poll<
         R: Threads + Sync,
         D: Desk<Scene>,
@@ -375,13 +379,13 @@ impl StreamDrawStage {
             → StreamDrawPart self.new.lens self.new.back first self.new.state (T.taken from.new) (S.sent to.new) (P.taken pieces.new)
             (B.sent back.new) }
 
-        // It gives the piece back that it holds first, then it sends the packet, and takes a packet only where it holds nothing
-        // and no frame is under way.
+        // It gives the piece back that it holds first, then it sends the packet, and takes a packet only if it holds
+        // nothing and no frame is being drawn.
         ensures turn { DrawsInTurn
             (moment self.old.state (T.taken from.old) (S.sent to.old) (P.taken pieces.old) (B.sent back.old))
             (moment self.new.state (T.taken from.new) (S.sent to.new) (P.taken pieces.new) (B.sent back.new)) }
 
-        // What its answer says. It is over exactly where the End was taken or this look found the stop mark.
+        // What it returns. It is over exactly if the End was taken or this look found the stop mark.
         ensures answer { Answers result
             (moment self.old.state (T.taken from.old) (S.sent to.old) (P.taken pieces.old) (B.sent back.old))
             (moment self.new.state (T.taken from.new) (S.sent to.new) (P.taken pieces.new) (B.sent back.new))

@@ -28,14 +28,14 @@ pub(crate) struct Drawing {
     pub(crate) stats: Stats,
 }
 
-/// The number of channels of a load that pieces are sent for: one for each view, four at most.
+/// Returns the number of channels of a load that pieces are sent for: one for each view, four at most.
 pub(crate) fn channels_of(load: &Load) -> usize
     ensures { result ≡ channels_of load.now }
 {
     load.cut().views.len().min(4)
 }
 
-/// The numbers of two channels, added; each stands still at the greatest value of its type.
+/// Returns the numbers of two channels, added; each sum saturates at the greatest value of its type.
 fn added(a: Stats, b: Stats) -> Stats
     ensures { result ≡ added a b }
 {
@@ -58,7 +58,7 @@ impl Drawing {
         }
     }
 
-    /// Whether some channel is still to come.
+    /// Returns whether some channel is still to come.
     pub(crate) fn has_channels(&self) -> bool
         ensures more { result ≡ true → self.now.channel < channels_of self.now.load }
         ensures over { result ≡ false → channels_of self.now.load ≤ self.now.channel }
@@ -77,8 +77,8 @@ impl Drawing {
     }
 }
 
-/// Ends a channel of a frame: puts the picture of all its pieces into its image, where this has the lens's size, and goes on
-/// to the next channel.
+/// Ends a channel of a frame: puts the picture of all its pieces into its image, if this has the lens's size, and goes
+/// on to the next channel.
 fn end_channel<R: Threads + Sync>(
     rt: &R,
     raster: &mut PieceRaster,

@@ -6,7 +6,7 @@ ghost use Rattle.stream_stages.specs.Sending.{laid};
 use draw_list::DrawList;
 use pf_model::{Kind, NodeView, Pose};
 
-/// The joint of a node's children, which a coordinate system appends; none where it has no room.
+/// Returns the joint of a node's children, which a coordinate system appends, or `None` if there is no room for it.
 pub(crate) fn lower(kind: &Kind, joint: u32, out: &mut DrawList) -> Option<u32>
     requires { joint < length out.old.joints.lists }
     ensures joint { result ≡ joint_below joint out.old (own_pose kind.now) }
@@ -32,8 +32,8 @@ fn pose_of(kind: &Kind) -> Option<Pose>
     }
 }
 
-/// Appends the joints of the coordinate systems among these nodes, the outermost first, above the joint 0, and answers the
-/// last one; None where one finds no room or a node is not there.
+/// Appends the joints of the coordinate systems among these nodes, the outermost first, above the joint 0. Returns the
+/// last one, or `None` if one finds no room or a node is not there.
 pub(crate) fn lay<V: NodeView>(scene: &V, ids: &[u16], out: &mut DrawList) -> Option<u32>
     requires { 0 < length out.old.joints.lists }
     ensures joint { result ≡ (laid (V.look scene.now) ids.now 0 out.old).joint }

@@ -1,4 +1,4 @@
-//! Laws of pieces: functions that do nothing, whose contracts are the laws.
+//! Laws of pieces, each the contract of a call that does nothing.
 ghost use Rattle.std.specs.Prelude.{◌≡◌, ℕ, ◌≤◌, true, List, [], ◌∷◌, ◌++◌, map, length};
 ghost use Rattle.std.specs.List.{AllByRecursion};
 ghost use Rattle.fx_math.specs.declared.lenses.Lens.{Lens};
@@ -19,7 +19,7 @@ use cull_walk::laws::{
 };
 
 /// The law of right pieces. However what is shown is cut, the picture of the joined pieces is that of the draw list and
-/// that of the whole walk; they have as many instances as are shown, and their glass is drawn piece by piece as that of
+/// that of the whole walk. They have as many instances as are shown, and their glass is drawn piece by piece as that of
 /// all of them. Put in the order in which they are drawn, they are the draw list.
 pub fn right_pieces_keep_the_picture()
     ensures list { (look : Look) → (time : ℕ) → (v : Viewpoint) → (lens : Lens) → (n : ℕ) → (ps : List PieceParts)
@@ -38,8 +38,8 @@ pub fn right_pieces_keep_the_picture()
     shown_instances_are_those_in_sight();
 }
 
-/// Piece by piece a walk sends the front of what it has to send: each piece takes its items from the front of what is to
-/// come. Once nothing is to come, and the last piece alone has the mark, the pieces are right.
+/// Piece by piece a walk sends a prefix of what it has to send: each piece has the first items of what is to come. Once
+/// nothing is to come, and the last piece alone has the mark, the pieces are right.
 pub fn pieces_one_after_the_other_are_right()
     ensures first { (all : List Instance) → AreSentOf all [] all }
     ensures next { (all rest more : List Instance) → (ps : List PieceParts) → (p : PieceParts)
@@ -49,16 +49,16 @@ pub fn pieces_one_after_the_other_are_right()
         → AreSentOf (map unnamed (in_sending_order xs)) ps [] → ArePiecesOf n xs ps }
 {}
 
-/// A draw list made of instances draws them, but for their ids; what is shown may be made into one.
+/// A draw list made of instances draws them, except for their ids; what is shown may be made into one.
 pub fn woven_lists_draw_their_instances()
     ensures instances { (xs : List Instance) → AllByRecursion IsFarAsGlass xs → instances_in (woven xs) ≡ map unnamed xs }
     ensures shown { (look : Look) → (time : ℕ) → (v : Viewpoint) → (lens : Lens)
         → AllByRecursion IsFarAsGlass (shown look time v lens) }
 {}
 
-/// Where the cull and the draw of a stream keep their parts behind an application whose part is kept, an ordinary cull and
-/// an ordinary draw may have received the first packets that the application sent, and sent what came back to it. So what
-/// is known of an ordinary pipe holds of one whose draw lists are streamed.
+/// Let the cull and the draw of a stream keep their parts behind an application whose part is kept. Then an ordinary
+/// cull and an ordinary draw may have received the first packets that the application sent, and sent what returned to
+/// it. So what is known of an ordinary pipe holds of one whose draw lists are streamed.
 pub fn streamed_frames_are_whole_ones()
     ensures { WholeFramesLaw }
 {

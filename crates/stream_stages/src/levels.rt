@@ -5,8 +5,8 @@ ghost use Rattle.stream_stages.specs.Routes.{next_child, first_place, last_place
 
 use pf_model::{Chosen, Kind, NodeView};
 
-/// A node on the way: its id, the joint of its children's coordinates, how much nearer it is drawn, and the places of the
-/// children that are still to be visited, from the first to before the last.
+/// A node on the way: its id, the joint of its children's coordinates, how much nearer it is drawn, and the places of
+/// the children that are still to be visited, from the first to before the last.
 #[derive(Clone, Copy, Debug)]
 pub(crate) struct Level {
     pub(crate) id: u16,
@@ -16,7 +16,7 @@ pub(crate) struct Level {
     pub(crate) to: usize,
 }
 
-/// The next child of a level, and how much nearer it is drawn; None where the level is done.
+/// Returns the next child of a level, and how much nearer it is drawn, or `None` if the level is done.
 pub(crate) fn next_child<V: NodeView>(scene: &V, level: &Level) -> Option<(u16, u32)>
     ensures child { result ≡ next_child (V.look scene.now) level.now }
     ensures more { IfSome result (λ _. level.now.from < level.now.to) }

@@ -1,5 +1,5 @@
-//! The streamed draw list: the walk that sends what is in sight in pieces, the law by which right pieces keep the picture,
-//! and its stages, each one poll at a time: the cull, which sends the pieces, and the draw, which draws piece by piece.
+//! The streamed draw list: the walk that sends what is in sight in pieces, and the law by which right pieces keep the
+//! picture. Its stages, each one poll at a time, are the cull, which sends the pieces, and the draw, which draws them.
 #![tactic(auto)]
 
 mod cull_stage;

@@ -1,4 +1,4 @@
-//! The walk of a scene under way.
+//! The state of a walk of a scene.
 ghost use Rattle.std.specs.Prelude.{◌≡◌, ℕ, ◌+◌, ◌<◌, ◌≤◌, false, length};
 ghost use Rattle.std.specs.Option.{option_map};
 ghost use Rattle.std.specs.Vec.{vec_len, vec_capacity};
@@ -35,9 +35,9 @@ pub(crate) struct Sight {
     pub(crate) lens: Lens,
 }
 
-/// How far a walk is: whether the scene itself is still to be visited, the levels on the way, what was seen (joints, and
-/// items without triangles), how many nodes were visited, the opaque instance that waits for room, the glass that waits,
-/// and how much of it was sent once it is in the order in which it is drawn.
+/// How far a walk is: whether the scene itself is still to be visited, the levels on the way, what was seen (joints,
+/// and items without triangles), and how many nodes were visited. Also the opaque instance that waits for room, the
+/// glass that waits, and how much of it was sent once it is in the order in which it is drawn.
 #[derive(Drop)]
 pub(crate) struct Route {
     pub(crate) fresh: bool,
@@ -49,7 +49,7 @@ pub(crate) struct Route {
     pub(crate) sent: Option<usize>,
 }
 
-/// Where a node stands: its id, the joint of the coordinates above it, and how much nearer it is drawn.
+/// Where a node is: its id, the joint of the coordinates above it, and how much nearer it is drawn.
 #[derive(Clone, Copy)]
 pub(crate) struct Spot {
     pub(crate) id: u16,
@@ -57,7 +57,7 @@ pub(crate) struct Spot {
     pub(crate) shift: u32,
 }
 
-/// Visits a node: where it is in sight, a geode waits to be sent, and of any other node the children are visited next.
+/// Visits a node. If it is in sight, a geode waits to be sent, and of any other node the children are visited next.
 pub(crate) fn visit<V: SceneView, L: Ledger>(
     scene: &V,
     sight: &Sight,
@@ -88,7 +88,7 @@ pub(crate) fn visit<V: SceneView, L: Ledger>(
     }
 }
 
-/// The box of a node in eye coordinates, where it has one that is not outside.
+/// Returns the box of a node in eye coordinates, if it has one that is not outside.
 fn box_in_sight<V: SceneView>(scene: &V, lens: &Lens, spot: Spot, seen: &DrawList) -> Option<Box3>
     requires { spot.joint < length seen.now.joints.lists }
     ensures { option_map bounds_of result
@@ -103,7 +103,7 @@ fn box_in_sight<V: SceneView>(scene: &V, lens: &Lens, spot: Spot, seen: &DrawLis
     }
 }
 
-/// Numbers a geode in sight; it waits to be sent. Where it finds no room it is left out.
+/// Numbers a geode in sight; it waits to be sent. If it finds no room it is left out.
 fn find(spot: Spot, around: &Box3, surface: &Surface<'_>, route: &mut Route)
     requires sound { IsRoute route.old }
     requires joint { spot.joint < length route.old.seen.joints.lists }
@@ -138,7 +138,7 @@ fn find(spot: Spot, around: &Box3, surface: &Surface<'_>, route: &mut Route)
     }
 }
 
-/// Appends glass where it has room.
+/// Appends glass if it has room.
 fn keep_glass(glass: &mut Vec<Sighting>, found: Sighting)
     requires few { vec_len glass.old ≤ 131072 }
     requires room { 131072 ≤ vec_capacity glass.old }
@@ -165,7 +165,7 @@ fn tint(alpha: Option<u8>, around: &Box3) -> Option<Tint>
     }
 }
 
-/// Puts a node in sight on the way, so that its children are visited next; not where there are 31 levels already, or its
+/// Puts a node in sight on the way, so that its children are visited next; not if there are 31 levels already, or its
 /// joint finds no room.
 fn enter(sight: &Sight, spot: Spot, node: &Node, route: &mut Route)
     requires sound { IsRoute route.old }
@@ -193,7 +193,7 @@ fn enter(sight: &Sight, spot: Spot, node: &Node, route: &mut Route)
     });
 }
 
-/// Goes on: to the next node, or out of a level that is done. False once nothing is left to visit.
+/// Goes on: to the next node, or out of a level that is done. Returns false once nothing is left to visit.
 pub(crate) fn step<V: SceneView, L: Ledger>(
     scene: &V,
     sight: &Sight,

@@ -19,7 +19,7 @@ use update_lists::{Cut, Views};
 /// The most channels that pieces are sent for.
 const CHANNELS: usize = 4;
 
-/// A frame whose pieces are sent: its number, the views of its first four channels, and the channel whose list is under way.
+/// A frame whose pieces are sent: its number, the views of its first four channels, and the channel whose list is sent.
 #[derive(Drop)]
 pub(crate) struct Sending {
     pub(crate) time: u32,
@@ -27,7 +27,7 @@ pub(crate) struct Sending {
     pub(crate) channel: usize,
 }
 
-/// The view of a channel, or none where there is no such channel.
+/// Returns the view of a channel, or `None` if there is no such channel.
 fn view_at(views: &Views, channel: usize) -> Option<View>
     ensures { result ≡ slice_get views.now channel }
 {
@@ -54,7 +54,7 @@ impl Sending {
         }
     }
 
-    /// The view of the channel whose list is under way, none where no channel is left.
+    /// Returns the view of the channel whose list is sent, or `None` if no channel is left.
     fn view(&self) -> Option<View>
         ensures few { IfSome result (λ _. self.now.channel < 4) }
         ensures value { self.now.channel < 4 → result ≡ slice_index_or self.now.views self.now.channel None }
@@ -66,7 +66,7 @@ impl Sending {
     }
 }
 
-/// Takes the update list of a load into the copy, and puts in its place what stood there.
+/// Takes the update list of a load into the copy, and puts the previous nodes in its place.
 pub(crate) fn take_updates(copy: &mut StageCopy, load: &mut Load)
     ensures { TakesUpdates copy.old copy.new load.old load.new }
 {
@@ -74,7 +74,7 @@ pub(crate) fn take_updates(copy: &mut StageCopy, load: &mut Load)
     load.set_updates(stood);
 }
 
-/// Begins the list of the channel of a frame, and hands the frame back; none where no channel is left.
+/// Begins the list of the channel of a frame. Returns the frame, or `None` if no channel is left.
 pub(crate) fn begin_channel(walk: &mut StreamWalk, lens: &Lens, frame: Sending) -> Option<Sending>
     ensures few { IfSome result (λ s. s.channel < 4) }
     ensures pieces { (limit : ℕ) → (copy : CopyState) → (loads : List LoadState) → (lists : PieceLists)
@@ -99,12 +99,12 @@ fn fill_counted<L: Ledger>(blank: Blank, copy: &StageCopy, walk: &mut StreamWalk
 {
     let mut steps = Steps::<L>::new(blank);
     walk.fill(copy, piece, &mut steps);
-    // The piece tells that it has no more items than it takes.
+    // This call's clause says that the piece has no more items than it takes.
     let _ = piece.list();
 }
 
-/// Fills a piece with what is sent next of a frame, and goes on to the next channel behind the last piece of a list. It hands
-/// the frame back, none where no channel is left.
+/// Fills a piece with what is sent next of a frame, and goes on to the next channel behind the last piece of a list.
+/// Returns the frame, or `None` if no channel is left.
 pub(crate) fn fill_piece(
     copy: &StageCopy,
     walk: &mut StreamWalk,

@@ -7,8 +7,9 @@ use crate::sightings::Sighting;
 use draw_list::{DrawList, Item};
 use pf_model::NodeView;
 
-/// Appends an instance that waits to the list of a piece, with its triangles and joints. False where the list has items
-/// and no room for the triangles; then nothing is changed. Elsewhere it is done with, also where it is left out.
+/// Appends an instance that waits to the list of a piece, with its triangles and joints. Returns false if the list has
+/// items and no room for the triangles; then nothing is changed. Else the instance is done with, also if it is left
+/// out.
 pub(crate) fn send<V: NodeView>(scene: &V, waiting: &Sighting, out: &mut DrawList) -> bool
     requires { 0 < length out.old.joints.lists }
     ensures done { result ≡ (sent_to (V.look scene.now) waiting.now out.old).done }

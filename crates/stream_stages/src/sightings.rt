@@ -8,7 +8,7 @@ use draw_list::Tint;
 /// The most nodes above an instance.
 const DEEPEST: usize = 32;
 
-/// An instance that waits to be sent: the id of its geode, its state, its tint where it is glass, how much nearer it is
+/// An instance that waits to be sent: the id of its geode, its state, its tint if it is glass, how much nearer it is
 /// drawn, its place, and the ids of the nodes above it, the outermost first.
 #[derive(Clone, Copy, Debug)]
 pub(crate) struct Sighting {
@@ -21,7 +21,7 @@ pub(crate) struct Sighting {
     pub(crate) depth: u32,
 }
 
-/// The ids of the levels on the way, the outermost first, and zeros.
+/// Returns the ids of the levels on the way, the outermost first, and zeros behind them.
 pub(crate) fn ids_on(way: &[Level]) -> [u16; 32]
     requires { length way.now ≤ 32 }
     ensures { result ≡ padded (map (λ l. l.id) way.now) }
@@ -36,7 +36,7 @@ pub(crate) fn ids_on(way: &[Level]) -> [u16; 32]
 }
 
 impl Sighting {
-    /// The ids of the nodes above, the outermost first.
+    /// Returns the ids of the nodes above, the outermost first.
     pub(crate) fn above(&self) -> &[u16]
         ensures { result.now ≡ nodes_above self.now }
     {

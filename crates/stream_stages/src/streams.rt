@@ -14,6 +14,7 @@ ghost use Rattle.stream_stages.specs.Pieces.{in_sending_order};
 ghost use Rattle.stream_stages.specs.Routes.{to_come, stops_ahead, scene_of};
 ghost use Rattle.stream_stages.specs.Underway.{IsRoute, IsStreamable, IsUnderway, numbers_of, HasBegun, walking_of, sight_of};
 ghost use Rattle.stream_stages.specs.Filled.{HasSameRoom, CanPass, Passes, CountsTests, IsOver, IsFilled, IsOneWalk, sent_to_there};
+ghost use Rattle.stream_stages.specs.Fills.{Filling, walk_turn, glass_turn, EndsIn, Fills, filling_anew, numbers_so_far};
 
 use crate::glasses::put_in_order;
 use crate::pieces::Piece;
@@ -57,7 +58,7 @@ impl Model for StreamWalk {
 }
 
 impl StreamWalk {
-    /// A walk that has nothing to send.
+    /// Returns a walk that has nothing to send. Returns `Err(NoMemory)` if memory runs out.
     pub fn new(alloc: Global) -> Result<StreamWalk, NoMemory>
         ensures { IfOk result (λ w. (w.fresh ≡ false) × (w.way ≡ []) × (w.held ≡ None) × (w.glass ≡ [])) }
     {
@@ -89,8 +90,10 @@ impl StreamWalk {
         })
     }
 
-    /// Begins the walk of a frame at a time, for a view and through a lens. What was to be sent of the walk before is given
-    /// up. Of a graph within the limits with the boxes of the definition, the whole sending order of what is shown is to
+    /// Begins the walk of frame `time`, for a view and through a lens. What was to be sent of the walk before is given
+    /// up.
+    ///
+    /// Of a graph within the limits with the boxes of the definition, the whole sending order of what is shown is to
     /// come, with its numbers, and as many box tests as nodes are visited.
     pub fn start(&mut self, time: u32, view: &View, lens: &Lens)
         ensures time { self.new.time ≡ time }
@@ -115,17 +118,21 @@ impl StreamWalk {
 
     /// Fills a piece with what is sent next. A piece that is not the last one is full: it has as many items as it takes, or
     /// it has items and the triangles of what is sent next find no room in it. The last one has the numbers of the whole
-    /// walk; more is not asked of a walk that has given it.
+    /// walk, any other one those so far; more is not asked of a walk that has given the last one.
     ///
     /// The clauses that name `IsUnderway` are of the walk of a scene that goes on from `start`, where the same scene is given
-    /// each time. On every scene it goes no deeper than 32 nodes, the children of 31 nodes on the way, leaves out what finds
-    /// no room, and makes a box test for each node that it counts.
+    /// each time. On every scene `walk` says what the fill does, turn by turn. It goes no deeper than 32 nodes, the children
+    /// of 31 nodes on the way, leaves out what finds no room, and makes a box test for each node that it counts.
     pub fn fill<V: SceneView, L: Ledger>(
         &mut self,
         scene: &V,
         out: &mut Piece,
         steps: &mut Steps<L>,
     )
+        ensures walk { let s : Scene = scene_of (V.look scene.now) (V.boxes scene.now) self.old in
+            let there : Filling = record { walk = self.new; list = out.new.list; tests = steps.new } in
+            Fills s out.old.limit (filling_anew self.old out.old.list steps.old) out.new.last there }
+        ensures so_far { out.new.stats ≡ numbers_so_far self.new }
         ensures limit { out.new.limit ≡ out.old.limit }
         ensures same { IsOneWalk self.old self.new }
         ensures levels { length self.new.way ≤ 31 }
@@ -178,8 +185,8 @@ fn begin(view: &View, route: &mut Route)
     route.sent = None;
 }
 
-/// Passes what is sent next into a list, until it has so many items, or the next one has no room. True once nothing is
-/// left to send.
+/// Passes what is sent next into a list, until it has `most` items, or the next one has no room. Returns true once
+/// nothing is left to send.
 fn pass<V: SceneView, L: Ledger>(
     scene: &V,
     sight: &Sight,
@@ -192,6 +199,10 @@ fn pass<V: SceneView, L: Ledger>(
     requires joint { 0 < length list.old.joints.lists }
     requires few { length list.old.items.items ≤ most }
     ensures sound { IsRoute route.new }
+    ensures fills { let s : Scene = sight_of (V.look scene.now) (V.boxes scene.now) sight.now in
+        let before : Filling = record { walk = walking_of sight.now route.old; list = list.old; tests = steps.old } in
+        let after : Filling = record { walk = walking_of sight.now route.new; list = list.new; tests = steps.new } in
+        Fills s most before result after }
     ensures room { HasSameRoom list.old list.new }
     ensures few { length list.new.items.items ≤ most }
     ensures visits { CountsTests (walking_of sight.now route.old) (walking_of sight.now route.new) steps.old steps.new }
@@ -217,8 +228,8 @@ fn pass<V: SceneView, L: Ledger>(
     }
 }
 
-/// Passes opaque instances into a list as they are found, until it has so many items, or the next one has no room. True
-/// once nothing is left to visit.
+/// Passes opaque instances into a list as they are found, until it has `most` items, or the next one has no room.
+/// Returns true once nothing is left to visit.
 fn pass_opaque<V: SceneView, L: Ledger>(
     scene: &V,
     sight: &Sight,
@@ -231,6 +242,10 @@ fn pass_opaque<V: SceneView, L: Ledger>(
     requires joint { 0 < length list.old.joints.lists }
     requires few { length list.old.items.items ≤ most }
     ensures sound { IsRoute route.new }
+    ensures turns { let s : Scene = sight_of (V.look scene.now) (V.boxes scene.now) sight.now in
+        let before : Filling = record { walk = walking_of sight.now route.old; list = list.old; tests = steps.old } in
+        let after : Filling = record { walk = walking_of sight.now route.new; list = list.new; tests = steps.new } in
+        EndsIn (walk_turn s most) before result after }
     ensures joint { 0 < length list.new.joints.lists }
     ensures room { HasSameRoom list.old list.new }
     ensures few { length list.new.items.items ≤ most }
@@ -265,8 +280,8 @@ fn pass_opaque<V: SceneView, L: Ledger>(
     false
 }
 
-/// Passes glass into a list from a place on, in its order, until the list has so many items, or the next one has no room.
-/// True once no glass is left.
+/// Passes glass into a list from a place on, in its order, until the list has `most` items, or the next one has no
+/// room. Returns true once no glass is left.
 fn pass_glass<V: NodeView>(
     scene: &V,
     from: usize,
@@ -281,6 +296,10 @@ fn pass_glass<V: NodeView>(
     ensures sound { IsRoute route.new }
     ensures room { HasSameRoom list.old list.new }
     ensures few { length list.new.items.items ≤ most }
+    ensures turns { (a : Sight) → (t : ℕ)
+        → let before : Filling = record { walk = sent_to_there (walking_of a route.old) from; list = list.old; tests = t } in
+        let after : Filling = record { walk = walking_of a route.new; list = list.new; tests = t } in
+        EndsIn (glass_turn (V.look scene.now) most) before result after }
     ensures visited { route.new.visited ≡ route.old.visited }
     ensures passes { (s : Scene) → (a : Sight) → (t : ℕ) → s.look ≡ V.look scene.now
         → CanPass s most (sent_to_there (walking_of a route.old) from) list.old
@@ -306,14 +325,14 @@ fn pass_glass<V: NodeView>(
     false
 }
 
-/// The glass at a place, none past the end.
+/// Returns the glass at a place, or `None` past the end.
 fn waiting_at(glass: &[Sighting], place: usize) -> Option<&Sighting>
     ensures { option_copied result ≡ slice_get glass.now place }
 {
     glass.get(place)
 }
 
-/// The numbers of a walk so far.
+/// Returns the numbers of a walk so far.
 fn numbers(route: &Route) -> Stats
     ensures shown { result.shown ≡ length route.now.seen.items.items }
     ensures states { result.states ≡ state_count (instances_in route.now.seen) }

@@ -4,6 +4,7 @@ use Rattle.stream_stages.specs.declared.routes.Route.{Route}
 use Rattle.stream_stages.specs.declared.routes.Sight.{Sight}
 use Rattle.stream_stages.specs.Underway.{sight_of, walking_of}
 use Rattle.stream_stages.specs.Filled.{Passes, sent_to_there}
+use Rattle.stream_stages.proofs.FillTurns.{fills_glass, fills_walk, fills_both}
 use Rattle.stream_stages.proofs.Visits.{counts_kept}
 use Rattle.stream_stages.proofs.Passing.{passes_both}
 use Rattle.stream_stages.proofs.PassLaws.{pass_from, can_from, pass_ordered, nothing_ahead}
@@ -83,3 +84,22 @@ returns-else-not-pass_opaque-clause-visits g c =
     let a : Sight = c.args.sight.now in
     counts_kept (walking_of a c.args.route.now) (walking_of a c.pass_opaque.new.route) (walking_of a c.pass_glass-in-None.new.route) c.args.steps.now c.pass_opaque.new.steps
     c.pass_opaque.ensures.visits c.pass_glass-in-None.ensures.visited
+
+pub returns-in-Some-clause-fills : goal.returns-in-Some-clause-fills
+returns-in-Some-clause-fills g c =
+    let s : Scene = sight_of (g.V.NodeView.look c.args.scene.now) (g.V.SceneView.boxes c.args.scene.now) c.args.sight.now in
+    let is : c.args.route.now.sent ≡ Some c.in-Some.sent = search rules in
+    fills_glass s c.args.most c.args.sight.now c.args.route.now c.in-Some.sent c.args.list.now c.args.steps.now c.pass_glass.result _ is (c.pass_glass.ensures.turns c.args.sight.now c.args.steps.now)
+
+pub returns-then-not-pass_opaque-clause-fills : goal.returns-then-not-pass_opaque-clause-fills
+returns-then-not-pass_opaque-clause-fills g c =
+    let s : Scene = sight_of (g.V.NodeView.look c.args.scene.now) (g.V.SceneView.boxes c.args.scene.now) c.args.sight.now in
+    let none : c.args.route.now.sent ≡ None = search rules in
+    fills_walk s c.args.most c.args.sight.now c.args.route.now c.args.list.now c.args.steps.now _ none c.if-not-pass_opaque.ensures.turns
+
+pub returns-else-not-pass_opaque-clause-fills : goal.returns-else-not-pass_opaque-clause-fills
+returns-else-not-pass_opaque-clause-fills g c =
+    let s : Scene = sight_of (g.V.NodeView.look c.args.scene.now) (g.V.SceneView.boxes c.args.scene.now) c.args.sight.now in
+    let none : c.args.route.now.sent ≡ None = search rules in
+    fills_both s c.args.most c.args.sight.now c.args.route.now c.pass_opaque.new.route (record c.pass_opaque.new.route { glass = c.put_in_order.new.glass }) c.args.list.now c.pass_opaque.new.list c.args.steps.now c.pass_opaque.new.steps c.pass_glass-in-None.result _ none
+    c.if-not-pass_opaque.ensures.turns refl c.put_in_order.ensures.permutation c.put_in_order.ensures.sorted (c.pass_glass-in-None.ensures.turns c.args.sight.now c.pass_opaque.new.steps)

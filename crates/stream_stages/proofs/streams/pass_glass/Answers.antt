@@ -1,7 +1,8 @@
-use Rattle.std.proofs.Common.{◌≡◌, ◌∙◌, ◌+◌, ◌<◌, length, Some, None, List, ap, sym, refl, arith}
+use Rattle.std.proofs.Common.{◌≡◌, ◌∙◌, ◌+◌, ◌<◌, true, false, length, Some, None, List, ap, sym, refl, arith}
 use Rattle.std.specs.Prelude.{slice_get}
 use Rattle.stream_stages.specs.declared.routes.Route.{Route}
 use Rattle.stream_stages.specs.declared.sightings.Sighting.{Sighting}
+use Rattle.stream_stages.proofs.FillTurns.{glass_left, glass_none, glass_many, of_route}
 use Rattle.stream_stages.proofs.PassLaws.{got_below, glazing_next, glazing_full, glazing_passes, glazing_over}
 use Rattle.stream_stages.proofs.streams.pass_glass.Goals as goal
 
@@ -58,3 +59,31 @@ returns-then-not-send-clause-visited g c = ap (λ (u : Route). u.visited) c.loop
 
 pub returns-clause-visited : goal.returns-clause-visited
 returns-clause-visited g c = ap (λ (u : Route). u.visited) c.loop-route.invariant.same
+
+pub returns-then-not-send-clause-turns : goal.returns-then-not-send-clause-turns
+returns-then-not-send-clause-turns g c = λ a t.
+    let r : Route = c.args.route.now in
+    let got : slice_get c.loop-route.route.glass.items c.loop-route.sent ≡ Some c.in-Some.waiting.now = ap (λ (xs : List Sighting). slice_get xs c.loop-route.sent) (sym c.as_slice.ensures.value) ∙ sym c.in-Some.ensures in
+    let at : slice_get r.glass.items c.loop-route.sent ≡ Some c.in-Some.waiting.now = ap (λ (u : Route). slice_get u.glass.items c.loop-route.sent) (sym c.loop-route.invariant.same) ∙ got in
+    let look = g.V.NodeView.look c.args.scene.now in
+    of_route look c.args.most a r c.loop-route.route c.loop-route.sent _ c.send.new.out t false c.loop-route.invariant.same
+    (glass_left look c.args.most a r c.args.from c.loop-route.sent c.args.list.now c.loop-route.list c.send.new.out t c.in-Some.waiting.now (c.loop-route.invariant.turns a t) at
+    (omega (arith, c.loop-route-test.true, c.len.ensures.value)) c.send.ensures.list (sym c.if-not-send.ensures.done))
+
+pub returns-in_default-clause-turns : goal.returns-in_default-clause-turns
+returns-in_default-clause-turns g c = λ a t.
+    let r : Route = c.args.route.now in
+    let at : slice_get r.glass.items c.loop-route.sent ≡ None =
+    ap (λ (u : Route). slice_get u.glass.items c.loop-route.sent) (sym c.loop-route.invariant.same) ∙ ap (λ (xs : List Sighting). slice_get xs c.loop-route.sent) (sym c.as_slice.ensures.value) ∙ sym c.in_default.ensures in
+    let look = g.V.NodeView.look c.args.scene.now in
+    of_route look c.args.most a r c.loop-route.route c.loop-route.sent _ c.loop-route.list t true c.loop-route.invariant.same
+    (glass_none look c.args.most a r c.args.from c.loop-route.sent c.args.list.now c.loop-route.list t (c.loop-route.invariant.turns a t) at
+    (omega (arith, c.loop-route-test.true, c.len.ensures.value)))
+
+pub returns-clause-turns : goal.returns-clause-turns
+returns-clause-turns g c = λ a t.
+    let r : Route = c.args.route.now in
+    let look = g.V.NodeView.look c.args.scene.now in
+    of_route look c.args.most a r c.loop-route.route c.loop-route.sent _ c.loop-route.list t false c.loop-route.invariant.same
+    (glass_many look c.args.most a r c.args.from c.loop-route.sent c.args.list.now c.loop-route.list t (c.loop-route.invariant.turns a t)
+    (omega (arith, c.loop-route-test.false, c.len.ensures.value)))
