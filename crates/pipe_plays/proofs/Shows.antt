@@ -31,7 +31,7 @@ use Rattle.pipe_plays.specs.Played.{AddsFront}
 use Rattle.pipe_plays.specs.Laws.{ShownLaw, IsLeft, LeavesLaw, NothingLaw, FreedLaw}
 use Rattle.pipe_plays.proofs.Ranges.{asked_right, merges_right, log_right}
 
-counted : (play : Script) (ahead : ℕ) (seats : Seats) (s : PipeState) → FitsItsPlay play ahead seats s → IsCounted (setup_of play ahead) seats s
+pub counted : (play : Script) (ahead : ℕ) (seats : Seats) (s : PipeState) → FitsItsPlay play ahead seats s → IsCounted (setup_of play ahead) seats s
 counted play ahead seats s fits = counting_law (setup_of play ahead) play.dbase seats s fits
 
 in_range : (play : Script) (ahead : ℕ) (seats : Seats) (s : PipeState) → CanRun play ahead → FitsItsPlay play ahead seats s → HasEditsInRange s.log
@@ -41,7 +41,7 @@ in_range play ahead seats s can fits =
     follows.follows_app follows.follows_dbase
     (asked_right play.channels 0 false play.app can.is_play.app_steps) (merges_right 0 [] play.dbase refl can.is_play.base_steps)
 
-pictures_shown : CullingKeepsPictures → (play : Script) (ahead : ℕ) (seats : Seats) (s : PipeState) → CanRun play ahead → FitsItsPlay play ahead seats s →
+pub pictures_shown : CullingKeepsPictures → (play : Script) (ahead : ℕ) (seats : Seats) (s : PipeState) → CanRun play ahead → FitsItsPlay play ahead seats s →
     HasPictures (setup_of play ahead) s
 pictures_shown culling play ahead seats s can fits =
     stream_law culling (setup_of play ahead) play.dbase seats s can.is_play.most_channels fits (in_range play ahead seats s can fits)

@@ -66,7 +66,9 @@ LeavesLaw =
 
 -- for want of memory before a play was begun it leaves no entries, no bytes and no numbers, as its pipe has none then
 abbrev pub NothingLaw : Type 0
-NothingLaw = (play : Script) (ahead : ℕ) (seats : Seats) (bytes : Option (List ℕ)) → LeavesPipe play ahead seats ends.NoMemory [] [] bytes bytes
+NothingLaw =
+    (play : Script) (ahead : ℕ) (seats : Seats) (bytes : Option (List ℕ)) →
+    LeavesPipe play ahead seats ends.NoMemory [] [] bytes bytes
 
 -- A serial that a Sync of r replied stands in no frame after the first r ones, and the pictures of these were wholly
 -- written.

@@ -1,3 +1,5 @@
 pub mod Plays
 pub mod Played
 pub mod Laws
+pub mod Orders
+pub mod CaughtUp

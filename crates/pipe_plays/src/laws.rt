@@ -1,5 +1,7 @@
 //! Laws of a pipe that fits its play, whatever its seats, each the contract of a call that does nothing.
 ghost use Rattle.pipe_plays.specs.Laws.{ShownLaw, FreedLaw, LeavesLaw, NothingLaw};
+ghost use Rattle.pipe_plays.specs.Orders.{OrderLaw};
+ghost use Rattle.pipe_plays.specs.CaughtUp.{CaughtUpLaw};
 
 use cull_walk::laws::culling_keeps_the_picture;
 
@@ -28,3 +30,17 @@ pub fn a_play_not_begun_leaves_nothing()
 pub fn freed_serials_are_written()
     ensures { FreedLaw }
 {}
+
+/// Where all that was read of a play has been made, and then more of its application's lines, or whole blocks of its
+/// database process, are read and made, the history has their commands behind all others, in order. Syncs are left out.
+pub fn later_commands_come_later()
+    ensures { OrderLaw }
+{}
+
+/// A pipe that has passed all lines read so far, and in which no packet is under way, has caught up: all that they ask for
+/// was made but the closing Sync, the stream is all pictures of the history, and the numbers are those of all its Frames.
+pub fn a_pipe_catches_up()
+    ensures { CaughtUpLaw }
+{
+    culling_keeps_the_picture();
+}
