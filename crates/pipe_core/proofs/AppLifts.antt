@@ -45,7 +45,7 @@ use Rattle.frame_stages.specs.Looks.{FoundMark}
 use Rattle.frame_stages.specs.AppTurns.{Tells, IsMarked}
 use Rattle.frame_stages.specs.AppWorks.{AppWork, is_done, merges_in}
 use Rattle.frame_stages.specs.AppAnswers as stage
-use Rattle.frame_stages.specs.AppAnswers.{Around, around, AppAdds, AppAnswers, Polled, IsLonger}
+use Rattle.frame_stages.specs.AppAnswers.{Around, around, AppAdds, AppAnswers, IsKeptBy, Polled, IsLonger}
 use Rattle.frame_stages.specs.DbaseWorks.{dbase_state}
 use Rattle.pipe_core.specs.declared.events.Event.TheVariants as event
 use Rattle.pipe_plays.specs.Plays.{CanRun, setup_of}
@@ -54,6 +54,7 @@ use Rattle.pipe_core.specs.Waits.{SyncMustWait, FrameMustWait, CloseMustWait, St
 use Rattle.stage_parts.specs.Moves.{moved}
 use Rattle.pipe_core.specs.Pipes.{PipeWork, core_of, PipeKeeps, Answers, polled_caller, AddsAtMostOne, IsWritten, AppLifted}
 use Rattle.pipe_core.proofs.Sides.{never_both}
+use Rattle.pipe_core.proofs.StillOpen.{still_open}
 use Rattle.pipe_core.proofs.Lifting.{opened, not_over, found_mark}
 use Rattle.pipe_core.proofs.BaseLifts.{grown_entries}
 use Rattle.pipe_core.proofs.CameBack.{brings_home}
@@ -61,22 +62,22 @@ use Rattle.pipe_core.proofs.CameBack.{brings_home}
 -- The log
 
 -- nothing was added, or one entry of the application
-abbrev AddsOne : Log → Log → Type 0
+abbrev pub AddsOne : Log → Log → Type 0
 AddsOne before after = (after ≡ before) ⊎ ((entry : Entry) × (polled_caller event.App ≡ Some entry.caller) × (after ≡ before ++ (0, entry) ∷ []))
 
 -- What the scene has become: its log has one more entry of the application at most, and the stop mark stays where it was
 -- set.
-record Grown (old new : SceneState) : Type 0 where
-  more : Log
-  is : new.shared.log ≡ old.shared.log ++ more
-  adds : AddsOne old.shared.log new.shared.log
-  dbase : AllByRecursion (λ e. is_at 0 Dbase e ≡ false) more
-  zeros : AllByRecursion (λ e. e.0 ≡ 0) more
-  stops : old.shared.stopped ≡ true → new.shared.stopped ≡ true
-  ahead : new.shared.ahead ≡ old.shared.ahead
-  channels : new.shared.channels ≡ old.shared.channels
+pub record Grown (old new : SceneState) : Type 0 where
+  pub more : Log
+  pub is : new.shared.log ≡ old.shared.log ++ more
+  pub adds : AddsOne old.shared.log new.shared.log
+  pub dbase : AllByRecursion (λ e. is_at 0 Dbase e ≡ false) more
+  pub zeros : AllByRecursion (λ e. e.0 ≡ 0) more
+  pub stops : old.shared.stopped ≡ true → new.shared.stopped ≡ true
+  pub ahead : new.shared.ahead ≡ old.shared.ahead
+  pub channels : new.shared.channels ≡ old.shared.channels
 
-still : (old new : SceneState) → new ≡ old → Grown old new
+pub still : (old new : SceneState) → new ≡ old → Grown old new
 still old new same =
     record {
       more = [];
@@ -90,10 +91,10 @@ still old new same =
     }
 
 -- the scene that was left is told
-told_left : (P : Shared → Shared → Type 0) (old new : SceneState) → Tells P (Some old) (Some new) → P old.shared new.shared
+pub told_left : (P : Shared → Shared → Type 0) (old new : SceneState) → Tells P (Some old) (Some new) → P old.shared new.shared
 told_left P old new tells = subst (λ (x : SceneState). P old.shared x.shared) (sym (same_Some new tells.0 tells.1)) tells.2
 
-marked_scene : (old new : SceneState) → IsMarked old.shared new.shared → Grown old new
+pub marked_scene : (old new : SceneState) → IsMarked old.shared new.shared → Grown old new
 marked_scene old new marks =
     record {
       more = [];
@@ -201,25 +202,25 @@ applied p w scene sent taken =
       c = record p.c { line = record p.c.line { taken = taken } };
     }
 
-record AppKept (play : Script) (ahead : ℕ) (p q : PipeWork) (bytes bytes' : Option (List ℕ)) : Type 0 where
-  keeps : PipeKeeps play ahead q
-  adds : AddsAtMostOne event.App q.app.state.written p.scene.shared.log q.scene.shared.log
-  wrote : IsWritten bytes bytes' (core_of play p) (core_of play q)
+pub record AppKept (play : Script) (ahead : ℕ) (p q : PipeWork) (bytes bytes' : Option (List ℕ)) : Type 0 where
+  pub keeps : PipeKeeps play ahead q
+  pub adds : AddsAtMostOne event.App q.app.state.written p.scene.shared.log q.scene.shared.log
+  pub wrote : IsWritten bytes bytes' (core_of play p) (core_of play q)
 
-app_kept : (play : Script) (ahead : ℕ) (p : PipeWork) (w : AppWork) (scene : SceneState) (sent taken : List Packet) (sink sink' : SinkSide) (result : Result Did StageError) →
+pub app_kept : (play : Script) (ahead : ℕ) (p : PipeWork) (w : AppWork) (scene : SceneState) (sent taken : List Packet) (sink sink' : SinkSide) →
     PipeKeeps play ahead p → IsLegal play.channels scene.shared.log → LinkPart sent p.a.line.taken → LinkPart p.c.line.sent taken →
-    Polled 0 result p.app w (before_poll p sink) (after_poll p scene sent taken sink') → Grown p.scene scene →
+    IsKeptBy 0 p.app w (before_poll p sink) (after_poll p scene sent taken sink') → Grown p.scene scene →
     ((n : ℕ) → w.state.fault ≡ Some n → scene.shared.stopped ≡ true) →
     AppKept play ahead p (applied p w scene sent taken) sink.bytes sink'.bytes
-app_kept play ahead p w scene sent taken sink sink' result keeps legal link_a link_c polled grown marked =
+app_kept play ahead p w scene sent taken sink sink' keeps legal link_a link_c kept grown marked =
     let g = setup_of play ahead in
     let old = opened play ahead (core_of play p) keeps.core in
     let log = p.scene.shared.log in
     let app_entries = grown_entries App log scene.shared.log grown.more grown.is old.app_entries grown.zeros in
     let own =
     own_by_number 0 (opening_state play.channels) scene.shared.log legal app_entries in
-    let given = polled.given g keeps.stages.app in
-    let on = polled.part g (core_of play p).pipe.stream keeps.stages.app own old.app in
+    let given = kept.given g keeps.stages.app in
+    let on = kept.part g (core_of play p).pipe.stream keeps.stages.app own old.app in
     let stream = on.keeps.streams.bytes in
     let base = (dbase_law play.dbase play.channels 0 (dbase_state play.dbase p.dbase) log keeps.dbase.keeps).stays grown.more grown.dbase in
     let holds : DbaseKeeps play.dbase play.channels 0 (dbase_state play.dbase p.dbase) scene.shared.log =
@@ -228,7 +229,7 @@ app_kept play ahead p w scene sent taken sink sink' result keeps legal link_a li
     let longer = ap (λ (es : Log). (state_of play.channels es).frames) grown.is in
     let counts = (counts_law play.channels log).merges in
     let counts' = (counts_law play.channels scene.shared.log).merges in
-    let waited = polled.waited (omega (arith, keeps.waited, counts)) in
+    let waited = kept.waited (omega (arith, keeps.waited, counts)) in
     record {
       keeps = record {
         core = record {
@@ -261,12 +262,17 @@ app_kept play ahead p w scene sent taken sink sink' result keeps legal link_a li
         room = record { a = keeps.room.a; b = keeps.room.b; c = keeps.room.c };
         waited = omega (arith, waited, counts');
         cull = keeps.cull;
-        dbase = record { keeps = holds; awaited = omega (arith, keeps.dbase.awaited, later, longer); stands = keeps.dbase.stands };
+        dbase = record {
+          keeps = holds;
+          awaited = omega (arith, keeps.dbase.awaited, later, longer);
+          stands = keeps.dbase.stands;
+          stands_in = keeps.dbase.stands_in;
+        };
         failed = λ fails. grown.stops (keeps.failed fails);
-        home = polled.home g (core_of play p).pipe.stream keeps.stages.app own old.app keeps.home;
-        copies = polled.counted keeps.copies (λ whole. brings_home play ahead p keeps whole);
+        home = kept.home g (core_of play p).pipe.stream keeps.stages.app own old.app keeps.home;
+        copies = kept.counted keeps.copies (λ whole. brings_home play ahead p keeps whole);
       };
-      adds = just_retires w.state.written log scene.shared.log polled.adds grown.adds;
+      adds = just_retires w.state.written log scene.shared.log kept.adds grown.adds;
       wrote = record { more = on.more; stream = sym stream; wrote = on.wrote };
     }
 
@@ -420,6 +426,38 @@ app_rests play p w scene sent taken sink sink' idle =
     let back = ap (λ (x : stage.Ends). x.taken) idle.ends in
     λ i. core_of play (applied p (idle.work i) (still i) (gone i) (back i))
 
+-- Closing
+
+no_rest : (lines : List AppLine) → next_step lines ≡ None → lines ≡ []
+no_rest [] none = refl
+no_rest (l ∷ lines) none = absurd (let clash : Some l.step ≡ None = none in cc)
+
+-- it does not close unless its close is due
+app_stays : (play : Script) (ahead : ℕ) (p : PipeWork) (w : AppWork) (scene : SceneState) (sent taken : List Packet) (sink sink' : SinkSide) (result : Result Did StageError) →
+    CoreFits play ahead (core_of play p) → CoreFits play ahead (core_of play (applied p w scene sent taken)) →
+    AppAnswers result 0 p.app w (before_poll p sink) (after_poll p scene sent taken sink') →
+    (is_over result ≡ false → IsOver play event.App (core_of play p) → ⊥) → p.app.state.closed ≡ false →
+    (p.app.rest ≡ [] → p.app.state.held ≡ None → IsOver play event.App (core_of play p)) → w.state.closed ≡ false
+app_stays play ahead p w scene sent taken sink sink' (Ok did.Did) fits later (inl sends) alive going due =
+    still_open play ahead (core_of play p) (core_of play (applied p w scene sent taken)) fits later
+    (ap (λ (x : SceneState). x.shared.log) (same_Some scene p.scene sends.told)) going
+app_stays play ahead p w scene sent taken sink sink' (Ok did.Did) fits later (inr (inl takes)) alive going due =
+    still_open play ahead (core_of play p) (core_of play (applied p w scene sent taken)) fits later
+    (ap (λ (x : SceneState). x.shared.log) (same_Some scene p.scene takes.told)) going
+app_stays play ahead p w scene sent taken sink sink' (Ok did.Did) fits later (inr (inr (inl passes))) alive going due =
+    still_open play ahead (core_of play p) (core_of play (applied p w scene sent taken)) fits later
+    (ap (λ (x : SceneState). x.shared.log) (same_Some scene p.scene passes.told)) going
+app_stays play ahead p w scene sent taken sink sink' (Ok did.Did) fits later (inr (inr (inr makes))) alive going due =
+    makes.stays_open (λ none. alive refl (due (no_rest p.app.rest none) makes.bare)) ∙ going
+app_stays play ahead p w scene sent taken sink sink' (Ok did.NotYet) fits later answer alive going due =
+    ap (λ (x : AppWork). x.state.closed) answer.0.work ∙ going
+app_stays play ahead p w scene sent taken sink sink' (Ok did.Over) fits later answer alive going due =
+    ap (λ (x : AppWork). x.state.closed) answer.work ∙ going
+app_stays play ahead p w scene sent taken sink sink' (Err error.FrameFault) fits later answer alive going due =
+    still_open play ahead (core_of play p) (core_of play (applied p w scene sent taken)) fits later (told_left IsMarked p.scene scene answer.told).log going
+app_stays play ahead p w scene sent taken sink sink' (Err error.NoMemory) fits later answer alive going due =
+    still_open play ahead (core_of play p) (core_of play (applied p w scene sent taken)) fits later (told_left IsMarked p.scene scene answer.told).log going
+
 pub app_lifts : (play : Script) (ahead : ℕ) (p : PipeWork) (w : AppWork) (scene : SceneState) (sent taken : List Packet) (sink sink' : SinkSide) (result : Result Did StageError) →
     1 ≤ ahead → PipeKeeps play ahead p → IsLegal scene.shared.channels scene.shared.log → LinkPart sent p.a.line.taken → LinkPart p.c.line.sent taken →
     Polled 0 result p.app w (before_poll p sink) (after_poll p scene sent taken sink') →
@@ -436,8 +474,18 @@ app_lifts play ahead p w scene sent taken sink sink' result some keeps legal lin
         (grown : Grown p.scene scene) → ((n : ℕ) → w.state.fault ≡ Some n → scene.shared.stopped ≡ true) →
         AppKept play ahead p (applied p w scene sent taken) sink.bytes sink'.bytes
     kept answer polled grown marked =
-        app_kept play ahead p w scene sent taken sink sink' answer keeps
-        (subst (λ (n : ℕ). IsLegal n scene.shared.log) (grown.channels ∙ keeps.stages.channels) legal) link_a link_c polled grown marked
+        app_kept play ahead p w scene sent taken sink sink' keeps
+        (subst (λ (n : ℕ). IsLegal n scene.shared.log) (grown.channels ∙ keeps.stages.channels) legal) link_a link_c
+        (record {
+          given = polled.given;
+          part = polled.part;
+          home = polled.home;
+          counted = polled.counted;
+          passes = polled.passes;
+          waited = polled.waited;
+          adds = polled.adds;
+        })
+        grown marked
 
     grows : (answer : Result Did StageError) → Polled 0 answer p.app w (before_poll p sink) (after_poll p scene sent taken sink') → Grown p.scene scene
     grows answer polled = scene_grows p w scene sent taken sink sink' answer polled.answer
@@ -445,17 +493,24 @@ app_lifts play ahead p w scene sent taken sink sink' result some keeps legal lin
     as_before : Grown p.scene scene → w.state.fault ≡ p.app.state.fault → (n : ℕ) → w.state.fault ≡ Some n → scene.shared.stopped ≡ true
     as_before grown same n fault = grown.stops (keeps.core.marked n (sym same ∙ fault))
 
-    lifted : (answer : Result Did StageError) → AppKept play ahead p (applied p w scene sent taken) sink.bytes sink'.bytes →
+    lifted : (answer : Result Did StageError) → Polled 0 answer p.app w (before_poll p sink) (after_poll p scene sent taken sink') →
+        (is_over answer ≡ false → IsOver play event.App (core_of play p) → ⊥) →
+        AppKept play ahead p (applied p w scene sent taken) sink.bytes sink'.bytes →
         Answers play ahead event.App answer (core_of play p) (core_of play (applied p w scene sent taken)) →
         AppLifted play ahead answer p (applied p w scene sent taken) sink.bytes sink'.bytes
-    lifted answer kept says = record { lifted = record { keeps = kept.keeps; adds = kept.adds; answer = says }; wrote = kept.wrote }
+    lifted answer polled alive kept says =
+        record {
+          lifted = record { keeps = kept.keeps; adds = kept.adds; answer = says };
+          wrote = kept.wrote;
+          going = app_stays play ahead p w scene sent taken sink sink' answer keeps.core kept.keeps.core polled.answer alive;
+        }
 
     by : (result : Result Did StageError) → Polled 0 result p.app w (before_poll p sink) (after_poll p scene sent taken sink') →
         (IsOver play event.App (core_of play p) → is_over result ≡ true) → (is_over result ≡ true → IsOver play event.App (core_of play p)) →
         AppLifted play ahead result p (applied p w scene sent taken) sink.bytes sink'.bytes
     by (Ok did.Did) polled over is =
         let grown = grows (Ok did.Did) polled in
-        lifted (Ok did.Did) (kept (Ok did.Did) polled grown (as_before grown (polled.whole refl)))
+        lifted (Ok did.Did) polled (not_over (Ok did.Did) (IsOver play event.App (core_of play p)) over) (kept (Ok did.Did) polled grown (as_before grown (polled.whole refl)))
         (record {
           alive = not_over (Ok did.Did) (IsOver play event.App (core_of play p)) over refl;
           moves = app_moves play p w scene sent taken sink sink' polled.answer grown;
@@ -464,22 +519,22 @@ app_lifts play ahead p w scene sent taken sink sink' result some keeps legal lin
     by (Ok did.NotYet) polled over is =
         let grown = grows (Ok did.NotYet) polled in
         let log = ap (λ (x : SceneState). x.shared.log) (same_Some scene p.scene polled.answer.0.told) in
-        lifted (Ok did.NotYet) (kept (Ok did.NotYet) polled grown (as_before grown (polled.whole refl))) (
+        lifted (Ok did.NotYet) polled (not_over (Ok did.NotYet) (IsOver play event.App (core_of play p)) over) (kept (Ok did.NotYet) polled grown (as_before grown (polled.whole refl))) (
           app_rests play p w scene sent taken sink sink' polled.answer.0,
           not_over (Ok did.NotYet) (IsOver play event.App (core_of play p)) over refl,
           app_waits play ahead p sink scene.shared.log some keeps log polled.answer.1,
         )
     by (Ok did.Over) polled over is =
         let grown = grows (Ok did.Over) polled in
-        lifted (Ok did.Over) (kept (Ok did.Over) polled grown (as_before grown (polled.whole refl)))
+        lifted (Ok did.Over) polled (not_over (Ok did.Over) (IsOver play event.App (core_of play p)) over) (kept (Ok did.Over) polled grown (as_before grown (polled.whole refl)))
         (app_rests play p w scene sent taken sink sink' polled.answer, is refl)
     by (Err error.FrameFault) polled over is =
         let grown = grows (Err error.FrameFault) polled in
         let marks = told_left IsMarked p.scene scene polled.answer.told in
-        lifted (Err error.FrameFault) (kept (Err error.FrameFault) polled grown (λ n fault. marks.stopped))
+        lifted (Err error.FrameFault) polled (not_over (Err error.FrameFault) (IsOver play event.App (core_of play p)) over) (kept (Err error.FrameFault) polled grown (λ n fault. marks.stopped))
         (not_over (Err error.FrameFault) (IsOver play event.App (core_of play p)) over refl, tt, marks.log, marks.stopped)
     by (Err error.NoMemory) polled over is =
         let grown = grows (Err error.NoMemory) polled in
         let marks = told_left IsMarked p.scene scene polled.answer.told in
-        lifted (Err error.NoMemory) (kept (Err error.NoMemory) polled grown (λ n fault. marks.stopped))
+        lifted (Err error.NoMemory) polled (not_over (Err error.NoMemory) (IsOver play event.App (core_of play p)) over) (kept (Err error.NoMemory) polled grown (λ n fault. marks.stopped))
         (not_over (Err error.NoMemory) (IsOver play event.App (core_of play p)) over refl, tt, marks.log, marks.stopped)

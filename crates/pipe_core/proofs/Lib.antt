@@ -12,3 +12,9 @@ mod Openings
 mod Polls
 mod Turns
 mod Hosting
+mod Lives
+mod StillOpen
+mod Settling
+mod Giving
+mod Backs
+mod Making

@@ -76,7 +76,7 @@ opening_keeps play ahead loads cull all lens keeps holds =
         marked = λ n fault. absurd (let clash : None ≡ Some n = fault in cc);
       };
       stages = record {
-        app = record { rest = refl; within = omega arith; merges = refl; lens = refl; back = refl; ahead = refl; channels = refl };
+        app = record { rest = refl; within = omega arith; merges = refl; lens = refl; back = refl; ahead = refl; channels = refl; stands = refl };
         cull = lens;
         draw_lens = refl;
         draw_back = refl;

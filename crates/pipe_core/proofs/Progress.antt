@@ -50,7 +50,7 @@ made play ahead s fits =
     follows.follows_app follows.follows_dbase
 
 -- the frames of a core that has not closed are those that the lines passed give
-frames_of_passed : (play : Script) (ahead : ℕ) (s : CoreState) → CoreFits play ahead s → s.pipe.app.closed ≡ false →
+pub frames_of_passed : (play : Script) (ahead : ℕ) (s : CoreState) → CoreFits play ahead s → s.pipe.app.closed ≡ false →
     total (app_marks (take s.pipe.app.at play.app)) ≤ (state_of play.channels s.pipe.log).frames
 frames_of_passed play ahead s fits running =
     let a = s.pipe.app in
@@ -75,11 +75,11 @@ frames_of_all play ahead s fits closed =
     omega (arith, many.frames, still, all)
 
 -- the merges are those that the lines passed give, of all that are asked for
-record MergesOfPassed (play : Script) (s : CoreState) : Type 0 where
-  given : total (base_marks (take s.pipe.dbase.at play.dbase)) ≤ (state_of play.channels s.pipe.log).merges
-  all : length play.dbase ≤ s.pipe.dbase.at → (state_of play.channels s.pipe.log).merges ≡ length (asked_dbase play.dbase)
+pub record MergesOfPassed (play : Script) (s : CoreState) : Type 0 where
+  pub given : total (base_marks (take s.pipe.dbase.at play.dbase)) ≤ (state_of play.channels s.pipe.log).merges
+  pub all : length play.dbase ≤ s.pipe.dbase.at → (state_of play.channels s.pipe.log).merges ≡ length (asked_dbase play.dbase)
 
-merges_of_passed : (play : Script) (ahead : ℕ) (s : CoreState) → CoreFits play ahead s → MergesOfPassed play s
+pub merges_of_passed : (play : Script) (ahead : ℕ) (s : CoreState) → CoreFits play ahead s → MergesOfPassed play s
 merges_of_passed play ahead s fits =
     let d = s.pipe.dbase in
     let many = made play ahead s fits in
@@ -100,9 +100,9 @@ stands_at reached n more = ap (λ t. cond {A = Option ℕ} t (Some 0) None) (lt-
 -- The database process
 
 -- It stands at a line that is left.
-record BaseStands (play : Script) (s : CoreState) : Type 0 where
-  stands : Stands (state_of play.channels s.pipe.log).frames (base_marks (drop s.pipe.dbase.at play.dbase))
-  some : 0 < length (drop s.pipe.dbase.at play.dbase)
+pub record BaseStands (play : Script) (s : CoreState) : Type 0 where
+  pub stands : Stands (state_of play.channels s.pipe.log).frames (base_marks (drop s.pipe.dbase.at play.dbase))
+  pub some : 0 < length (drop s.pipe.dbase.at play.dbase)
 
 may_merge : (play : Script) (ahead : ℕ) (s : CoreState) → CanRun play ahead → CoreFits play ahead s → (l : BaseLine) →
     slice_get play.dbase s.pipe.dbase.at ≡ Some l → l.step ≡ base.Merge → MayMerge (shared_of play ahead s) (merge_of s.pipe.dbase.buffer)
@@ -121,7 +121,7 @@ may_merge play ahead s can fits l at is =
     subst (λ b. MayMerge (shared_of play ahead s) (merge_of b)) (sym fits.pipe.buffer.buffer)
     (record { fit = first.0; light = omega (arith, most, weight, can.is_play.steps) })
 
-base_stands : (play : Script) (ahead : ℕ) (s : CoreState) → CanRun play ahead → CoreFits play ahead s → MustWait play ahead event.Dbase s → BaseStands play s
+pub base_stands : (play : Script) (ahead : ℕ) (s : CoreState) → CanRun play ahead → CoreFits play ahead s → MustWait play ahead event.Dbase s → BaseStands play s
 base_stands play ahead s can fits waits = by (slice_get play.dbase s.pipe.dbase.at) refl waits
   where
     at_line : (l : BaseLine) → slice_get play.dbase s.pipe.dbase.at ≡ Some l → (step : BaseStep) → l.step ≡ step →
@@ -148,9 +148,9 @@ base_stands play ahead s can fits waits = by (slice_get play.dbase s.pipe.dbase.
 -- The application
 
 -- It stands at a line that is left, or behind the last one it waits for merges.
-record AppStands (play : Script) (s : CoreState) : Type 0 where
-  stands : Stands (state_of play.channels s.pipe.log).merges (app_marks (drop s.pipe.app.at play.app))
-  some : (0 < length (drop s.pipe.app.at play.app)) ⊎ ((state_of play.channels s.pipe.log).merges < length (asked_dbase play.dbase))
+pub record AppStands (play : Script) (s : CoreState) : Type 0 where
+  pub stands : Stands (state_of play.channels s.pipe.log).merges (app_marks (drop s.pipe.app.at play.app))
+  pub some : (0 < length (drop s.pipe.app.at play.app)) ⊎ ((state_of play.channels s.pipe.log).merges < length (asked_dbase play.dbase))
 
 frame_goes : (play : Script) (ahead : ℕ) (s : CoreState) → CanRun play ahead → CoreFits play ahead s → s.stopped ≡ false →
     PassersWait s.pipe → s.pipe.app.held ≡ None → (synced : Bool) → s.pipe.app.synced ≡ synced → FrameMustWait synced (shared_of play ahead s) s.pipe → ⊥
@@ -159,7 +159,7 @@ frame_goes play ahead s can fits unset passers bare true is waits =
     let free = (counted play ahead s fits).state.room is in
     waits (record { agreed = refl; free = free; many = refl; light = bears_one play ahead s can fits })
 
-app_stands : (play : Script) (ahead : ℕ) (s : CoreState) → CanRun play ahead → CoreFits play ahead s → s.stopped ≡ false →
+pub app_stands : (play : Script) (ahead : ℕ) (s : CoreState) → CanRun play ahead → CoreFits play ahead s → s.stopped ≡ false →
     PassersWait s.pipe → s.pipe.app.held ≡ None →
     StepMustWait (length (asked_dbase play.dbase)) (shared_of play ahead s) s.pipe (option_map (λ l. l.step) (slice_get play.app s.pipe.app.at)) →
     AppStands play s
@@ -211,7 +211,7 @@ app_stands play ahead s can fits unset passers bare waits = by (slice_get play.a
 
 -- The play is stuck
 
-stuck_at : (play : Script) (s : CoreState) (n k : ℕ) →
+pub stuck_at : (play : Script) (s : CoreState) (n k : ℕ) →
     total (app_marks (take n play.app)) ≤ (state_of play.channels s.pipe.log).frames →
     total (base_marks (take k play.dbase)) ≤ (state_of play.channels s.pipe.log).merges →
     Stands (state_of play.channels s.pipe.log).merges (app_marks (drop n play.app)) →

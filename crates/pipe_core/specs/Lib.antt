@@ -4,3 +4,6 @@ pub mod Runs
 pub mod Laws
 pub mod Pipes
 pub mod Hosts
+pub mod Lives
+pub mod Settling
+pub mod Makes

@@ -83,6 +83,7 @@ opening_scene ahead channels =
       copies = 0;
       out = 0 ∷ [];
       accounted = true;
+      told = 0;
     }
 
 -- The stages are those of a play: each has what it is given.
@@ -157,11 +158,14 @@ pub record IsWritten (bytes bytes' : Option (List ℕ)) (s t : CoreState) : Type
   pub stream : t.pipe.stream ≡ s.pipe.stream ++ more
   pub wrote : bytes' ≡ append_known bytes more
 
--- A poll of the application: what it answers, and what the frame sink was given.
+-- A poll of the application: what it answers, and what the frame sink was given. It does not close while lines are left, or
+-- a packet is held.
 pub record AppLifted (play : Script) (ahead : ℕ) (result : Result Did StageError) (p q : PipeWork)
     (bytes bytes' : Option (List ℕ)) : Type 0 where
   pub lifted : Lifted play ahead event.App result p q
   pub wrote : IsWritten bytes bytes' (core_of play p) (core_of play q)
+  pub going : p.app.state.closed ≡ false →
+      (p.app.rest ≡ [] → p.app.state.held ≡ None → IsOver play event.App (core_of play p)) → q.app.state.closed ≡ false
 
 -- Events up to the first error: those before it answered none, and this one did.
 pub record FailsAt (play : Script) (ahead : ℕ) (events : List Event) (error : StageError) (s t : CoreState) : Type 0 where

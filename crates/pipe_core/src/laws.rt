@@ -1,7 +1,9 @@
 //! Laws of the core, each the contract of a call that does nothing.
 ghost use Rattle.pipe_core.specs.Laws.{ProgressLaw, BoundLaw, RunLaw, CuttingLaw, PartsLaw, ShownLaw, FreedInPipeLaw};
+ghost use Rattle.pipe_core.specs.Lives.{LiveLaw};
+ghost use Rattle.pipe_core.specs.Makes.{LiveRunsLaw};
 
-use pipe_plays::laws::{a_pipe_shows_its_history, freed_serials_are_written};
+use pipe_plays::laws::{a_pipe_catches_up, a_pipe_shows_its_history, freed_serials_are_written};
 
 /// The core makes progress: where no event has set the stop mark and each of the four changes nothing, all stages have
 /// ended, or the play is stuck.
@@ -47,4 +49,18 @@ pub fn freed_serials_are_delivered()
     ensures { FreedInPipeLaw }
 {
     freed_serials_are_written();
+}
+
+/// A core whose play may still grow is settled where nothing can go on: no packet is under way, each frame that was begun is
+/// wholly written, and all lines read so far were passed, or they are stuck.
+pub fn an_idle_core_is_settled()
+    ensures { LiveLaw }
+{}
+
+/// Commands made one by one leave the history of all of them, in order, with Syncs left out, and the frame sink gets what the
+/// stream grew by, which is all their pictures; a new pipe of a play without lines is ready for the first one.
+pub fn a_live_run_tells_its_commands()
+    ensures { LiveRunsLaw }
+{
+    a_pipe_catches_up();
 }

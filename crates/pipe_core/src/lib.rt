@@ -6,6 +6,7 @@ mod events;
 mod host;
 pub mod laws;
 mod legal;
+mod live;
 mod parts;
 mod pipe;
 

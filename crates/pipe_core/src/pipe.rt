@@ -1,23 +1,30 @@
 //! The pipe on one thread.
-ghost use Rattle.std.specs.Prelude.{◌≡◌, ℕ, ◌+◌, ◌≤◌, false, [], None, Err, IfOk, OnOk, IfErr};
+ghost use Rattle.std.specs.Prelude.{◌≡◌, ℕ, ◌+◌, ◌<◌, ◌≤◌, true, false, [], ◌∷◌, length, None, Some, Err, IfOk, OnOk, OnErr, IfErr};
+ghost use Rattle.std.specs.List.{list_all};
 ghost use Rattle.pf_io.specs.Causes.{Rose, Calm};
-ghost use Rattle.play_format.specs.Plays.{Script};
+ghost use Rattle.play_format.specs.Plays.{Script, base_fits, open_after};
 ghost use Rattle.pf_scene.specs.Scenes.{IsSmall};
 ghost use Rattle.stage_parts.specs.declared.answers.StageError.TheVariants as error;
 ghost use Rattle.pipe_plays.specs.Plays.{CanRun};
-ghost use Rattle.pipe_plays.specs.Played.{StaysWhole};
+ghost use Rattle.pipe_plays.specs.Played.{StaysWhole, Blames};
 ghost use Rattle.pipe_core.specs.Runs.{Ran};
 ghost use Rattle.pipe_core.specs.Pipes.{core_of, PipeKeeps, Lifted, IsWritten, AppLifted, FailsAt, link_work, opening_link, opening_scene};
-ghost use Rattle.pipe_core.specs.declared.events.Event.TheVariants as event;
+ghost use Rattle.pipe_core.specs.declared.events.Event.TheVariants as polled;
+ghost use Rattle.pipe_core.specs.Settling.{NoneIsBack, TurnsGo};
+ghost use Rattle.pipe_core.specs.Makes.{with_app, with_dbase, given_line, IsGivenBlock};
+ghost use Rattle.frame_stages.specs.AppWorks.{is_done};
+ghost use Rattle.frame_stages.specs.Scripts.{most_lines};
 
 use crate::events::Event;
 use crate::legal::LegalGlance;
+use crate::live::has_done;
 use crate::parts::all_made;
 use draw_list::Stats;
 use frame_link::ListLink;
 use frame_stages::{AppStage, CullStage, DbaseStage, Did, DrawStage, Packet, StageError};
 use pf_history::History;
 use pf_io::{FreeGate, Gate, NoMemory, Sink};
+use pf_model::{AppLine, BaseLine};
 use pf_scene::Scene;
 use pipe_plays::count_merges;
 use play_format::Play;
@@ -127,6 +134,96 @@ impl Pipe {
         })
     }
 
+    /// Whether a line may be given: the application has not closed, and its section has room.
+    pub fn takes_line(&self) -> bool
+        ensures room { result ≡ true → self.now.app.state.at + length self.now.app.rest < most_lines }
+        ensures going { result ≡ true → self.now.app.state.closed ≡ false }
+        ensures none { result ≡ false → self.now.app.state.closed ≡ false
+            → most_lines ≤ self.now.app.state.at + length self.now.app.rest }
+    {
+        if self.app.has_closed() {
+            return false;
+        }
+        self.app.has_room()
+    }
+
+    /// Whether a block of so many lines may be given: the application has not closed, and DBASE's section has room.
+    pub fn takes_block(&self, lines: usize) -> bool
+        ensures room { result ≡ true → self.now.dbase.at + (length self.now.dbase.rest + lines) ≤ most_lines }
+        ensures going { result ≡ true → self.now.app.state.closed ≡ false }
+        ensures none { result ≡ false → self.now.app.state.closed ≡ false
+            → most_lines < self.now.dbase.at + (length self.now.dbase.rest + lines) }
+    {
+        if self.app.has_closed() {
+            return false;
+        }
+        self.dbase.has_room(lines)
+    }
+
+    /// Gives the application one line more of its section. Returns an error, and leaves the pipe as it was, where there is no
+    /// memory.
+    pub fn give(&mut self, line: AppLine) -> Result<(), NoMemory>
+        requires room { self.old.app.state.at + length self.old.app.rest < most_lines }
+        requires going { self.old.app.state.closed ≡ false }
+        ensures state { OnOk result (self.new ≡ given_line line self.old) }
+
+        // A pipe of a play is then a pipe of the longer play.
+        ensures keeps { OnOk result ((play : Script) (ahead : ℕ) → PipeKeeps play ahead self.old
+            → PipeKeeps (with_app play (line ∷ [])) ahead self.new) }
+        ensures unchanged { OnErr result (self.new ≡ self.old) }
+    {
+        self.app.give(line)
+    }
+
+    /// Gives the database process a block: whole buffers, with awaits before, between and behind them. Returns an error, and
+    /// leaves the pipe as it was, where there is no memory.
+    pub fn give_base(&mut self, block: Vec<BaseLine>) -> Result<(), NoMemory>
+        requires short { length block.items ≤ 262144 }
+        requires few { self.old.dbase.at + (length self.old.dbase.rest + length block.items) ≤ most_lines }
+        requires fit { list_all (λ l. base_fits l.step) block.items ≡ true }
+        requires order { open_after false block.items ≡ Some false }
+        requires going { self.old.app.state.closed ≡ false }
+        ensures state { OnOk result (IsGivenBlock self.old self.new) }
+
+        // A pipe of a play is then a pipe of the longer play.
+        ensures keeps { OnOk result ((play : Script) (ahead : ℕ) → CanRun (with_dbase play block.items) ahead
+            → PipeKeeps play ahead self.old → PipeKeeps (with_dbase play block.items) ahead self.new) }
+        ensures unchanged { OnErr result (self.new ≡ self.old) }
+    {
+        let merges = self.app.merges().saturating_add(count_merges(&block));
+        match self.dbase.give(block) {
+            Ok(()) => {
+                self.app.note_merges(merges);
+                Ok(())
+            }
+            Err(NoMemory) => Err(NoMemory),
+        }
+    }
+
+    /// Whether only a line more, or the close, is left to do for the application.
+    pub fn wants_line(&self) -> bool
+        ensures bare { result ≡ true → self.now.app.state.held ≡ None }
+        ensures all { result ≡ true → self.now.app.rest ≡ [] }
+        ensures none { result ≡ false → is_done self.now.app.state ≡ false → self.now.app.state.held ≡ None
+            → 0 < length self.now.app.rest }
+    {
+        self.app.wants_line()
+    }
+
+    /// Takes a picture back and writes it, where the application holds no packet and one came back: whether it did. It may
+    /// come wherever in its section the application stands. At a fault of the sink the stop mark is set.
+    pub fn take_back<O: Sink>(&mut self, frames: &mut O) -> Result<bool, StageError>
+        ensures goes { (play : Script) (ahead : ℕ) → PipeKeeps play ahead self.old
+            → TurnsGo play ahead NoneIsBack result self.old self.new (O.written frames.old) (O.written frames.new) }
+        ensures blames { Blames result (O.faults frames.old) (O.faults frames.new) (O.at_fault frames.new) (O.written frames.new) }
+    {
+        if !self.app.can_take_back() {
+            return Ok(false);
+        }
+        let came = self.app.take_back(&mut self.desk, &mut self.back, frames);
+        has_done(came)
+    }
+
     /// The greatest number of copies that a geode's cycle has had, and 0 before the first cycle was made.
     pub fn copies(&self) -> u32
         ensures value { result ≡ self.now.scene.copies }
@@ -138,7 +235,11 @@ impl Pipe {
     }
 
     /// A poll of the application.
-    fn app_event<O: Sink, G: Gate>(&mut self, frames: &mut O, gate: &G) -> Result<Did, StageError>
+    pub(crate) fn app_event<O: Sink, G: Gate>(
+        &mut self,
+        frames: &mut O,
+        gate: &G,
+    ) -> Result<Did, StageError>
         ensures lifted { (play : Script) (ahead : ℕ) → 1 ≤ ahead → PipeKeeps play ahead self.old
             → AppLifted play ahead result self.old self.new (O.written frames.old) (O.written frames.new) }
         ensures uncut { StaysWhole result self.old.app.state.fault self.new.app.state.fault }
@@ -160,8 +261,9 @@ impl Pipe {
     /// A poll of the cull.
     fn cull_event<G: Gate>(&mut self, gate: &G) -> Result<Did, StageError>
         ensures lifted { (play : Script) (ahead : ℕ) → PipeKeeps play ahead self.old
-            → Lifted play ahead event.Cull result self.old self.new }
+            → Lifted play ahead polled.Cull result self.old self.new }
         ensures stream { (play : Script) → (core_of play self.new).pipe.stream ≡ (core_of play self.old).pipe.stream }
+        ensures app { self.new.app ≡ self.old.app }
         ensures uncut { self.new.app.state.fault ≡ self.old.app.state.fault }
         ensures whole { result ≡ Err error.FrameFault → ⊥ }
     {
@@ -176,8 +278,9 @@ impl Pipe {
         gate: &G,
     ) -> Result<Did, StageError>
         ensures lifted { (play : Script) (ahead : ℕ) → PipeKeeps play ahead self.old
-            → Lifted play ahead event.Draw result self.old self.new }
+            → Lifted play ahead polled.Draw result self.old self.new }
         ensures stream { (play : Script) → (core_of play self.new).pipe.stream ≡ (core_of play self.old).pipe.stream }
+        ensures app { self.new.app ≡ self.old.app }
         ensures uncut { self.new.app.state.fault ≡ self.old.app.state.fault }
         ensures whole { result ≡ Err error.FrameFault → ⊥ }
     {
@@ -187,8 +290,9 @@ impl Pipe {
     /// A poll of the database process.
     fn dbase_event<G: Gate>(&mut self, gate: &G) -> Result<Did, StageError>
         ensures lifted { (play : Script) (ahead : ℕ) → PipeKeeps play ahead self.old
-            → Lifted play ahead event.Dbase result self.old self.new }
+            → Lifted play ahead polled.Dbase result self.old self.new }
         ensures stream { (play : Script) → (core_of play self.new).pipe.stream ≡ (core_of play self.old).pipe.stream }
+        ensures app { self.new.app ≡ self.old.app }
         ensures uncut { self.new.app.state.fault ≡ self.old.app.state.fault }
         ensures whole { result ≡ Err error.FrameFault → ⊥ }
     {
@@ -209,6 +313,7 @@ impl Pipe {
             → Lifted play ahead event result self.old self.new }
         ensures wrote { (play : Script) (ahead : ℕ) → CanRun play ahead → PipeKeeps play ahead self.old
             → IsWritten (O.written frames.old) (O.written frames.new) (core_of play self.old) (core_of play self.new) }
+        ensures app { (event ≡ polled.App → ⊥) → self.new.app ≡ self.old.app }
         ensures uncut { StaysWhole result self.old.app.state.fault self.new.app.state.fault }
         ensures fault { result ≡ Err error.FrameFault → Rose (O.faults frames.old) (O.faults frames.new) }
         ensures last { result ≡ Err error.FrameFault → O.at_fault frames.new ≡ O.written frames.new }

@@ -51,7 +51,7 @@ returns-in-Err g c =
     let stats = c.new-in-Err-2.result.items in
     let pipe : LeavesPipe play ahead one_seat ends.NoMemory log stats bytes bytes =
     subst (λ (kept : List Stats). LeavesPipe play ahead one_seat ends.NoMemory log kept bytes bytes) (sym c.new-in-Err-2.ensures.items)
-    (subst (λ (l : Log). LeavesPipe play ahead one_seat ends.NoMemory l [] bytes bytes) (sym c.new-in-Err.ensures)
+    (subst (λ (l : Log). LeavesPipe play ahead one_seat ends.NoMemory l [] bytes bytes) (sym c.new-in-Err.ensures.entries)
     (c.a_play_not_begun_leaves_nothing.ensures play ahead one_seat bytes)) in
     let left = c.a_play_leaves_its_history.ensures play ahead one_seat ends.NoMemory log stats bytes bytes can pipe in
     record {

@@ -1,11 +1,11 @@
-use Rattle.std.proofs.Common.{◌≡◌, refl, sym, ap, ◌∙◌, subst}
+use Rattle.std.proofs.Common.{◌≡◌, refl, sym, ap, subst}
 use Rattle.std.proofs.lemmas.Option.{same_Some}
 use Rattle.frame_stages.specs.Flights.{SinkSide}
 use Rattle.frame_stages.specs.AppAnswers.{Polled}
 use Rattle.pf_scene.specs.Scenes.{SceneState}
 use Rattle.frame_stages.specs.Stays.{EndPlace}
 use Rattle.pipe_plays.specs.Played.{StaysWhole}
-use Rattle.pipe_core.specs.Pipes.{PipeWork, core_of, PipeKeeps, AppLifted, link_work}
+use Rattle.pipe_core.specs.Pipes.{PipeWork, PipeKeeps, AppLifted, link_work}
 use Rattle.pipe_core.proofs.Polls.{in_order}
 use Rattle.pipe_core.proofs.AppLifts.{before_poll, after_poll}
 use Rattle.pipe_core.proofs.Turns.{app_uncut, app_calm, app_last, app_rose, seen_legal, app_polls, IsSeenLegal}

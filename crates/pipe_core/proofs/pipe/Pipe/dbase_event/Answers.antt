@@ -1,6 +1,5 @@
-use Rattle.std.proofs.Common.{◌≡◌, refl, sym, ap, ◌∙◌, subst}
+use Rattle.std.proofs.Common.{◌≡◌, refl, sym, ap, subst}
 use Rattle.std.proofs.lemmas.Option.{same_Some}
-use Rattle.pf_model.specs.declared.lines.BaseLine.{BaseLine}
 use Rattle.pf_scene.specs.Scenes.{SceneState, KeepsCopies}
 use Rattle.frame_stages.specs.DbaseWorks.{DbaseHolds}
 use Rattle.frame_stages.specs.DbaseAnswers.{IsDbaseAnswer}
@@ -57,3 +56,6 @@ returns-clause-whole g c = base_whole _ _ _ _ _ _ c.poll-result.ensures.answer
 
 pub returns-clause-uncut : goal.returns-clause-uncut
 returns-clause-uncut g c = ap (λ (x : PipeWork). x.app.state.fault) c.self.view_is
+
+pub returns-clause-app : goal.returns-clause-app
+returns-clause-app g c = ap (λ (x : PipeWork). x.app) c.self.view_is

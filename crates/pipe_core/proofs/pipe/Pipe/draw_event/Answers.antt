@@ -69,3 +69,6 @@ returns-clause-whole g c = passes_whole _ _ _ _ c.poll.ensures.answer
 
 pub returns-clause-uncut : goal.returns-clause-uncut
 returns-clause-uncut g c = ap (λ (x : PipeWork). x.app.state.fault) c.self.view_is
+
+pub returns-clause-app : goal.returns-clause-app
+returns-clause-app g c = ap (λ (x : PipeWork). x.app) c.self.view_is

@@ -37,3 +37,15 @@ returns-in-Draw-clause-uncut g c = stays_whole c.draw_event.result _ _ (λ other
 
 pub returns-in-Dbase-clause-uncut : goal.returns-in-Dbase-clause-uncut
 returns-in-Dbase-clause-uncut g c = stays_whole c.dbase_event.result _ _ (λ other. c.dbase_event.ensures.uncut)
+
+pub returns-in-App-clause-app : goal.returns-in-App-clause-app
+returns-in-App-clause-app g c = λ other. absurd (other c.in-App.is)
+
+pub returns-in-Cull-clause-app : goal.returns-in-Cull-clause-app
+returns-in-Cull-clause-app g c = λ other. c.cull_event.ensures.app
+
+pub returns-in-Draw-clause-app : goal.returns-in-Draw-clause-app
+returns-in-Draw-clause-app g c = λ other. c.draw_event.ensures.app
+
+pub returns-in-Dbase-clause-app : goal.returns-in-Dbase-clause-app
+returns-in-Dbase-clause-app g c = λ other. c.dbase_event.ensures.app
