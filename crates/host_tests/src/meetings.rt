@@ -142,6 +142,16 @@ fn meets<R: Threads + Wait + Copy + Drop + Send + Sync + 'static>(
     Ok(meeting.met.load(Ordering::SeqCst) == 1)
 }
 
+/// Whether the stages of a pair may miss each other though they are on different hosts. With a probe the host that runs APP
+/// and CULL may hold CULL back, and DRAW has no list then.
+fn may_miss(pair: Pair, asked: Asked) -> bool {
+    let stages = [pair.one.stage, pair.other.stage];
+    asked.probe
+        && asked.mode == Mode::AppcullDraw
+        && stages.contains(&Stage::Draw)
+        && !stages.contains(&Stage::Cull)
+}
+
 /// Whether each pair meets exactly where its stages are on different hosts.
 fn all_meet<R: Threads + Wait + Copy + Drop + Send + Sync + 'static>(
     rt: &R,
@@ -149,7 +159,9 @@ fn all_meet<R: Threads + Wait + Copy + Drop + Send + Sync + 'static>(
     asked: Asked,
 ) -> Result<bool, Fail> {
     for pair in pairs() {
-        if meets(rt, alloc, pair, asked)? != are_apart(pair, asked) {
+        let as_due = may_miss(pair, asked)
+            || meets(rt, alloc, pair, asked)? == are_apart(pair, asked);
+        if !as_due {
             return Ok(false);
         }
     }
@@ -166,6 +178,42 @@ fn stages_of_different_hosts_meet(rt: HostRuntime) -> Result<(), Fail> {
                 ahead: "3",
                 probe: false,
                 stream: None,
+            };
+            let all = all_meet(&rt, rt.alloc(), asked)?;
+            assert!(rt; all, "{asked:?}");
+        }
+    }
+    Ok(())
+}
+
+#[test]
+fn stages_meet_beside_a_probe(rt: HostRuntime) -> Result<(), Fail> {
+    for mode in MODES {
+        for dbase in [false, true] {
+            let asked = Asked {
+                mode,
+                dbase,
+                ahead: "3",
+                probe: true,
+                stream: None,
+            };
+            let all = all_meet(&rt, rt.alloc(), asked)?;
+            assert!(rt; all, "{asked:?}");
+        }
+    }
+    Ok(())
+}
+
+#[test]
+fn stages_meet_while_lists_come_in_pieces(rt: HostRuntime) -> Result<(), Fail> {
+    for mode in MODES {
+        for dbase in [false, true] {
+            let asked = Asked {
+                mode,
+                dbase,
+                ahead: "3",
+                probe: false,
+                stream: Some("64"),
             };
             let all = all_meet(&rt, rt.alloc(), asked)?;
             assert!(rt; all, "{asked:?}");

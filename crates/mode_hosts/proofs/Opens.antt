@@ -62,7 +62,7 @@ app_opens : (g : Setup) (dbase : List BaseLine) (lock : TableId) (loads : List L
 app_opens g dbase lock loads s bytes merges all =
     let old = opening_law g dbase own_seats loads merges all in
     record {
-      given = record { rest = refl; within = omega arith; merges = refl; lens = refl; back = refl; ahead = refl; channels = refl };
+      given = record { rest = refl; within = omega arith; merges = refl; lens = refl; back = refl; ahead = refl; channels = refl; stands = refl };
       part = λ frames. record { more = []; wrote = sym (append_known-nil bytes); keeps = old.app };
       own = tt;
     }

@@ -12,7 +12,7 @@ use pf_io::NoMemory;
 use std::alloc::Global;
 use stream_stages::{Piece, StreamCullStage, StreamDrawStage};
 
-/// So many pieces go from the cull to the draw and back.
+/// The number of pieces that go from the cull to the draw and back.
 const PIECES: usize = 4;
 
 /// The cull and the draw of a play.
@@ -29,7 +29,7 @@ struct PieceEnds {
     take: RingTake<Piece>,
 }
 
-/// A link for pieces, through which nothing went, with room for all of them.
+/// Returns a link for pieces, through which nothing went, with room for all of them.
 fn new_piece_link(alloc: Global) -> Result<PieceEnds, NoMemory>
     ensures { IfOk result (λ l. IsNewRing 4 l.send l.take) }
 {
@@ -103,7 +103,8 @@ fn stream_works(alloc: Global, lens: Lens, back: [u8; 3], limit: u32) -> Result<
     })
 }
 
-/// The cull and the draw of a play, which have not begun, in pieces of at most so many items where a limit is given.
+/// Returns the cull and the draw of a play, which have not begun, in pieces of at most `limit` items if a limit is
+/// given.
 pub(crate) fn new_works(
     alloc: Global,
     lens: Lens,

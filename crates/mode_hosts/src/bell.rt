@@ -1,4 +1,4 @@
-//! How hosts that wait are told that something was done.
+//! The event count (bell) at which hosts wait until something is done.
 
 use crate::crew::Polled;
 use crate::words::{Noted, Words};
@@ -6,13 +6,13 @@ use frame_stages::Did;
 use std::sync::Wait;
 use std::thread;
 
-/// So often a host looks at the bell before it sleeps.
+/// How often a host looks at the bell before it sleeps.
 const LOOKS: usize = 64;
 
-/// A bell that all hosts of a play hear. Who polls its stages notes before how often it was rung, and rings after it did
-/// something; who found nothing to do waits until the bell was rung since that note. So whatever lets a host go on was
-/// done before its polls, or is followed by a ring that it hears. The types keep this order: polls want the note, and the
-/// bell is told what they came to with the note that they were made with.
+/// An event count (bell) that all hosts of a play share. Who polls its stages first notes how often it was rung, and
+/// rings after it did something. Who found nothing to do waits until the bell was rung since that note. So whatever
+/// lets a host go on was done before its polls, or is followed by a ring that wakes it. The types keep this order:
+/// polls take the note, and the bell takes what they came to with that note.
 #[derive(Drop)]
 pub(crate) struct Bell {
     words: Words,
@@ -25,12 +25,12 @@ impl Bell {
         }
     }
 
-    /// How often it was rung.
+    /// Returns how often it was rung.
     pub(crate) fn note(&self) -> Noted {
         self.words.note()
     }
 
-    /// Whether it was rung since this note.
+    /// Returns whether it was rung since this note.
     pub(crate) fn has_rung_since(&self, noted: &Noted) -> bool {
         self.words.have_grown_since(noted)
     }
@@ -41,8 +41,8 @@ impl Bell {
         self.words.wake(rung);
     }
 
-    /// After polls: rings where they did something or all is over, and else waits until it was rung since the note that they
-    /// were made with.
+    /// After polls: rings if they did something or all is over, and else waits until it was rung since the note that
+    /// they were made with.
     pub(crate) fn tell<R: Wait>(&self, rt: &R, polled: Polled<'_>) {
         match polled.did() {
             Did::Did | Did::Over => self.ring(),

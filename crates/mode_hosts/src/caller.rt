@@ -19,7 +19,7 @@ use std::alloc::Global;
 use std::sync::{Arc, Wait};
 use std::thread::Threads;
 
-/// So many polls of the application more may come before it rings.
+/// The most further polls of the application before it rings.
 const MORE: u32 = 1_023;
 
 /// A poll of the application. After an error, which has set the stop mark, it rings.
@@ -41,9 +41,9 @@ fn poll_app<R: Wait, O: Sink, G: Gate>(
     }
 }
 
-/// Further polls of the application, some at most, for as long as each does something and nobody rings: most are edits, which
-/// nobody waits for, and one ring tells of them all. A frame rings at its gate, so the stages that are with the caller are
-/// polled behind each frame.
+/// Polls the application further, `MORE` times at most, for as long as each poll does something and nobody rings. Most
+/// are edits, which nobody waits for, and one ring serves them all. A frame rings at its gate, so the stages that are
+/// with the caller are polled behind each frame.
 fn go_on<R: Wait, O: Sink, G: Gate>(
     common: &Common<G>,
     app: &mut AppSeat<R>,
@@ -66,7 +66,7 @@ fn go_on<R: Wait, O: Sink, G: Gate>(
     Ok(())
 }
 
-/// Further polls of the application, where its last one did something and no other stage of the caller did.
+/// Polls the application further, if its last poll did something and no other stage of the caller did.
 fn more_where_calm<R: Wait, O: Sink, G: Gate>(
     common: &Common<G>,
     app: &mut AppSeat<R>,
@@ -86,8 +86,8 @@ fn more_where_calm<R: Wait, O: Sink, G: Gate>(
     }
 }
 
-/// A poll of the application and of each stage that is with the caller, after a note of the bell, and what they came to. Where
-/// the application did something and no other did, further polls of the application follow.
+/// Polls the application and each stage that is with the caller, after a note of the bell. Returns what the polls came
+/// to. If the application did something and no other did, further polls of the application follow.
 fn round<'a, R: Threads + Wait + Sync + Drop, O: Sink, G: Gate>(
     rt: &R,
     common: &Common<G>,
@@ -107,7 +107,7 @@ fn round<'a, R: Threads + Wait + Sync + Drop, O: Sink, G: Gate>(
     Ok(others.and(did))
 }
 
-/// A round after which it rings where something was done or all is over, and else waits. It answers whether all is over.
+/// Polls in a round, then rings if something was done or all is over, and else waits. Returns whether all is over.
 fn turn<R: Threads + Wait + Sync + Drop, O: Sink, G: Gate>(
     rt: &R,
     common: &Common<G>,
@@ -178,7 +178,7 @@ fn stages_of<R>(crew: Crew<R>) -> Stages<R>
     }
 }
 
-/// What came back of a play: the application's seat, the crews, and what the application's polls came to.
+/// What is returned of a play: the application's seat, the crews, and what the application's polls came to.
 #[derive(Drop)]
 pub(crate) struct Ended<R> {
     pub(crate) app: AppSeat<R>,
@@ -186,7 +186,7 @@ pub(crate) struct Ended<R> {
     pub(crate) came: Result<(), StageError>,
 }
 
-/// The seats of a play whose crews came back.
+/// Returns the seats of a play whose crews have returned.
 pub(crate) fn seats_of<R: Drop>(app: AppSeat<R>, crews: Crews<R>) -> AllSeats<R>
     requires { HasAll (all_of (crews_state crews)) }
     ensures app { result.app ≡ app }
@@ -208,8 +208,8 @@ pub(crate) fn seats_of<R: Drop>(app: AppSeat<R>, crews: Crews<R>) -> AllSeats<R>
     }
 }
 
-/// Plays with the seats of a play, divided into crews as the setup asks: starts the hosts, polls on the caller's thread what
-/// stays there, and waits for the hosts.
+/// Plays with the seats of a play, divided into crews as the setup asks: starts the hosts, polls on the caller's thread
+/// what stays there, and waits for the hosts.
 pub(crate) fn run_all<
     R: Threads + Wait + Copy + Drop + Send + Sync + 'static,
     O: Sink,

@@ -1,4 +1,4 @@
-//! The passes brought home, and the lock closed.
+//! The passes joined, and the lock closed.
 ghost use Rattle.std.specs.Prelude.{◌≡◌, ℕ, ◌<◌, ◌≤◌, []};
 ghost use Rattle.seat_lock.specs.Log.{of, Found};
 ghost use Rattle.seat_lock.specs.View.{answering};
@@ -10,7 +10,7 @@ use pf_scene::Scene;
 use seat_lock::{Pass, SeatLock};
 use std::sync::Wait;
 
-/// One pass with the numbers of both.
+/// Returns one pass with the numbers of both.
 fn two(lock: &SeatLock<Scene>, mut into: Pass<Scene>, other: Pass<Scene>) -> Pass<Scene>
     requires into { pass_of into ≡ lock_id lock.now }
     requires other { pass_of other ≡ lock_id lock.now }
@@ -27,7 +27,7 @@ fn two(lock: &SeatLock<Scene>, mut into: Pass<Scene>, other: Pass<Scene>) -> Pas
     into
 }
 
-/// The scene, in a last turn.
+/// Takes the scene out in a last turn.
 fn last<R: Wait>(rt: &R, lock: &SeatLock<Scene>, pass: Pass<Scene>) -> Scene
     requires lock { pass_of pass ≡ lock_id lock.now }
     requires seats { (pass_view pass).seats ≡ 5 }
@@ -42,7 +42,7 @@ fn last<R: Wait>(rt: &R, lock: &SeatLock<Scene>, pass: Pass<Scene>) -> Scene
     scene
 }
 
-/// The scene, once the passes of the five seats are home.
+/// Returns the scene, once the passes of the five seats are joined.
 pub(crate) fn all_home<R: Wait>(
     rt: &R,
     lock: &SeatLock<Scene>,

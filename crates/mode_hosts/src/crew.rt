@@ -37,8 +37,8 @@ fn together(one: Did, other: Did) -> Did
     }
 }
 
-/// What polls came to that were made after the bell was noted, with that note. It is made by polls alone, which want the note
-/// before they begin.
+/// What polls came to that were made after the bell was noted, with that note. It is made by polls alone, which take
+/// the note before they begin.
 #[derive(Drop)]
 pub(crate) struct Polled<'a> {
     noted: &'a Noted,
@@ -126,7 +126,7 @@ fn poll_probe<R: Wait>(probe: &mut Option<ProbeSeat<R>>) -> Did
 }
 
 impl<R: Threads + Wait + Sync> Crew<R> {
-    /// One poll of each stage that is there, after a note of the bell, and what they came to.
+    /// Polls each stage that is there once, after a note of the bell. Returns what the polls came to.
     pub(crate) fn poll<'a, G: Gate>(&mut self, rt: &R, gate: &G, noted: &'a Noted) -> Polled<'a>
         ensures { CrewGoes (crew_state self.old) (crew_state self.new) }
     {
@@ -141,7 +141,7 @@ impl<R: Threads + Wait + Sync> Crew<R> {
     }
 }
 
-/// Takes the crew that was sent to a host, after a note of the bell. Where none has come, the host has to wait.
+/// Takes the crew that was sent to a host, after a note of the bell. If none has come, the host has to wait.
 pub(crate) fn sent_crew<'a, R>(
     take: &mut RingTake<Crew<R>>,
     noted: &'a Noted,

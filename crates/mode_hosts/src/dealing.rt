@@ -13,8 +13,8 @@ use seat_lock::{Pass, SeatDesk, SeatLock};
 use std::alloc::Global;
 use std::sync::{Arc, Wait};
 
-/// The lock over the scene, and the passes: APP has the number 0, CULL 1, DRAW 2, DBASE 3, and the probe 4, in every mode
-/// and in every play.
+/// The lock over the scene, and the passes: APP has the number 0, CULL 1, DRAW 2, DBASE 3, and the probe 4, in every
+/// mode and in every play.
 #[derive(Drop)]
 struct Dealt {
     lock: SeatLock<Scene>,

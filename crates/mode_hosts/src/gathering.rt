@@ -1,4 +1,4 @@
-//! What the seats leave, once all of them are home.
+//! What the seats leave, once all of them have returned.
 ghost use Rattle.std.specs.Prelude.{◌≡◌, ◌<◌, ◌≤◌, ℕ, [], length, take};
 ghost use Rattle.std.specs.Option.{option_map};
 ghost use Rattle.frame_link.specs.Ends.{ring_sent, ring_send_at, ring_taken, ring_take_at};
@@ -23,7 +23,7 @@ use std::alloc::Global;
 use std::sync::Wait;
 use stream_stages::Piece;
 
-/// What a play leaves: the history, the numbers of the frames that came back, and what the probe answered.
+/// What a play leaves: the history, the numbers of the returned frames, and the results of the probe.
 #[derive(Drop)]
 pub(crate) struct Gathered {
     pub(crate) history: History,
@@ -31,7 +31,7 @@ pub(crate) struct Gathered {
     pub(crate) answers: Vec<Option<Near>>,
 }
 
-/// On a link whose ends are in one thread again, what was received is a front of what was sent.
+/// On a link whose ends are in one thread again, what was received is a prefix of what was sent.
 fn link_home(send: &mut RingSend<Packet>, take: &mut RingTake<Packet>)
     requires { ring_take_at take.old ≡ ring_send_at send.old }
     ensures { LinkPart (ring_sent send.old) (ring_taken take.old) }
@@ -39,8 +39,8 @@ fn link_home(send: &mut RingSend<Packet>, take: &mut RingTake<Packet>)
     home(send, take);
 }
 
-/// On the way from the application to the cull, through the probe where there is one, what was received is on each link a
-/// front of what was sent. What the probe answered; nothing where there is none.
+/// Returns the results of the probe, none if there is no probe. On the way from the application to the cull, through
+/// the probe if there is one, what was received is on each link a prefix of what was sent.
 fn way_home(
     alloc: Global,
     to_cull: &mut RingSend<Packet>,
@@ -69,7 +69,7 @@ fn way_home(
     }
 }
 
-/// On a link of pieces whose ends are in one thread again, what was received is a front of what was sent.
+/// On a link of pieces whose ends are in one thread again, what was received is a prefix of what was sent.
 fn cuts_home(gone: &mut RingSend<Piece>, came: &mut RingTake<Piece>)
     requires { ring_take_at came.old ≡ ring_send_at gone.old }
     ensures { ring_taken came.old ≡ take (length (ring_taken came.old)) (ring_sent gone.old) }
@@ -77,7 +77,7 @@ fn cuts_home(gone: &mut RingSend<Piece>, came: &mut RingTake<Piece>)
     home(gone, came);
 }
 
-/// On the link of the pieces, where there is one, what came to the draw is a front of what the cull sent.
+/// On the link of the pieces, if there is one, what came to the draw is a prefix of what the cull sent.
 fn pieces_home(cull: &mut AnyCull, draw: &mut AnyDraw)
     requires { draw_links (any_draw draw.old) ≡ cull_links (any_cull cull.old) }
     ensures { came_over (any_draw draw.old) ≡ take (length (came_over (any_draw draw.old))) (gone_over (any_cull cull.old)) }
@@ -91,7 +91,7 @@ fn pieces_home(cull: &mut AnyCull, draw: &mut AnyDraw)
     }
 }
 
-/// What the seats of a lock leave, once they are home.
+/// Returns what the seats of a lock leave, once they have returned.
 pub(crate) fn gather<R: Wait, D: Wait + Drop>(
     rt: &R,
     alloc: Global,

@@ -1,4 +1,4 @@
-//! Hosts: threads that poll a crew each, and hand it back.
+//! Hosts: threads that poll a crew each, and return it.
 ghost use Rattle.std.specs.Prelude.{◌≡◌, IfSome};
 ghost use Rattle.frame_link.specs.Ends.{ring_sent, ring_send_at, ring_taken, ring_take_at};
 ghost use Rattle.mode_hosts.specs.Sites.{CrewGoes};
@@ -23,8 +23,8 @@ pub(crate) struct Common<G> {
     pub(crate) gate: G,
 }
 
-/// Whoever comes to the gate rings before it passes: it may be held back there until others come, who may still wait for
-/// what it did.
+/// Whoever comes to the gate rings before it passes: it may be held back there until others come, who may still wait
+/// for what it did.
 impl<G: Gate> Gate for Common<G> {
     fn pass(&self, stage: Stage, number: u32) {
         self.bell.ring();
@@ -32,8 +32,8 @@ impl<G: Gate> Gate for Common<G> {
     }
 }
 
-/// Polls each stage of a crew once, rings where one did something or all are over, and waits where none did. It answers
-/// whether all are over.
+/// Polls each stage of a crew once, rings if one did something or all are over, and waits if none did. Returns whether
+/// all are over.
 fn turn<R: Threads + Wait + Sync, G: Gate>(rt: &R, common: &Common<G>, crew: &mut Crew<R>) -> bool
     ensures { CrewGoes (crew_state crew.old) (crew_state crew.new) }
 {
@@ -74,8 +74,8 @@ fn run_there<R: Threads + Wait + Sync, G: Gate>(
     unreachable!()
 }
 
-/// What a host's thread promises, which was started with this end: the crew that it hands back is the one that it took
-/// from there, after polls.
+/// The end that a host's thread was started with. The thread promises that the crew that it returns is the one that it
+/// took from there, after polls.
 #[derive(Drop)]
 struct Handed<R>(Snapshot<RingTake<Crew<R>>>);
 
@@ -91,7 +91,7 @@ pub(crate) struct Host<R: Drop> {
     ghost linked: { ring_take_at thread.promise.0.value ≡ ring_send_at send },
 }
 
-/// Starts a thread that waits for its crew. `None` is want of memory or of a thread.
+/// Starts a thread that waits for its crew. Returns `None` for lack of memory or of a thread.
 pub(crate) fn new_host<
     R: Threads + Wait + Copy + Drop + Send + Sync + 'static,
     G: Gate + Send + Drop + 'static,
@@ -121,7 +121,7 @@ pub(crate) fn give<R: Drop>(host: Host<R>, crew: Crew<R>) -> Host<R>
     Host { send, thread }
 }
 
-/// Waits for a host's end, and hands its crew back.
+/// Waits for a host's end. Returns its crew.
 pub(crate) fn back<R: Threads + Wait + Drop>(rt: &R, host: Host<R>) -> Crew<R>
     ensures { (crew : Crew R) → WillCome crew host.send host.thread.promise.0.value
         → CrewGoes (crew_state crew) (crew_state result) }

@@ -1,7 +1,8 @@
 //! Laws of the hosts' waits, in a model, each the contract of a call that does nothing.
 ghost use Rattle.mode_hosts.specs.Laws.{OpeningLaw, PollLaw, AnswerLaw, ProgressLaw, BellLaw, HostsLaw};
 
-/// A system that has not begun, with its desks and links together and each seat keeping its part, is a system of the play.
+/// A system that has not begun, with its desks and links together and each seat keeping its part, is a system of the
+/// play.
 pub fn the_opening_is_of_its_play()
     ensures { OpeningLaw }
 {}
@@ -11,20 +12,20 @@ pub fn polls_keep_the_system()
     ensures { PollLaw }
 {}
 
-/// A poll of a stage, alone, that answers NotYet finds it waiting, for the cause that it names, and one that answers Over finds
-/// it over.
+/// A poll of a stage, alone, that returns `NotYet` finds it waiting, for the cause that it names, and one that returns
+/// `Over` finds it over.
 pub fn an_idle_poll_tells_why()
     ensures { AnswerLaw }
 {}
 
-/// Where the stop mark is not set and a poll of each stage, alone, would do nothing, all stages have ended, or the play is
+/// If the stop mark is not set and a poll of each stage, alone, would do nothing, all stages have ended, or the play is
 /// stuck.
 pub fn the_stages_make_progress()
     ensures { ProgressLaw }
 {}
 
-/// Of hosts that wait at the bell by its rule: where a host sleeps, it will wake, or still none of its stages would do
-/// anything and one of them waits; and where all sleep or have left, the latter holds of each that sleeps.
+/// Of hosts that wait at the bell by its rule: if a host sleeps, it will wake, or still none of its stages would do
+/// anything and one of them waits. If all sleep or have left, the latter holds of each that sleeps.
 pub fn no_ring_is_lost()
     ensures { BellLaw }
 {}

@@ -26,7 +26,7 @@ use std::alloc::Global;
 use std::sync::Wait;
 use stream_stages::laws::streamed_frames_are_whole_ones;
 
-/// Whether memory ran out for the probe.
+/// Returns whether memory ran out for the probe.
 fn has_failed(way: &Option<ProbeWay>) -> bool
     ensures { result ≡ has_failed (option_map way_site way.now) }
 {
@@ -36,8 +36,8 @@ fn has_failed(way: &Option<ProbeWay>) -> bool
     }
 }
 
-/// What the application's polls came to is what the play came to, unless memory ran out for one of the two stages that make
-/// entries or for the probe. At the end the frame sink is flushed.
+/// What the application's polls came to is what the play came to, unless memory ran out for one of the two stages that
+/// make entries or for the probe. At the end the frame sink is flushed.
 fn finish<O: Sink>(
     came: Result<(), StageError>,
     app_ended: bool,
@@ -68,7 +68,7 @@ fn finish<O: Sink>(
     flush_frames(frames)
 }
 
-/// The answers of the probe, where the play came to its end; else none.
+/// Returns the results of the probe, if the play came to its end; else none.
 fn answers_at(alloc: Global, end: PlayEnd, answers: Vec<Option<Near>>) -> Vec<Option<Near>>
     ensures done { end ≡ PlayEnd.Done → result.items ≡ answers.items }
     ensures early { end ≢ PlayEnd.Done → result.items ≡ [] }
@@ -80,7 +80,7 @@ fn answers_at(alloc: Global, end: PlayEnd, answers: Vec<Option<Near>>) -> Vec<Op
     }
 }
 
-/// Brings the seats home and takes what the play leaves, where the application's polls came to this.
+/// Joins the seats and returns what the play leaves. The application's polls came to `came`.
 pub(crate) fn leave<R: Wait, D: Wait + Drop, O: Sink>(
     rt: &R,
     alloc: Global,

@@ -22,24 +22,25 @@ pub enum Mode {
     AppCullDraw,
 }
 
-/// How a play is played.
+/// How the stages of a play are divided among threads, and what is asked for besides its pictures.
 #[derive(Clone, Copy, Debug, PartialEq, Eq)]
 pub struct Setup {
+    /// Which stages share a thread.
     pub mode: Mode,
     /// Whether the database process has a thread of its own; else it is on the application's.
     pub dbase: bool,
     /// How many frames may be in flight, 1 to 4.
     pub ahead: u8,
-    /// The segment whose nearest hit is asked for in each frame, in eye coordinates of the first channel. The probe has a
-    /// thread of its own in every mode.
+    /// The segment whose nearest hit is asked for in each frame, in eye coordinates of the first channel, if one is.
+    /// The probe has a thread of its own in every mode.
     pub probe: Option<Segment>,
-    /// The most items of a piece, 1 to 4,096. Where it is there, the cull sends the draw lists of a frame in pieces while it
-    /// is still at work on it; else each with its frame, whole.
+    /// The most items of a piece, 1 to 4,096: the cull sends the draw lists of a frame in pieces while it still walks.
+    /// With `None` each is sent whole with its frame.
     pub stream: Option<u32>,
 }
 
-/// The crews of a play: of the caller's thread, and of the hosts of the cull, of the draw, of the database process, and of
-/// the probe. A crew may be empty.
+/// The crews of a play: of the caller's thread, and of the hosts of the cull, of the draw, of the database process, and
+/// of the probe. A crew may be empty.
 #[derive(Drop)]
 pub(crate) struct Crews<R> {
     pub(crate) caller: Crew<R>,

@@ -45,7 +45,7 @@ struct Ends {
     take: RingTake<Packet>,
 }
 
-/// A link, through which nothing went, with room for one packet more than so many frames.
+/// Returns a link, through which nothing went, with room for one packet more than `ahead` frames.
 fn new_link(alloc: Global, ahead: u8) -> Result<Ends, NoMemory>
     ensures { IfOk result (λ l. IsNewRing (ahead + 1) l.send l.take) }
 {
@@ -61,7 +61,8 @@ struct Way {
     take: RingTake<Packet>,
 }
 
-/// The way from the application to the cull, through which nothing went, with the probe of this segment where there is one.
+/// Returns the way from the application to the cull, through which nothing went, with the probe of this segment if
+/// there is one.
 fn new_way(alloc: Global, ahead: u8, probe: Option<Segment>) -> Result<Way, NoMemory>
     ensures { IfOk result (λ w. IsNewWay probe w.send (option_map way_site w.probe) w.take) }
 {
@@ -96,7 +97,7 @@ pub(crate) struct Links {
     back: Ends,
 }
 
-/// The links of a play, through which nothing went, with the probe of this segment where there is one.
+/// Returns the links of a play, through which nothing went, with the probe of this segment if there is one.
 fn new_links(alloc: Global, ahead: u8, probe: Option<Segment>) -> Result<Links, NoMemory>
     ensures way { IfOk result (λ l. IsNewWay probe l.to_cull.send (option_map way_site l.to_cull.probe) l.to_cull.take) }
     ensures to_draw { IfOk result (λ l. IsNewRing (ahead + 1) l.to_draw.send l.to_draw.take) }

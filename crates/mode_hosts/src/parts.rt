@@ -1,4 +1,4 @@
-//! The parts of a play on hosts, put together. It is all one to these functions what the parts are.
+//! The parts of a play on hosts, put together, whatever their types.
 ghost use Rattle.std.specs.Prelude.{◌≡◌, Ok, IfOk};
 
 use pf_io::NoMemory;
@@ -13,7 +13,7 @@ pub(crate) struct Parts<A, W, B, K, L> {
     pub(crate) links: L,
 }
 
-/// The parts, where there was memory for all of them.
+/// Returns the parts, if there was memory for all of them.
 pub(crate) fn all_made<A: Drop, W: Drop, B: Drop, K: Drop, L: Drop>(
     app: Result<A, NoMemory>,
     works: Result<W, NoMemory>,

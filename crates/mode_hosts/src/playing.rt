@@ -42,7 +42,7 @@ struct Ready<R, G> {
     common: Arc<Common<G>, Global>,
 }
 
-/// Opens a play as the setup asks for it, where there is memory for it.
+/// Opens a play as the setup asks for it, if there is memory for it.
 fn get_ready<R: Wait + Copy + Drop, G: Drop>(
     alloc: Global,
     rt: &R,
@@ -65,11 +65,15 @@ fn get_ready<R: Wait + Copy + Drop, G: Drop>(
     Ok(Ready { opened, common })
 }
 
-/// Plays a play that is not stuck, its stages divided among hosts by the setup, and writes the pictures of its frames to
-/// `frames`, which the caller's thread alone uses; at the end it flushes the sink. A host for which there is no thread is
-/// polled by the caller. The stages pass the gate before each frame and each merge. Where the setup has a segment, a probe
-/// stands between the application and the cull, on a thread of its own, and finds its nearest hit in each frame. Where it has
-/// a limit for pieces, the draw lists go from the cull to the draw in pieces.
+/// Plays a play that is not stuck, its stages divided among hosts by the setup, and writes the pictures of its frames
+/// to `frames`, which the caller's thread alone uses. At the end it flushes the sink. A host that gets no thread is
+/// polled by the caller. The stages pass the gate before each frame and each merge.
+///
+/// If the setup has a segment, a probe between the application and the cull, on a thread of its own, finds its nearest
+/// hit in each frame. If it has a limit for pieces, the draw lists go from the cull to the draw in pieces.
+///
+/// Returns how the play ended, its history, the numbers of the returned frames, and the results of the probe. The end
+/// is `FrameFault` only if the frame sink reported a fault, `NoMemory` if memory ran out, and else `Done`.
 pub fn play_all<
     R: Threads + Wait + Copy + Drop + Send + Sync + 'static,
     O: Sink,
@@ -86,26 +90,28 @@ pub fn play_all<
     ensures wholly { result.end ≡ PlayEnd.Done
         → FitsWholly play.channels setup.now.ahead play.app play.dbase result.history.entries }
 
-    // Some pipe that fits the play, whose stages have desks of their own, has this history, these numbers and this stream.
+    // Some pipe that fits the play, whose stages have desks of their own, has this history, these numbers and this
+    // stream.
     ensures pipe { LeavesPipe play setup.now.ahead own_seats result.end result.history.entries result.stats.items
         (O.written frames.old) (O.written frames.new) }
 
-    // The stream is whole pictures of the history, and a prefix of the next one only where a fault of the sink cut it short.
+    // The stream is whole pictures of the history, and a prefix of the next one only if a fault of the sink cut it
+    // short.
     ensures front { AddsFront play result.end result.history.entries (O.written frames.old) (O.written frames.new) }
     ensures whole { result.end ≡ PlayEnd.Done → O.written frames.new ≡ append_known (O.written frames.old)
         (concat (pictures play.channels play.lens play.back result.history.entries)) }
     ensures stats { result.end ≡ PlayEnd.Done
         → result.stats.items ≡ frame_numbers play.channels play.lens result.history.entries }
 
-    // Whatever the end, the numbers are those of the frames that came back: the first of the history's.
+    // Whatever the end, the numbers are those of the returned frames: the first of the history's.
     ensures numbers { KeepsNumbers play result.end result.history.entries result.stats.items
         (O.written frames.old) (O.written frames.new) }
 
-    // Where it is done, the last call on the sink was a flush that succeeded.
+    // If it is done, the last call on the sink was a flush that succeeded.
     ensures flushed { result.end ≡ PlayEnd.Done → O.flushed frames.new ≡ true }
 
-    // Where it is done, the nearest hit of the segment of the setup in each Frame of the history, in turn. Without a segment,
-    // or at another end, there are none.
+    // If it is done, the nearest hit of the segment of the setup in each Frame of the history, in turn. Without a
+    // segment, or at another end, there are none.
     ensures probes { result.end ≡ PlayEnd.Done → IfSome setup.now.probe (λ segment.
         result.probes.items ≡ nearest_hits play.channels segment result.history.entries) }
     ensures no_probe { IfNone setup.now.probe (result.probes.items ≡ []) }

@@ -12,8 +12,8 @@ use std::alloc::Global;
 use std::sync::{Arc, Wait};
 use std::thread::Threads;
 
-/// A crew that stays with the caller's thread, since it has no stage, or no thread or no memory was to be had for it. It is
-/// made by `post_of` alone.
+/// A crew that stays with the caller's thread, since it has no stage, or no thread or no memory was to be had for it.
+/// It is made by `post_of` alone.
 #[derive(Drop)]
 pub(crate) struct Stay<R> {
     crew: Crew<R>,
@@ -28,7 +28,7 @@ pub(crate) enum Post<R: Drop> {
     Here(Stay<R>),
 }
 
-/// Sends a crew to a thread of its own, where it has a stage and there is a thread for it.
+/// Sends a crew to a thread of its own, if it has a stage and there is a thread for it.
 pub(crate) fn post_of<
     R: Threads + Wait + Copy + Drop + Send + Sync + 'static,
     G: Gate + Send + Drop + 'static,
@@ -63,7 +63,7 @@ impl<R: Threads + Wait + Sync + Drop> Post<R> {
         }
     }
 
-    /// The crew, as its host hands it back, or the caller has it.
+    /// Returns the crew, from its host or from the caller.
     pub(crate) fn back(self, rt: &R) -> Crew<R>
         ensures { (crew : Crew R) → IsPost crew self → CrewGoes (crew_state crew) (crew_state result) }
     {

@@ -46,7 +46,7 @@ pub(crate) fn posts_of<
 }
 
 impl<R: Threads + Wait + Sync + Drop> Posts<R> {
-    /// One poll of each stage that is with the caller, after a note of the bell, and what they came to.
+    /// Polls each stage that is with the caller once, after a note of the bell. Returns what the polls came to.
     pub(crate) fn poll<'a, G: Gate>(&mut self, rt: &R, gate: &G, noted: &'a Noted) -> Polled<'a>
         ensures { (crews : Crews R) → ArePosts crews self.old → ArePosts crews self.new }
     {
@@ -58,7 +58,7 @@ impl<R: Threads + Wait + Sync + Drop> Posts<R> {
         caller.and(cull).and(draw).and(dbase).and(probe)
     }
 
-    /// The crews, as their hosts hand them back.
+    /// Returns the crews, from their hosts.
     pub(crate) fn back(self, rt: &R) -> Crews<R>
         ensures { (crews : Crews R) → ArePosts crews self → CrewsGo (crews_state crews) (crews_state result) }
     {

@@ -133,7 +133,7 @@ impl ProbeWay {
 }
 
 impl<R: Wait> ProbeSeat<R> {
-    /// One poll of the probe. It is over where there is none.
+    /// One poll of the probe. It is over if there is none.
     pub(crate) fn poll(&mut self) -> Result<Did, StageError>
         ensures { ProbeGoes (probe_site self.old) (probe_site self.new) }
     {

@@ -1,5 +1,5 @@
-//! The words of a bell: how often it was rung, and how many sleep at it. What has to come first is shown by a value that
-//! nothing else gives.
+//! The words of a bell: how often it was rung, and how many sleep at it. What has to come first is shown by a value
+//! that nothing else gives.
 
 use std::sync::Wait;
 use std::sync::atomic::{AtomicU64, Ordering};
@@ -10,15 +10,15 @@ pub(crate) struct Noted {
     number: u64,
 }
 
-/// That a bell was rung. `Words::ring` alone makes one, and the sleepers are counted by it: who is not among them yet looks
-/// at the bell once more before it sleeps, and finds it rung.
+/// That a bell was rung. `Words::ring` alone makes one, and the sleepers are counted by it: who is not among them yet
+/// looks at the bell once more before it sleeps, and finds it rung.
 #[derive(Drop)]
 pub(crate) struct Rung {
     _before: u64,
 }
 
-/// One who is counted among the sleepers. `Words::count_in` alone makes one, and without one nobody sleeps: who rings after
-/// the sleeper's last look finds it counted.
+/// One who is counted among the sleepers. `Words::count_in` alone makes one, and without one nobody sleeps: who rings
+/// after the sleeper's last look finds it counted.
 #[derive(Drop)]
 pub(crate) struct Sleeper {
     _before: u64,
@@ -39,14 +39,14 @@ impl Words {
         }
     }
 
-    /// How often it was rung.
+    /// Returns how often it was rung.
     pub(crate) fn note(&self) -> Noted {
         Noted {
             number: self.rung.load(Ordering::SeqCst),
         }
     }
 
-    /// Whether it was rung since this note.
+    /// Returns whether it was rung since this note.
     pub(crate) fn have_grown_since(&self, noted: &Noted) -> bool {
         self.rung.load(Ordering::SeqCst) != noted.number
     }

@@ -1,4 +1,4 @@
-//! The cull and the draw, which hand on each draw list whole with its load, or in pieces.
+//! The cull and the draw, which pass on each draw list whole with its load, or in pieces.
 ghost use Rattle.std.specs.Prelude.{◌≡◌};
 ghost use Rattle.frame_link.specs.Ends.{ring_sent, ring_send_at, ring_taken, ring_take_at};
 ghost use Rattle.mode_hosts.specs.Works.{cull_links, draw_links, cull_lens, draw_lens, draw_back, KeepsCull, KeepsDraw};
@@ -14,7 +14,7 @@ use std::sync::Wait;
 use std::thread::Threads;
 use stream_stages::{Piece, StreamCullStage, StreamDrawStage};
 
-/// The cull of a stream between the links of the pieces: it sends them over one, and takes those that come back from the
+/// The cull of a stream between the links of the pieces: it sends them over one, and takes the returned ones from the
 /// other.
 #[derive(Drop)]
 pub(crate) struct StreamCull {

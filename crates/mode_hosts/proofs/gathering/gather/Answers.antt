@@ -14,7 +14,7 @@ returns-clause-home g c =
     let draw = c.into_pass-3.ensures in
     let dbase = c.into_pass-4.ensures in
     let probe = c.into_pass-5.ensures in
-    subst (λ (log : Log). AllCameHome (all_sites c.args.seats) log) (sym c.into_history.ensures)
+    subst (λ (log : Log). AllCameHome (all_sites c.args.seats) log) (sym c.into_history.ensures.entries)
     (record {
       legal = home.legal;
       within = home.within;

@@ -83,7 +83,7 @@ returns-in-Err g c =
     let bytes = g.O.Sink.written c.args.frames.now in
     let pipe : LeavesPipe play ahead own_seats ends.NoMemory c.new.result.entries c.new-in-Err.result.items bytes bytes =
     subst (λ (stats : List Stats). LeavesPipe play ahead own_seats ends.NoMemory c.new.result.entries stats bytes bytes) (sym c.new-in-Err.ensures.items)
-    (subst (λ (log : Log). LeavesPipe play ahead own_seats ends.NoMemory log [] bytes bytes) (sym c.new.ensures)
+    (subst (λ (log : Log). LeavesPipe play ahead own_seats ends.NoMemory log [] bytes bytes) (sym c.new.ensures.entries)
     (c.a_play_not_begun_leaves_nothing.ensures play ahead own_seats bytes)) in
     let left = c.a_play_leaves_its_history.ensures play ahead own_seats ends.NoMemory c.new.result.entries c.new-in-Err.result.items bytes bytes can pipe in
     record {
