@@ -3,7 +3,7 @@ use depth_raster::Raster;
 use draw_list::{DrawList, Item, Tint};
 use fx_math::{Affine, Lens, Vec3};
 use kit::{Global, OneThread};
-use pf_model::{Euler, Geom, Pose, Tri, View};
+use pf_model::{Euler, Geom, Pose, Tri, View, box_of_tris, squared_distance};
 use ppm_out::{Image, append_ppm};
 use std::collections::HashMap;
 use std::io::Write;
@@ -68,7 +68,8 @@ impl<'a> Words<'a> {
             let id = self.number();
             let geom = list.keep(id, &geoms[&id]).expect("room");
             let (state, place, shift, joint) = (self.number(), self.number(), self.number(), self.number());
-            let tint = u8::try_from(self.number::<i64>()).ok().map(|alpha| Tint { alpha, far: 0 });
+            let far = box_of_tris(geoms[&id].as_slice()).map_or(0, |around| squared_distance(&list.eye_box(joint, &around)));
+            let tint = u8::try_from(self.number::<i64>()).ok().map(|alpha| Tint { alpha, far });
             list.push_reserved(Item { state, place, shift, joint, geom, tint }).expect("room");
         }
         list.order();

@@ -48,6 +48,11 @@ impl<T> Vec<T> {
         Ok(())
     }
 
+    pub fn reserve_exact(&mut self, n: usize) -> Result<(), Never> {
+        self.0.reserve_exact(n);
+        Ok(())
+    }
+
     pub fn push(&mut self, value: T) -> Result<(), AllocFailed<T>> {
         self.0.push(value);
         Ok(())

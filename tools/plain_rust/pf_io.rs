@@ -1,4 +1,4 @@
-//! Want of memory, which the mirror never has.
+//! The error of running out of memory, which the mirror never does.
 #[derive(Clone, Copy, Debug, PartialEq, Eq)]
 pub struct NoMemory;
 
