@@ -327,7 +327,8 @@ def large(exponent, glass, frames):
 
 
 def instances(size=1024):
-    """One triangle that fills the picture, reached by 98,304 ways at one depth."""
+    """One triangle that fills the picture, reached by 32,768 ways at one depth: the last of sixteen layers of groups is one
+    group, since the scene has 131,072 nodes at most, each as often as it stands there, and this one stands for 98,303."""
     lines = header(size, size) + ["geode 10 0 1"]
     lines.append(triangle((-UNIT * 64, UNIT * 16, -UNIT * 32, 250, 200, 40), (UNIT * 64, UNIT * 16, -UNIT * 32, 200, 60, 40),
                           (0, UNIT * 16, UNIT * 64, 40, 60, 200)))
@@ -338,10 +339,7 @@ def instances(size=1024):
             lines.append(f"group {node}")
             lines += [f"add {node} {child}" for child in below]
         below = here
-    for node in (1, 2, 3):
-        lines.append(f"group {node}")
-        lines += [f"add {node} {child}" for child in below] + [f"add 0 {node}"]
-    return lines + ["frame"]
+    return lines + ["group 1"] + [f"add 1 {child}" for child in below] + ["add 0 1", "frame"]
 
 
 def panes(count=130048, glass=1):
