@@ -23,9 +23,9 @@ use std::alloc::Global;
 use std::marker::Model;
 use update_lists::{Cut, Views};
 
-/// The stage at its links, between the application and the cull: it takes the loads that the application sends, asks for
-/// the nearest hit in the frame of each, and sends the packets on as they came. Each load that it asks for takes memory.
-/// Where memory runs out it is over, and sets the stop mark of the shared scene.
+/// The stage at its links, between the application and the cull. It takes the loads that the application sends, asks
+/// for the nearest hit in the frame of each, and sends the packets on as they came. Each load that it asks for takes
+/// memory. If memory runs out it is over, and sets the stop mark of the shared scene.
 ///
 /// Contracts see the stage that is asked, whether the End was passed on, whether memory ran out, and the packet that it
 /// holds to send.
@@ -56,7 +56,7 @@ impl Model for ProbeStage {
     ghost view = { λ p. record { isect = p.stage; ended = p.ended; failed = p.failed; held = p.held } };
 }
 
-/// Whether a packet is the End.
+/// Returns whether a packet is the End.
 fn is_end(packet: &Packet) -> bool
     ensures { result ≡ is_end packet.now }
 {
@@ -66,7 +66,7 @@ fn is_end(packet: &Packet) -> bool
     }
 }
 
-/// The view of the first channel, or the home view where there is none.
+/// Returns the view of the first channel, or the view of zeros if there is none.
 fn first_view(views: &Views) -> View
     ensures { result ≡ slice_index_or views.now 0 home_view }
 {
@@ -76,7 +76,7 @@ fn first_view(views: &Views) -> View
     }
 }
 
-/// Asks a stage for the frame of a cut. A refusal leaves it as it was.
+/// Asks a stage for the frame of a cut. Running out of memory leaves the stage as it was.
 fn ask(stage: &mut IsectStage, cut: &Cut) -> Result<(), NoMemory>
     ensures asked { OnOk result (IsAsked stage.old stage.new (question_in cut.now)) }
     ensures keeps { (asked : List Question) → IsectKeeps stage.old asked
@@ -89,7 +89,7 @@ fn ask(stage: &mut IsectStage, cut: &Cut) -> Result<(), NoMemory>
 }
 
 impl ProbeStage {
-    /// The stage of a segment, which took nothing yet.
+    /// Returns the stage of a segment, which took no packet yet. Returns `Err(NoMemory)` if memory runs out.
     pub fn new(alloc: Global, segment: Segment) -> Result<ProbeStage, NoMemory>
         ensures segment { IfOk result (λ p. p.isect.segment ≡ segment) }
         ensures answers { IfOk result (λ p. p.isect.answers ≡ []) }
@@ -104,7 +104,7 @@ impl ProbeStage {
         })
     }
 
-    /// Sends a packet, or holds it where the link has no room, and answers whether it was sent.
+    /// Sends a packet, or holds it if the link has no room. Returns whether it was sent.
     fn send<S: SendEnd<Packet>>(&mut self, packet: Packet, to: &mut S) -> bool
         requires going { self.old.ended ≡ false }
         requires bare { self.old.held ≡ None }
@@ -134,7 +134,7 @@ impl ProbeStage {
         }
     }
 
-    /// Asks for a load that came, and holds it, also where memory ran out.
+    /// Asks for a load that came, and holds it, also if memory runs out.
     fn accept(&mut self, load: Load) -> Result<(), NoMemory>
         requires whole { self.old.failed ≡ false }
         requires bare { self.old.held ≡ None }
@@ -156,7 +156,7 @@ impl ProbeStage {
         }
     }
 
-    /// Takes a packet, asks for it where it is a load, and holds it; and answers whether one came.
+    /// Takes a packet, asks for it if it is a load, and holds it. Returns whether one came.
     fn take<T: TakeEnd<Packet>>(&mut self, from: &mut T) -> Result<bool, NoMemory>
         requires whole { self.old.failed ≡ false }
         requires bare { self.old.held ≡ None }
@@ -187,7 +187,7 @@ impl ProbeStage {
         }
     }
 
-    /// Sends the packet held, or takes one, and answers whether a packet moved.
+    /// Sends the packet held, or takes one. Returns whether a packet moved.
     fn go<S: SendEnd<Packet>, T: TakeEnd<Packet>>(
         &mut self,
         from: &mut T,
@@ -218,21 +218,22 @@ impl ProbeStage {
         }
     }
 
-    /// Whether the End was passed on.
+    /// Returns whether the End was passed on.
     pub fn has_ended(&self) -> bool
         ensures { result ≡ self.now.ended }
     {
         self.ended
     }
 
-    /// Whether memory ran out.
+    /// Returns whether memory ran out.
     pub fn has_failed(&self) -> bool
         ensures { result ≡ self.now.failed }
     {
         self.failed
     }
 
-    /// The answers, one for each load in turn that it asked for.
+    /// Returns the results, one for each load in turn that it asked for: the nearest hit, or `None` if the segment hits
+    /// nothing.
     pub fn into_answers(self) -> Vec<Option<Near>>
         ensures { result.items ≡ self.isect.answers }
     {
@@ -245,9 +246,11 @@ impl ProbeStage {
         stage.into_answers()
     }
 
-    /// One step: sends the packet that it holds; or takes one, asks for it where it is a load, and holds it.
+    /// One step: sends the packet that it holds, or else takes one, asks for it if it is a load, and holds it. Returns
+    /// `Did` if a packet moved, `NotYet` if none could, and `Over` if the stage is over or finds the stop mark.
     ///
-    /// Where memory runs out, it answers `NoMemory` and sets the stop mark; it is over then.
+    /// Returns `Err(NoMemory)` if memory runs out at a load, and no other error. Then it holds that load, has set the
+    /// stop mark, and is over.
     pub fn poll<D: Desk<Scene>, S: SendEnd<Packet>, T: TakeEnd<Packet>>(
         &mut self,
         desk: &mut D,
@@ -259,12 +262,12 @@ impl ProbeStage {
         ensures keeps { ProbeKeeps self.old (T.taken from.old) (S.sent to.old)
             → ProbeKeeps self.new (T.taken from.new) (S.sent to.new) }
 
-        // It asks once for the load that came, within the limits or beyond, and for nothing where none came.
+        // It asks once for the load that came, within the limits or beyond, and for nothing if none came.
         ensures asks { OnOk result (AsksFor self.old.isect self.new.isect
             (drop (length (T.taken from.old)) (T.taken from.new))) }
 
-        // What its answer says. It is over exactly where the End was passed on, memory ran out before, or this look found
-        // the stop mark.
+        // What it returns. It is over exactly if the End was passed on, memory ran out before, or this look found the
+        // stop mark.
         ensures answer { IsProbeAnswer result
             (record { state = self.old; taken = T.taken from.old; sent = S.sent to.old })
             (record { state = self.new; taken = T.taken from.new; sent = S.sent to.new })
@@ -275,7 +278,7 @@ impl ProbeStage {
         ensures looked { (self.old.ended || self.old.failed) ≡ false
             → FoundMark (D.number desk.old) (D.seen desk.old) (D.told desk.old) (is_over result) }
 
-        // It adds no entry, sets the stop mark exactly where it answers an error, and leaves all else of the desk and the
+        // It adds no entry, sets the stop mark exactly if it returns an error, and leaves all else of the desk and the
         // links.
         ensures found { Found (D.number desk.old) (D.seen desk.old) (D.seen desk.new) }
         ensures marks { MarksAtError result (D.told desk.old) (D.told desk.new) }

@@ -1,4 +1,4 @@
-//! The stage.
+//! The stage that is asked frame by frame.
 ghost use Rattle.std.specs.Prelude.{◌≡◌, ◌<◌, List, [], ◌∷◌, ◌++◌, IfOk, OnOk, OnErr};
 ghost use Rattle.pf_model.specs.Graphs.{node_at};
 ghost use Rattle.pf_model.specs.Copies.{updated_by};
@@ -15,11 +15,11 @@ use std::marker::{Brand, Model};
 use std::sync::ledger::{Blank, Ledger};
 use update_lists::Updates;
 
-/// The stage that finds the nearest hit of one segment in each frame (pfISECT): it keeps a copy of the scene of its own by
-/// the update lists of the frames, and asks it once for each. The segment is given in eye coordinates of the first
-/// channel. It takes memory for its copy of each update list, and for the answers.
+/// The stage that finds the nearest hit of one segment in each frame (pfISECT). It keeps a copy of the scene of its own
+/// by the update lists of the frames, and asks it once for each frame. The segment is in eye coordinates of the first
+/// channel, in 1/4,096 of a unit. It takes memory for its copy of each update list, and for the results.
 ///
-/// Contracts see the segment, the copy with its boxes, the answers so far, and for how many there is room.
+/// Contracts see the segment, the copy with its boxes, the results so far, and for how many results there is room.
 pub struct IsectStage {
     segment: Segment,
     copy: StageCopy,
@@ -46,7 +46,7 @@ impl Model for IsectStage {
     ghost view = { λ s. record { segment = s.segment; copy = s.copy; answers = s.answers.items; room = vec_capacity s.answers } };
 }
 
-/// The nearest hit in a copy. The steps are counted by a counter that nobody reads.
+/// Returns the nearest hit in a copy. The steps are counted by a counter that nobody reads.
 fn counted<L: Ledger>(
     blank: Blank,
     copy: &StageCopy,
@@ -65,7 +65,7 @@ fn counted<L: Ledger>(
     probe(copy, time, view, segment, &mut steps)
 }
 
-/// A copy of an update list. The empty one takes no memory.
+/// Returns a copy of an update list. The empty one takes no memory.
 fn copied(alloc: Global, updates: &Updates) -> Result<Updates, NoMemory>
     ensures copy { IfOk result (λ u. u ≡ updates.now) }
     ensures wanted { OnErr result (updates.now ≡ [] → ⊥) }
@@ -77,7 +77,8 @@ fn copied(alloc: Global, updates: &Updates) -> Result<Updates, NoMemory>
 }
 
 impl IsectStage {
-    /// The stage of a segment, which was not asked yet: its copy is the scene alone.
+    /// Returns the stage of a segment, which was asked for no frame yet: its copy is the scene alone. Returns
+    /// `Err(NoMemory)` if memory runs out.
     pub fn new(alloc: Global, segment: Segment) -> Result<IsectStage, NoMemory>
         ensures segment { IfOk result (λ s. s.segment ≡ segment) }
         ensures answers { IfOk result (λ s. s.answers ≡ []) }
@@ -90,9 +91,11 @@ impl IsectStage {
         })
     }
 
-    /// Takes a copy of the update list of a frame into the copy of the scene, and adds the nearest hit in it, from the
-    /// view of the first channel. A refusal leaves all as it was; it comes only where the list has an update, or where there is
-    /// no room for the answer.
+    /// Takes a copy of the update list of frame `frame` into the copy of the scene, and adds the nearest hit in it as a
+    /// result. `view` is that of the first channel.
+    ///
+    /// Returns `Err(NoMemory)` if memory runs out, and then leaves the stage as it was. That comes only if the list has
+    /// an update or there is no room for the result.
     pub fn frame(&mut self, frame: u32, view: &View, updates: &Updates) -> Result<(), NoMemory>
         ensures segment { self.new.segment ≡ self.old.segment }
         ensures copy { OnOk result (self.new.copy.nodes ≡ updated_by self.old.copy.nodes updates.now) }
@@ -113,7 +116,7 @@ impl IsectStage {
         }
     }
 
-    /// The answers, one for each frame in turn.
+    /// Returns the results, one for each frame in turn: the nearest hit, or `None` if the segment hits nothing.
     pub fn into_answers(self) -> Vec<Option<Near>>
         ensures { result.items ≡ self.answers }
     {
@@ -125,7 +128,7 @@ impl IsectStage {
         answers
     }
 
-    /// The answers so far, one for each frame in turn.
+    /// Returns the results so far, one for each frame in turn: the nearest hit, or `None` if the segment hits nothing.
     pub fn answers(&self) -> &[Option<Near>]
         ensures { result.now ≡ self.now.answers }
     {

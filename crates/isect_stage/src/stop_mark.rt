@@ -7,7 +7,7 @@ ghost use Rattle.isect_stage.specs.Marks.{SawMark, marked};
 use pf_scene::{Scene, SightGlance, StopAct};
 use seat_lock::Desk;
 
-/// Whether the scene that is found has the stop mark.
+/// Returns whether the scene that is found has the stop mark.
 pub(crate) fn is_stopped<D: Desk<Scene>>(desk: &mut D) -> bool
     ensures saw { SawMark (D.number desk.old) (D.seen desk.old) (D.told desk.old) result (D.seen desk.new) }
     ensures number { D.number desk.new ≡ D.number desk.old }

@@ -11,7 +11,7 @@ use pf_history::{Command, Entry, History};
 use pf_io::NoMemory;
 use std::alloc::Global;
 
-/// The number of edits of commands, or the greatest number that there is.
+/// Returns the number of edits of commands, or the greatest number of its type if there are more.
 fn edits_of(commands: &[Command]) -> usize
     ensures { result ≡ min (sum_by edit_count commands.now) usize.MAX }
 {
@@ -22,15 +22,15 @@ fn edits_of(commands: &[Command]) -> usize
     edits
 }
 
-/// Whether the numbers of all edits of commands are in the ranges of a play.
+/// Returns whether the numbers of all edits of commands are in the ranges of a play.
 fn fit(commands: &[Command]) -> bool
     ensures { result ≡ list_all command_fits commands.now }
 {
     commands.iter().all(|command| command.fits())
 }
 
-/// Whether one run may make these commands: the numbers of their edits are in the ranges of a play, and there are fewer
-/// than 2^32 - 1 edits and fewer than 2^32 - 2 commands.
+/// Returns whether one run may make these commands: the numbers of their edits are in the ranges of a play, and there
+/// are fewer than 2^32 - 1 edits and fewer than 2^32 - 2 commands.
 pub fn can_run(commands: &[Command]) -> bool
     ensures { IsTrue result ↔ CanRun commands.now }
 {
@@ -56,8 +56,10 @@ fn note(object: Sequential, history: &mut History, command: Command) -> Result<S
     Ok(object)
 }
 
-/// Makes commands one after the other, from the opening state of so many channels on: the object that they leave, and
-/// their history, in which each is an entry of the seat 0.
+/// Makes commands one after the other, from the opening state with `channels` channels on. Returns the object that they
+/// leave, and their history, in which each is an entry of the seat 0.
+///
+/// Returns `Err(NoMemory)` if memory runs out; then nothing of the run is left.
 pub fn run(
     alloc: Global,
     channels: u8,

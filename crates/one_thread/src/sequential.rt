@@ -37,8 +37,8 @@ impl Model for Grave {
 }
 
 impl Grave {
-    /// The grave of a node that was deleted after so many frames were begun. No frame names it where it was made after
-    /// the last of them.
+    /// Returns the grave of a node that was deleted after `frames` frames were begun. No frame names it if it was made
+    /// after the last of them.
     fn of(gone: &Gone, frames: u32) -> Grave
         ensures { result ≡ grave_of frames gone.now }
     {
@@ -49,7 +49,7 @@ impl Grave {
         }
     }
 
-    /// Whether no frame names the node once so many frames are retired.
+    /// Returns whether no frame names the node once `retired` frames are retired.
     fn is_due(&self, retired: u32) -> bool
         ensures { result ≡ is_due retired self.now }
     {
@@ -57,7 +57,7 @@ impl Grave {
     }
 }
 
-/// Makes an edit, or answers the fault for which it is refused.
+/// Makes an edit, or returns the fault for which it is refused.
 fn edit(graph: &mut Graph, e: &Edit) -> Result<Option<Fault>, NoMemory>
     requires serials { graph.old.next_serial < 2 ^ 32 - 1 }
     requires fits { fits e.now ≡ true }
@@ -71,8 +71,8 @@ fn edit(graph: &mut Graph, e: &Edit) -> Result<Option<Fault>, NoMemory>
     }
 }
 
-/// The first fault of edits that are made one after the other, with its place counted from 1; without a fault all of
-/// them are made.
+/// Returns the first fault of edits that are made one after the other, with its place counted from 1; without a fault
+/// all of them are made.
 fn edit_all(graph: &mut Graph, edits: &[Edit]) -> Result<Option<(u32, Fault)>, NoMemory>
     requires serials { graph.old.next_serial + length edits.now < 2 ^ 32 }
     requires fits { list_all fits edits.now ≡ true }
@@ -89,7 +89,7 @@ fn edit_all(graph: &mut Graph, edits: &[Edit]) -> Result<Option<(u32, Fault)>, N
     Ok(None)
 }
 
-/// Makes all edits of a merge on a copy of the graph, which is dropped where one of them has a fault.
+/// Makes all edits of a merge on a copy of the graph, which is dropped if one of them has a fault.
 fn merge_all(graph: Graph, edits: &[Edit]) -> Result<(Graph, Reply), NoMemory>
     requires serials { graph.next_serial + length edits.now < 2 ^ 32 }
     requires fits { list_all fits edits.now ≡ true }
@@ -104,7 +104,7 @@ fn merge_all(graph: Graph, edits: &[Edit]) -> Result<(Graph, Reply), NoMemory>
     }
 }
 
-/// The graves of nodes that were deleted after so many frames were begun, in the order of their deletion.
+/// Returns the graves of nodes that were deleted after `frames` frames were begun, in the order of their deletion.
 fn graves_of(alloc: Global, gone: &[Gone], frames: u32) -> Result<Vec<Grave>, NoMemory>
     ensures { IfOk result (λ graves. graves.items ≡ map (grave_of frames) gone.now) }
 {
@@ -126,7 +126,7 @@ fn bury(graph: &mut Graph, frames: u32, graves: &mut Vec<Grave>) -> Result<(), N
     Ok(())
 }
 
-/// The graves that stay once so many frames are retired.
+/// Returns the graves that stay once `retired` frames are retired.
 fn kept(alloc: Global, graves: &[Grave], retired: u32) -> Result<Vec<Grave>, NoMemory>
     ensures { IfOk result (λ kept. kept.items ≡ graves_kept retired graves.now) }
 {
@@ -139,14 +139,14 @@ fn kept(alloc: Global, graves: &[Grave], retired: u32) -> Result<Vec<Grave>, NoM
     )
 }
 
-/// How many graves are due once so many frames are retired.
+/// Returns the number of graves that are due once `retired` frames are retired.
 fn count_due(graves: &[Grave], retired: u32) -> usize
     ensures { result ≡ count_by (is_due retired) graves.now }
 {
     graves.iter().filter(|grave| grave.is_due(retired)).count()
 }
 
-/// The serials of the graves that are due once so many frames are retired, in the order of burial.
+/// Returns the serials of the graves that are due once `retired` frames are retired, in the order of burial.
 fn freed(alloc: Global, graves: &[Grave], retired: u32) -> Result<Serials, NoMemory>
     ensures { IfOk result (λ serials. serials ≡ freed_by retired graves.now) }
 {
@@ -162,7 +162,7 @@ fn freed(alloc: Global, graves: &[Grave], retired: u32) -> Result<Serials, NoMem
     }
 }
 
-/// The view of each of so many channels before any is set.
+/// Returns the view of each of `channels` channels before any is set.
 #[tactic(auto, using(crate::proofs::Views::filled))]
 fn home_views(alloc: Global, channels: u8) -> Result<Vec<View>, NoMemory>
     ensures { IfOk result (λ views. views.items ≡ replicate channels home_view) }
@@ -172,8 +172,8 @@ fn home_views(alloc: Global, channels: u8) -> Result<Vec<View>, NoMemory>
     Ok(views)
 }
 
-/// The one-thread object: a scene graph without deleted nodes, the view of each channel, how many frames were begun and
-/// how many of them are retired, how many merges were made, and the graves of the deleted nodes.
+/// The one-thread object: a scene graph without deleted nodes, the view of each channel, the numbers of frames begun
+/// and retired and of merges made, and the graves of the deleted nodes.
 #[derive(Debug, Drop)]
 pub struct Sequential {
     graph: Graph,
@@ -203,7 +203,8 @@ impl Model for Sequential {
 }
 
 impl Sequential {
-    /// The object before the first command, with so many channels.
+    /// Returns the object before the first command, with `channels` channels. Returns `Err(NoMemory)` if memory runs
+    /// out.
     pub fn new(alloc: Global, channels: u8) -> Result<Sequential, NoMemory>
         ensures { IfOk result (λ o. o ≡ opening_state channels) }
     {
@@ -219,42 +220,44 @@ impl Sequential {
         })
     }
 
-    /// The scene graph.
+    /// Returns the scene graph.
     pub fn graph(&self) -> &Graph
         ensures { result.now ≡ self.now.graph }
     {
         &self.graph
     }
 
-    /// The view of a channel, counted from 0, or none where there is no such channel.
+    /// Returns the view of a channel, counted from 0, or `None` if there is no such channel.
     pub fn view(&self, channel: u8) -> Option<View>
         ensures { result ≡ slice_get self.now.views channel }
     {
         self.views.get(channel as usize).copied()
     }
 
-    /// The number of frames begun.
+    /// Returns the number of frames begun.
     pub fn frames(&self) -> u32
         ensures { result ≡ self.now.frames }
     {
         self.frames
     }
 
-    /// The number of frames retired.
+    /// Returns the number of frames retired.
     pub fn retired(&self) -> u32
         ensures { result ≡ self.now.retired }
     {
         self.retired
     }
 
-    /// The number of merges made, the refused ones included.
+    /// Returns the number of merges made, the refused ones included.
     pub fn merges(&self) -> u32
         ensures { result ≡ self.now.merges }
     {
         self.merges
     }
 
-    /// Makes a command: the object that it leaves, and the reply to it.
+    /// Makes a command. Returns the object that it leaves, and the reply.
+    ///
+    /// Returns `Err(NoMemory)` if memory runs out; then no object is left.
     pub fn make(self, command: &Command) -> Result<(Sequential, Reply), NoMemory>
         requires counts { CanCount self command.now }
         requires fits { command_fits command.now ≡ true }

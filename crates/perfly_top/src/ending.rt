@@ -1,4 +1,4 @@
-//! How a call ends, and what it says.
+//! How a call ends, and what it writes then.
 ghost use Rattle.std.specs.Prelude.{◌≡◌, ◌≢◌, ◌⊎◌, ◌↔◌, true, None, IsSome, OnOk, OnErr};
 ghost use Rattle.std.specs.Io.KnownBytes.{append_known};
 ghost use Rattle.pf_io.specs.Causes.{Calm, Rose};
@@ -18,9 +18,9 @@ use play_format::Refusal;
 use program_words::Words;
 use std::alloc::Global;
 
-/// Status: the play was played to its end, and told.
+/// Status: the play was played to its end, and reported.
 pub const DONE: u8 = 0;
-/// Status: the words are not right.
+/// Status: the arguments have no meaning.
 pub const WORDS: u8 = 1;
 /// Status: what was read is no play.
 pub const REFUSED: u8 = 2;
@@ -32,7 +32,7 @@ pub const READ_FAULT: u8 = 4;
 pub const FRAME_FAULT: u8 = 5;
 /// Status: the report sink reported a fault, after a full run.
 pub const REPORT_FAULT: u8 = 6;
-/// Status: memory ran out.
+/// Status: out of memory.
 pub const NO_MEMORY: u8 = 7;
 
 /// How a call of [`perfly`](crate::perfly) ended.
@@ -40,15 +40,15 @@ pub const NO_MEMORY: u8 = 7;
 pub struct Ended {
     /// [`DONE`], [`WORDS`], [`REFUSED`], [`STUCK`], [`READ_FAULT`], [`FRAME_FAULT`], [`REPORT_FAULT`] or [`NO_MEMORY`].
     pub status: u8,
-    /// The entries of the play, as they were made.
+    /// The entries of the play, in the order in which they were made.
     pub history: History,
     /// At [`REFUSED`] the first wrong line, and the first cause against it.
     pub refusal: Option<Refusal>,
-    /// At [`STUCK`] the lines of the first `wait` and of the first `await` that cannot be passed, 0 where there is none.
+    /// At [`STUCK`] the lines of the first `wait` and of the first `await` that cannot be passed, 0 if there is none.
     pub stuck: Option<(u32, u32)>,
 }
 
-/// The status of a call that stops.
+/// Returns the status of a call that stops.
 fn status_of(stop: Stop) -> u8
     ensures { result ≡ status_of stop }
 {
@@ -62,7 +62,7 @@ fn status_of(stop: Stop) -> u8
     }
 }
 
-/// The refusal of a call that stops.
+/// Returns the refusal of a call that stops.
 fn refusal_of(stop: Stop) -> Option<Refusal>
     ensures { result ≡ refusal_of stop }
 {
@@ -72,7 +72,7 @@ fn refusal_of(stop: Stop) -> Option<Refusal>
     }
 }
 
-/// Where the play is stuck for which a call stops.
+/// Returns the lines at which the play is stuck for which a call stops.
 fn stuck_of(stop: Stop) -> Option<(u32, u32)>
     ensures { result ≡ stuck_of stop }
 {
@@ -82,7 +82,7 @@ fn stuck_of(stop: Stop) -> Option<(u32, u32)>
     }
 }
 
-/// Stops a call, and says why.
+/// Stops a call, and writes why to the report sink.
 pub(crate) fn stopped<P: Sink>(report: &mut P, stop: Stop, history: History) -> Ended
     ensures status { result.status ≡ status_of stop }
     ensures history { result.history ≡ history }
@@ -100,7 +100,7 @@ pub(crate) fn stopped<P: Sink>(report: &mut P, stop: Stop, history: History) -> 
     }
 }
 
-/// Writes a text, and sees to it that no byte of it waits.
+/// Writes a text, and flushes the sink.
 fn write_out<P: Sink>(report: &mut P, text: &[u8]) -> Result<(), Failed>
     ensures told { IsTold (P.written report.old) (P.written report.new) (P.faults report.old) (P.faults report.new) text.now }
     ensures calm { OnOk result (Calm (P.faults report.old) (P.faults report.new)) }
@@ -114,7 +114,7 @@ fn write_out<P: Sink>(report: &mut P, text: &[u8]) -> Result<(), Failed>
     }
 }
 
-/// Writes a text, and answers the status of a call that ends so.
+/// Writes a text. Returns the status of a call that ends so.
 fn deliver<P: Sink>(report: &mut P, text: &[u8]) -> u8
     ensures one_of { (result ≡ DONE) ⊎ (result ≡ REPORT_FAULT) }
     ensures whole { result ≡ DONE → P.written report.new ≡ append_known (P.written report.old) text.now }
@@ -129,7 +129,7 @@ fn deliver<P: Sink>(report: &mut P, text: &[u8]) -> u8
     }
 }
 
-/// Tells of a play that came to its end.
+/// Reports a play that came to its end.
 pub(crate) fn tell<P: Sink>(alloc: Global, words: Words, run: Run, report: &mut P) -> Ended
     ensures one_of { (result.status ≡ DONE) ⊎ (result.status ≡ REPORT_FAULT) ⊎ (result.status ≡ NO_MEMORY) }
     ensures history { result.history ≡ run.played.history }

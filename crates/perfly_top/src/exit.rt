@@ -33,7 +33,7 @@ use std::process::ExitCode;
 use std::sync::Wait;
 use std::thread::Threads;
 
-/// The words behind the program's name.
+/// Returns the words behind the program's name.
 fn words_behind(alloc: Global, mut arguments: Args) -> Result<Vec<String>, NoMemory>
     ensures { IfOk result (λ words. words.items ≡ drop 1 (into_iter_items arguments)) }
 {
@@ -41,7 +41,7 @@ fn words_behind(alloc: Global, mut arguments: Args) -> Result<Vec<String>, NoMem
     Ok(arguments.collect(alloc)?)
 }
 
-/// The words behind the program's name, where the arguments could be read.
+/// Returns the words behind the program's name, if the arguments can be read.
 fn words_of(alloc: Global, arguments: io::Result<Args>) -> Result<Vec<String>, Stop>
     ensures meaning { IfOk result (λ words. meaning_of_words (map string_bytes words.items) ≡ meaning_of_arguments arguments) }
     ensures unread { IfErr arguments (λ error. result ≡ Err (stop_of_arguments (error_kind error))) }
@@ -50,8 +50,10 @@ fn words_of(alloc: Global, arguments: io::Result<Args>) -> Result<Vec<String>, S
     Ok(words_behind(alloc, arguments?)?)
 }
 
-/// Runs the program: calls [`perfly`] with the words behind its name, which is the first of the arguments, and answers the
-/// status to exit with. Arguments that cannot be read, as where one is no text, are wrong words.
+/// Runs the program: calls [`perfly`] with the words behind its name, which is the first of the arguments. Arguments
+/// that cannot be read, for example since one is no text, are wrong words.
+///
+/// Returns the status to exit with, 0 to 7: that of [`perfly`].
 pub fn run<
     R: Threads + Wait + Copy + Drop + Send + Sync + 'static,
     I: Source,
@@ -70,7 +72,7 @@ pub fn run<
     ensures one_of { exit_status result ≤ NO_MEMORY }
     ensures unread_arguments { IfErr arguments (λ error. exit_status result ≡ status_of (stop_of_arguments (error_kind error))) }
 
-    // Done, the headline: the play that was given was played to its end, and told.
+    // Done, the headline: the play that was given was played to its end, and reported.
     ensures done { exit_status result ≡ DONE → (log : Log)
         × IsDone (meaning_of_arguments arguments) (I.left input.old) (I.left input.new)
         log (O.written frames.old) (O.written frames.new) (P.written report.old) (P.written report.new) }
@@ -101,7 +103,7 @@ pub fn run<
         × IsDoneUntold (meaning_of_arguments arguments) (I.left input.old) (I.left input.new)
         log (O.written frames.old) (O.written frames.new) (P.written report.old) (P.written report.new) }
 
-    // What is left where the play did not come to its end, and what is said.
+    // What is left if the play did not come to its end, and the message.
     ensures early { 1 ≤ exit_status result → exit_status result ≤ READ_FAULT → O.written frames.new ≡ O.written frames.old }
     ensures begun { exit_status result ≡ FRAME_FAULT → (log : Log)
         × IsBegun (meaning_of_arguments arguments) (I.left input.old) (I.left input.new)
@@ -118,7 +120,7 @@ pub fn run<
         × (exit_status result ≡ status_of why)
         × IsTold (P.written report.old) (P.written report.new) (P.faults report.old) (P.faults report.new) (message_of why) }
 
-    // Each call ends as is due, but for faults and want of memory.
+    // Each call ends as is due, except for faults and lack of memory.
     ensures due { IsDue (meaning_of_arguments arguments) (I.left input.old) (exit_status result) }
     ensures made { IsDueMade (meaning_of_arguments arguments) (exit_status result) }
 {

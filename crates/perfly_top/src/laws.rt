@@ -4,9 +4,9 @@ ghost use Rattle.perfly_top.specs.Pairs.{FencedRunsLaw};
 use play_fences::laws::fenced_plays_determine_pictures;
 use play_format::one_reading;
 
-/// Two runs that come to their ends, over one text that spells a fenced play, whatever else their words say: they add the
-/// same stream to their frame sinks, and their histories have the same pictures, the same numbers of their frames and, but
-/// for Syncs, the same commands with the same replies.
+/// Take two runs that come to their ends, over one text that spells a fenced play, whatever else their words say. They
+/// add the same stream to their frame sinks. Their histories have the same pictures, the same numbers of their frames
+/// and, except for Syncs, the same commands with the same replies.
 pub fn runs_of_a_fenced_play_show_the_same()
     ensures { FencedRunsLaw }
 {

@@ -15,7 +15,7 @@ use play_gen::make_play;
 use std::alloc::Global;
 use std::thread::Threads;
 
-/// The bytes of the source, to its end or to the limit.
+/// Returns the bytes of the source, to its end or to the limit.
 fn read_input<I: Source>(alloc: Global, input: &mut I) -> Result<Vec<u8>, Stop>
     ensures gave { IfOk result (λ v. Gave (I.left input.old) (I.left input.new) v.items) }
     ensures why { IfErr result (λ s. HasNoPlay None (I.left input.old) (I.left input.new) s) }
@@ -28,7 +28,7 @@ fn read_input<I: Source>(alloc: Global, input: &mut I) -> Result<Vec<u8>, Stop>
     Ok(read_all(alloc, input)?)
 }
 
-/// The play that bytes spell.
+/// Returns the play that bytes spell.
 fn play_of<R: Threads + Sync>(alloc: Global, rt: &R, bytes: &[u8]) -> Result<Play, Stop>
     ensures found { IfOk result (λ p. Reads bytes.now p) }
     ensures refused { (r : Refusal) → result ≡ Err (stop.Refused r)
@@ -38,7 +38,7 @@ fn play_of<R: Threads + Sync>(alloc: Global, rt: &R, bytes: &[u8]) -> Result<Pla
     Ok(parse_beside(rt, alloc, bytes)?)
 }
 
-/// The play that the source spells.
+/// Returns the play that the source spells.
 fn read_play<R: Threads + Sync, I: Source>(
     alloc: Global,
     rt: &R,
@@ -56,7 +56,7 @@ fn read_play<R: Threads + Sync, I: Source>(
     play_of(alloc, rt, bytes.as_slice())
 }
 
-/// The play of a call: made from the number, where there is one, and else the one that the source spells.
+/// Returns the play of a call: made from the number, if there is one, and else the one that the source spells.
 pub(crate) fn given_play<R: Threads + Sync, I: Source>(
     alloc: Global,
     rt: &R,

@@ -1,4 +1,4 @@
-//! What is said on the report sink.
+//! The messages on the report sink.
 ghost use Rattle.std.specs.Prelude.{◌≡◌, List, ℕ, length, take, map, OnOk, OnErr};
 ghost use Rattle.std.specs.List.{concat, flat_map};
 ghost use Rattle.play_format.specs.Messages.{cause_text};
@@ -11,7 +11,7 @@ use itoa::Buffer;
 use pf_io::{Sink, write_all};
 use play_format::{Refusal, Why};
 
-/// The name of a cause.
+/// Returns the name of a cause.
 fn cause(why: Why) -> &'static [u8]
     ensures { result.now ≡ cause_text why }
 {
@@ -38,7 +38,7 @@ fn say<R: Sink>(report: &mut R, pieces: &[&[u8]])
     }
 }
 
-/// Says which line is refused, and why.
+/// Writes which line is refused, and why.
 fn say_refusal<R: Sink>(report: &mut R, refusal: Refusal)
     ensures { IsTold (R.written report.old) (R.written report.new) (R.faults report.old) (R.faults report.new)
         (message_of (stop.Refused refusal)) }
@@ -51,7 +51,7 @@ fn say_refusal<R: Sink>(report: &mut R, refusal: Refusal)
     );
 }
 
-/// Says at which lines a play is stuck.
+/// Writes at which lines a play is stuck.
 fn say_stuck<R: Sink>(report: &mut R, app: u32, dbase: u32)
     ensures { IsTold (R.written report.old) (R.written report.new) (R.faults report.old) (R.faults report.new)
         (message_of (stop.Stuck app dbase)) }
@@ -65,7 +65,7 @@ fn say_stuck<R: Sink>(report: &mut R, app: u32, dbase: u32)
     );
 }
 
-/// Says why a call ends. A fault cuts the message short.
+/// Writes why a call ends. A fault cuts the message short.
 pub(crate) fn say_why<R: Sink>(report: &mut R, stop: Stop)
     ensures { IsTold (R.written report.old) (R.written report.new) (R.faults report.old) (R.faults report.new)
         (message_of stop) }

@@ -1,4 +1,4 @@
-//! A play that is played, and what is told of it.
+//! A play that is played, and its report.
 ghost use Rattle.std.specs.Prelude.{◌≡◌, ◌≤◌, ◌++◌, true, Some, IfOk, OnOk, IsSome, IfSome};
 ghost use Rattle.play_check.specs.Stuck.{IsStuck};
 ghost use Rattle.perfly_top.specs.Program.{stream_of, account, told, IsSummed};
@@ -20,7 +20,7 @@ use std::marker::{Brand, PhantomData};
 use std::sync::Wait;
 use std::thread::Threads;
 
-/// A play that was played, by whom, and the sum of the bytes of its pictures where that is asked for.
+/// A play that was played, by whom, and the sum of the bytes of its pictures if that is asked for.
 #[derive(Drop)]
 pub(crate) struct Run {
     pub(crate) played: Played,
@@ -28,7 +28,8 @@ pub(crate) struct Run {
     pub(crate) sum: u64,
 }
 
-/// Plays a play as the words say: with all stages on one thread, or with the stages divided among threads. Nothing is added up.
+/// Plays a play as the words say: with all stages on one thread, or with the stages divided among threads. Nothing is
+/// added up.
 fn play_by<
     R: Threads + Wait + Copy + Drop + Send + Sync + 'static,
     O: Sink,
@@ -63,7 +64,7 @@ fn play_by<
     }
 }
 
-/// Plays a play into a sink that is held, adds up the bytes of its pictures, and hands the sink back.
+/// Plays a play into a sink that is held, adds up the bytes of its pictures, and returns the sink.
 fn held_run<
     R: Threads + Wait + Copy + Drop + Send + Sync + 'static,
     H: Held,
@@ -129,7 +130,7 @@ fn summed_run<
     run
 }
 
-/// Plays a play, and adds up the bytes of its pictures where a summary is to be told.
+/// Plays a play, and adds up the bytes of its pictures if a summary is to be written.
 pub(crate) fn run_of<
     R: Threads + Wait + Copy + Drop + Send + Sync + 'static,
     O: Sink,
@@ -181,7 +182,7 @@ fn append_account(
     }
 }
 
-/// What is told of a play that came to its end: its report or its summary, and then the answers to its probe.
+/// Returns the text of a play that came to its end: its report or its summary, and then the results of its probe.
 pub(crate) fn telling(alloc: Global, words: Words, run: &Run) -> Result<Vec<u8>, NoMemory>
     ensures { (play : Script) → HasNumbers play run.now.played.stats.items run.now.played.history.entries
         → HasAnswers words play run.now.played.probes.items run.now.played.history.entries

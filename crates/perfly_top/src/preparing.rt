@@ -26,7 +26,7 @@ pub(crate) struct Task {
     pub(crate) play: Play,
 }
 
-/// What the words are, and why they may be none.
+/// Returns what the words mean, or why they have no meaning.
 fn right_words(alloc: Global, words: &[String]) -> Result<Words, Stop>
     ensures meaning { IfOk result (λ w. meaning_of_words (map string_bytes words.now) ≡ Some w) }
     ensures some { IfOk result (λ w. 1 ≤ w.ahead) }
@@ -40,7 +40,7 @@ fn right_words(alloc: Global, words: &[String]) -> Result<Words, Stop>
     Ok(read_words(alloc, words)?)
 }
 
-/// The play that the words and the source give, where it can end; else why there is none.
+/// Returns the play that the words and the source give, if it can end, or why there is none.
 pub(crate) fn prepared<R: Threads + Sync, I: Source>(
     alloc: Global,
     rt: &R,

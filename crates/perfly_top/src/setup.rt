@@ -8,13 +8,13 @@ use program_words::{Mode, Words};
 /// Who plays a play.
 #[derive(Clone, Copy, Debug, PartialEq, Eq)]
 pub(crate) enum Players {
-    /// One thread, with up to so many frames in flight. Nothing is shared, and nobody waits.
+    /// One thread, with up to this number of frames in flight. Nothing is shared, and nobody waits.
     Alone(u8),
     /// The hosts of a setup.
     Hosts(Setup),
 }
 
-/// The mode of hosts that a mode of the words means.
+/// Returns the mode of hosts that a mode of the words means.
 fn host_mode(mode: Mode) -> mode_hosts::Mode
     ensures { result ≡ host_mode mode }
 {
@@ -26,7 +26,7 @@ fn host_mode(mode: Mode) -> mode_hosts::Mode
     }
 }
 
-/// The setup of hosts that the words mean.
+/// Returns the setup of hosts that the words mean.
 pub(crate) fn setup_of(words: Words) -> Setup
     ensures { result ≡ setup_of words }
 {
@@ -39,7 +39,7 @@ pub(crate) fn setup_of(words: Words) -> Setup
     }
 }
 
-/// Whether the words put all stages on one thread, so that nothing is shared.
+/// Returns whether the words put all stages on one thread, so that nothing is shared.
 pub(crate) fn is_on_one_thread(words: Words) -> bool
     ensures { result ≡ is_on_one_thread words }
 {

@@ -1,4 +1,4 @@
-//! Why a call ends before all is told.
+//! Why a call ends before its report is written.
 ghost use Rattle.std.specs.Prelude.{◌≡◌};
 
 use pf_io::{NoMemory, ReadError};
@@ -6,10 +6,10 @@ use play_format::{ParseError, Refusal};
 use program_words::WordsError;
 use std::io::{self, ErrorKind};
 
-/// Why a call ends before all is told.
+/// Why a call ends before its report is written.
 #[derive(Clone, Copy, Debug, PartialEq, Eq)]
 pub(crate) enum Stop {
-    /// The words are not right.
+    /// The arguments have no meaning.
     Words,
     /// What was read is no play.
     Refused(Refusal),

@@ -8,7 +8,7 @@ ghost use Rattle.perfly_top.specs.Sums.{sum_of_bytes, IsSumSince};
 use pf_io::{Failed, Sink};
 use std::marker::{Brand, PhantomData};
 
-/// What a sink was at the start of an adding up: the bytes that it had, and the loan by which it is held.
+/// What a sink was when the sum was 0: the bytes that it had, and the loan by which it is held.
 pub(crate) trait Start {
     ghost start: { Option (List ℕ) };
 
@@ -77,7 +77,7 @@ impl<'a, O: Sink> Held for Lent<'a, O> {
     }
 }
 
-/// The sum of bytes, modulo 2^64.
+/// Returns the sum of bytes, modulo 2^64.
 fn sum_of(bytes: &[u8]) -> u64
     ensures { result ≡ sum_of_bytes bytes.now }
 {

@@ -25,7 +25,7 @@ use std::alloc::Global;
 use std::sync::Wait;
 use std::thread::Threads;
 
-/// Plays what there is to play, and tells of it.
+/// Plays what there is to play, and reports it.
 fn played<
     R: Threads + Wait + Copy + Drop + Send + Sync + 'static,
     O: Sink,
@@ -72,11 +72,18 @@ fn played<
     }
 }
 
-/// Plays the play of a source, as the words say: reads it, writes the pictures of its frames to `frames` as P6 images, and
-/// the report of its calls to `report`. With a number to make, the source is not read: a generated play is played, and
-/// `report` gets one line. Where the call ends otherwise, `report` gets a message. The stages pass `gate` before each frame and
-/// each merge. By the words the stages of a play share one thread or are divided among several; the caller's thread alone uses the
-/// source and the two sinks. In a mode with several threads the call waits for them.
+/// Plays the play of a source, as `words`, the arguments behind the program's name, say. It reads the play, writes the
+/// pictures of its frames to `frames` as P6 images, and the report of its calls to `report`. With `--make` the source
+/// is not read: a generated play is played, and `report` gets one line. If the play does not come to its end, `report`
+/// gets a message.
+///
+/// The stages pass `gate` before each frame and each merge. By the words they share one thread or are divided among
+/// several; the caller's thread alone uses the source and the two sinks. In a mode with several threads the call waits
+/// for them.
+///
+/// Returns the status, 0 to 7, with the history. The status is [`WORDS`] if the words have no meaning, [`REFUSED`] if
+/// what was read is no play, and [`STUCK`] if the play could never end. It is [`READ_FAULT`], [`FRAME_FAULT`] or
+/// [`REPORT_FAULT`] only if that stream reported a fault, [`NO_MEMORY`] if memory ran out, and else [`DONE`].
 pub fn perfly<
     R: Threads + Wait + Copy + Drop + Send + Sync + 'static,
     I: Source,
@@ -94,14 +101,14 @@ pub fn perfly<
 ) -> Ended
     ensures one_of { result.status ≤ NO_MEMORY }
 
-    // Done, the headline: the play that was given was played to its end, and told.
+    // Done, the headline: the play that was given was played to its end, and reported.
     ensures done { result.status ≡ DONE → IsDone (meaning_of_words (map string_bytes words.now)) (I.left input.old) (I.left input.new)
         result.history.entries (O.written frames.old) (O.written frames.new) (P.written report.old) (P.written report.new) }
     ensures report_calm { result.status ≡ DONE → Calm (P.faults report.old) (P.faults report.new) }
     ensures frames_flushed { (result.status ≡ DONE) ⊎ (result.status ≡ REPORT_FAULT) → O.flushed frames.new ≡ true }
     ensures report_flushed { result.status ≡ DONE → P.flushed report.new ≡ true }
 
-    // What was given cannot be played. The words are read first, and nothing of the source where they are wrong.
+    // What was given cannot be played. The words are read first, and nothing of the source if they are wrong.
     ensures wrong_words { result.status ≡ WORDS
         → (meaning_of_words (map string_bytes words.now) ≡ None) × (I.left input.new ≡ I.left input.old) }
     ensures refused { result.status ≡ REFUSED → IfSome result.refusal (λ r.
@@ -122,7 +129,7 @@ pub fn perfly<
         → IsDoneUntold (meaning_of_words (map string_bytes words.now)) (I.left input.old) (I.left input.new)
         result.history.entries (O.written frames.old) (O.written frames.new) (P.written report.old) (P.written report.new) }
 
-    // What is left where the play did not come to its end: only a fault of the frame sink cuts a picture short.
+    // What is left if the play did not come to its end: only a fault of the frame sink cuts a picture short.
     ensures early { 1 ≤ result.status → result.status ≤ READ_FAULT
         → IsUntouched result.history.entries (O.written frames.old) (O.written frames.new) }
     ensures begun { result.status ≡ FRAME_FAULT
@@ -141,7 +148,7 @@ pub fn perfly<
         → IsStopped result.status result.refusal result.stuck
         (P.written report.old) (P.written report.new) (P.faults report.old) (P.faults report.new) }
 
-    // Each call ends as is due, but for faults and want of memory.
+    // Each call ends as is due, except for faults and lack of memory.
     ensures due { IsDue (meaning_of_words (map string_bytes words.now)) (I.left input.old) result.status }
     ensures made { IsDueMade (meaning_of_words (map string_bytes words.now)) result.status }
 {

@@ -44,8 +44,8 @@ impl Drawing {
         nearest
     }
 
-    /// The colour at a pixel: that of the nearest opaque fragment, or of the background where there is none, under the
-    /// glass.
+    /// Returns the colour at a pixel: that of the nearest opaque fragment, or of the background if there is none, under
+    /// the glass.
     pub(crate) fn colour(&self, lens: &Lens, back: [u8; 3], px: u16, py: u16) -> [u8; 3]
         requires x { px < lens.now.w }
         requires y { py < lens.now.h }

@@ -5,7 +5,7 @@ use pf_model::Tri;
 /// An occurrence of a geode in a walk.
 #[derive(Clone, Copy)]
 pub struct Instance<'a> {
-    /// Its number among the geodes of the walk.
+    /// Its number among the geodes of the walk, from 0.
     pub place: u32,
     /// The id of its node.
     pub id: u16,
@@ -13,12 +13,12 @@ pub struct Instance<'a> {
     pub state: u16,
     /// The alpha of glass; none for an opaque geode.
     pub tint: Option<u8>,
-    /// What the layers above it take from its depths.
+    /// What the layers above it take from its depths, in 1/4,096 of a unit.
     pub shift: u32,
-    /// The steps that carry its triangles to the eye, the nearest first.
+    /// The transformations that carry its triangles to the eye, the nearest first.
     pub steps: &'a [Affine],
     /// Its triangles, in its own coordinates.
     pub tris: &'a [Tri],
-    /// How far it is: glass of a greater number is drawn before glass of a lesser one.
+    /// The squared distance by which glass is sorted: glass with a greater one is drawn first.
     pub far: u64,
 }

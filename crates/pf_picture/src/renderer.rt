@@ -20,8 +20,11 @@ use std::alloc::Global;
 /// The nodes on the longest chain of a scene within the limits.
 const LEVELS: u32 = 32;
 
-/// The picture of a list of instances before a background: of the size of the lens, at each pixel the nearest triangle
-/// of the opaque instances under those of glass, which are drawn by falling `far`, then by rising `place`.
+/// Returns the picture of a list of instances before a background of red, green and blue, as large as the lens says.
+/// Each pixel has the nearest triangle of the opaque instances under those of glass, which are drawn by falling `far`,
+/// then by rising `place`.
+///
+/// Returns `Err(NoMemory)` if memory runs out.
 pub fn draw_instances(
     alloc: Global,
     instances: &[Instance],
@@ -38,8 +41,10 @@ pub fn draw_instances(
     Ok(image)
 }
 
-/// The picture of a scene at a time, for a view and before a background: that of the whole walk, every triangle at
-/// every pixel. The scene is within the limits, the starts of its sequences aside.
+/// Returns the picture of a scene in frame `time`, for a view and before a background of red, green and blue: that of
+/// the whole walk, every triangle at every pixel. The scene is within the limits, the starts of its sequences aside.
+///
+/// Returns `Err(NoMemory)` if memory runs out.
 pub fn draw_plain<V: NodeView>(
     alloc: Global,
     scene: &V,

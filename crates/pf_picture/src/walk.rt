@@ -11,7 +11,7 @@ use pf_io::NoMemory;
 use pf_model::{Kind, Node, NodeView, carried_point, chosen_children};
 use std::alloc::Global;
 
-/// Appends the geodes at and below a node, in order and depth first, with at most so many levels. `steps` lead from the
+/// Appends the geodes at and below a node, in order and depth first, at most `levels` levels. `steps` lead from the
 /// coordinates above the node to the eye.
 pub(crate) fn walk<'a, V: NodeView>(
     alloc: Global,

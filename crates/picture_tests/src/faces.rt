@@ -42,7 +42,7 @@ fn readies_triangles(rt: HostRuntime) {
     let behind = [[0, -4_096, 0], [4_096, -4_096, 0], [0, -4_096, 4_096]];
     for (corners, w, h, want) in [
         (covering, 2, 2, Some([0, 1, 0, 1])),
-        (small, 8, 8, Some([3, 4, 2, 3])),
+        (small, 8, 8, Some([4, 4, 3, 3])),
         (across, 3, 1, Some([0, 2, 0, 0])),
         (edge_on, 2, 2, None),
         (behind, 2, 2, None),

@@ -5,7 +5,8 @@ ghost use Rattle.play_check.specs.Lines.{app_given, base_given, app_marks, base_
 
 use pf_model::{AppLine, AppStep, BaseLine, BaseStep};
 
-/// The frames that a step of the application begins where so many merges were made; none where it waits for more.
+/// Returns the number of frames that a step of the application begins after `merges` merges, or `None` if it waits for
+/// more.
 fn frames_begun(step: &AppStep, merges: usize) -> Option<usize>
     ensures { result ≡ passed merges (app_given step.now) }
 {
@@ -16,7 +17,8 @@ fn frames_begun(step: &AppStep, merges: usize) -> Option<usize>
     }
 }
 
-/// The merges that a step of the database process makes where so many frames were begun; none where it waits for more.
+/// Returns the number of merges that a step of the database process makes after `frames` frames, or `None` if it waits
+/// for more.
 fn merges_made(step: &BaseStep, frames: usize) -> Option<usize>
     ensures { result ≡ passed frames (base_given step.now) }
 {
@@ -27,7 +29,8 @@ fn merges_made(step: &BaseStep, frames: usize) -> Option<usize>
     }
 }
 
-/// The frames that the application's next line begins and the lines behind it; none where it is over or waits.
+/// Returns the number of frames that the application's next line begins, and the lines behind it, or `None` if it is
+/// over or waits.
 fn next_app(lines: &[AppLine], merges: usize) -> Option<(usize, &[AppLine])>
     ensures { MatchOption result (Stands merges (app_marks lines.now))
         (λ p. GoesOn merges (app_marks lines.now) p.0 (app_marks p.1.now)) }
@@ -37,7 +40,8 @@ fn next_app(lines: &[AppLine], merges: usize) -> Option<(usize, &[AppLine])>
     Some((begun, rest))
 }
 
-/// The merges that the next line of the database process makes and the lines behind it; none where it is over or waits.
+/// Returns the number of merges that the next line of the database process makes, and the lines behind it, or `None` if
+/// it is over or waits.
 fn next_dbase(lines: &[BaseLine], frames: usize) -> Option<(usize, &[BaseLine])>
     ensures { MatchOption result (Stands frames (base_marks lines.now))
         (λ p. GoesOn frames (base_marks lines.now) p.0 (base_marks p.1.now)) }
@@ -47,7 +51,7 @@ fn next_dbase(lines: &[BaseLine], frames: usize) -> Option<(usize, &[BaseLine])>
     Some((made, rest))
 }
 
-/// The line of the application's next step, or 0 where it is over.
+/// Returns the line of the application's next step, or 0 if it is over.
 fn line_at(app_left: &[AppLine]) -> u32
     ensures { result ≡ line_at (app_marks app_left.now) }
 {
@@ -57,7 +61,7 @@ fn line_at(app_left: &[AppLine]) -> u32
     }
 }
 
-/// The line of the database process's next step, or 0 where it is over.
+/// Returns the line of the database process's next step, or 0 if it is over.
 fn base_line_at(dbase_left: &[BaseLine]) -> u32
     ensures { result ≡ line_at (base_marks dbase_left.now) }
 {
@@ -67,8 +71,8 @@ fn base_line_at(dbase_left: &[BaseLine]) -> u32
     }
 }
 
-/// Whether some `wait` or `await` of these sections can be passed by no order of their calls, and then the lines of the
-/// first `wait` and of the first `await` that cannot be passed, with 0 where there is none.
+/// Returns the lines of the first `wait` and of the first `await` of these sections that no order of their calls can
+/// pass, each 0 if there is none, or `None` if all can be passed.
 pub(crate) fn stuck_lines_of(app: &[AppLine], dbase: &[BaseLine]) -> Option<(u32, u32)>
     ensures stuck { IsSome result ↔ IsStuck app.now dbase.now }
     ensures lines { IfSome result (λ lines. AreStuckLines app.now dbase.now lines.0 lines.1) }

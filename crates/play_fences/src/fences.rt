@@ -14,7 +14,7 @@ struct Rest<'a> {
     waited: u32,
 }
 
-/// Whether a step asks for an edit, a view or a Frame.
+/// Returns whether a step asks for an edit, a view or a Frame.
 fn is_own_step(step: &AppStep) -> bool
     ensures { result ≡ is_own_step step.now }
 {
@@ -24,14 +24,14 @@ fn is_own_step(step: &AppStep) -> bool
     )
 }
 
-/// Whether a step asks for a Frame.
+/// Returns whether a step asks for a Frame.
 fn is_frame_step(step: &AppStep) -> bool
     ensures { result ≡ is_frame_step step.now }
 {
     matches!(step, AppStep::Frame)
 }
 
-/// For how many merges the waits up to a step ask, with it.
+/// Returns for how many merges the waits up to a step ask, with it.
 fn waited_with(step: &AppStep, waited: u32) -> u32
     ensures { result ≡ waited_with waited step.now }
 {
@@ -41,7 +41,7 @@ fn waited_with(step: &AppStep, waited: u32) -> u32
     }
 }
 
-/// The lines from the next edit, view or Frame on.
+/// Returns the lines from the next edit, view or Frame on.
 fn at_next_own(lines: &[AppLine], waited: u32) -> Rest
     ensures same { own_left result.waited result.lines.now ≡ own_left waited lines.now }
     ensures own { StandsAtOwn result.lines.now }
@@ -58,7 +58,7 @@ fn at_next_own(lines: &[AppLine], waited: u32) -> Rest
     Rest { lines, waited }
 }
 
-/// The lines behind the next so many Frames, from the next edit, view or Frame on.
+/// Returns the lines behind the next `frames` Frames, from the next edit, view or Frame on.
 fn behind_frames(lines: &[AppLine], waited: u32, frames: u32) -> Rest
     ensures same { own_left result.waited result.lines.now ≡ behind_frames frames (own_left waited lines.now) }
     ensures own { StandsAtOwn result.lines.now }
@@ -79,7 +79,7 @@ fn behind_frames(lines: &[AppLine], waited: u32, frames: u32) -> Rest
     at_next_own(lines, waited)
 }
 
-/// Whether a command that is left does not wait for this merge. The waits only rise, so the next one tells.
+/// Returns whether a command that is left does not wait for this merge. The waits only rise, so the next one decides.
 fn comes_before(lines: &[AppLine], waited: u32, merge: usize) -> bool
     requires { StandsAtOwn lines.now }
     ensures { result ≡ list_any (λ a. nat_lt a.need merge) (own_left waited lines.now) }
@@ -90,7 +90,7 @@ fn comes_before(lines: &[AppLine], waited: u32, merge: usize) -> bool
     }
 }
 
-/// The first free merge of two sections, counted from 1.
+/// Returns the first free merge of two sections, counted from 1.
 fn first_free_of(app: &[AppLine], dbase: &[BaseLine]) -> Option<usize>
     ensures { result ≡ first_free_of app.now dbase.now }
 {
@@ -115,16 +115,18 @@ fn first_free_of(app: &[AppLine], dbase: &[BaseLine]) -> Option<usize>
     None
 }
 
-/// The first merge of a play, counted from 1, that may stand at more than one place among the application's own commands:
-/// behind the frame that it awaits stands an edit, a view or a frame that does not wait for it. None where the play is
-/// fenced. It takes time in proportion to the number of steps, and no memory.
+/// Returns the first free merge of a play, counted from 1, or `None` if the play is fenced. A merge is free if it may
+/// be at more than one place among the application's own commands: behind the frame that it awaits comes an edit, a
+/// view or a frame that does not wait for it.
+///
+/// It takes time in proportion to the number of steps, and no memory.
 pub fn first_free_merge(play: &Play) -> Option<usize>
     ensures { result ≡ first_free_of play.now.app play.now.dbase }
 {
     first_free_of(play.app(), play.dbase())
 }
 
-/// Whether no merge of a play is free, so that all its whole histories have the same pictures.
+/// Returns whether no merge of a play is free, so that all its whole histories have the same pictures.
 pub fn is_fenced(play: &Play) -> bool
     ensures { IsTrue result ↔ IsFenced play.now.app play.now.dbase }
 {

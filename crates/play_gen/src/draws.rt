@@ -5,6 +5,7 @@ ghost use Rattle.play_gen.specs.Draws.{next_state, state_after, draw};
 /// A generator of numbers, by the step and the high bits of the C standard's example of `rand`.
 #[derive(Debug, Drop)]
 pub struct Draws {
+    /// The state; below 2^31 after each draw.
     pub state: u32,
 }
 
@@ -18,7 +19,7 @@ impl Draws {
         self.state = (grown % 2_147_483_648) as u32;
     }
 
-    /// The next number, below `bound`.
+    /// Draws a number: steps the state and returns a number below `bound`.
     #[tactic(auto, unfolding(crate::specs::Draws::state_after))]
     pub fn below(&mut self, bound: u32) -> u32
         requires { 0 < bound }

@@ -1,4 +1,4 @@
-//! Generated plays: for each number from 1 to 256 a play of so many merges.
+//! Generated plays: for each number n from 1 to 256 a play of n merges.
 #![tactic(auto)]
 
 mod draws;

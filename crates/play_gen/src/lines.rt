@@ -14,7 +14,7 @@ fn push_number(out: &mut Vec<u8>, n: i64) -> Result<(), NoMemory>
     Ok(())
 }
 
-/// Adds numbers, each behind a space.
+/// Appends numbers, each behind a space. Returns `Err(NoMemory)` if memory runs out.
 pub fn push_numbers(out: &mut Vec<u8>, numbers: &[i64]) -> Result<(), NoMemory>
     ensures { OnOk result (out.new.items ≡ out.old.items ++ numbers_text numbers.now) }
 {
@@ -24,7 +24,7 @@ pub fn push_numbers(out: &mut Vec<u8>, numbers: &[i64]) -> Result<(), NoMemory>
     Ok(())
 }
 
-/// Adds a line.
+/// Appends a line: a word, the numbers behind it, and LF. Returns `Err(NoMemory)` if memory runs out.
 pub fn push_line(out: &mut Vec<u8>, word: &[u8], numbers: &[i64]) -> Result<(), NoMemory>
     ensures { OnOk result (out.new.items ≡ out.old.items ++ word_line word.now numbers.now) }
 {

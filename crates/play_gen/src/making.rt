@@ -8,9 +8,11 @@ use pf_io::NoMemory;
 use play_format::{ParseError, Play, parse};
 use std::alloc::Global;
 
-/// Generated play `n`, for 1 to 256: the application makes a group and draws n + 1 frames, and
-/// waits behind each but the last for one merge more. Behind each of these frames the database
-/// process merges a geode of sixteen triangles.
+/// Returns generated play `n`, 1 to 256. The application makes a group and begins n + 1 frames, and waits behind each
+/// but the last for one merge more. Behind each of these frames the database process merges a geode of sixteen
+/// triangles.
+///
+/// Returns `Err(NoMemory)` if memory runs out.
 pub fn make_play(alloc: Global, n: u32) -> Result<Play, NoMemory>
     requires some { 1 ≤ n }
     requires most { n ≤ 256 }

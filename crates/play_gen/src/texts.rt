@@ -220,7 +220,7 @@ fn push_buffers(out: &mut Vec<u8>, n: u32) -> Result<(), NoMemory>
     Ok(())
 }
 
-/// The text of generated play `n`.
+/// Returns the text of generated play `n`, at most 256. Returns `Err(NoMemory)` if memory runs out.
 pub fn generated_text(alloc: Global, n: u32) -> Result<Vec<u8>, NoMemory>
     requires { n ≤ 256 }
     ensures { IfOk result (λ text. text.items ≡ generated_text n) }

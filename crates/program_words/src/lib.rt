@@ -1,4 +1,4 @@
-//! The words after the program's name, read with clap.
+//! The arguments behind the program's name, read with clap.
 #![tactic(auto)]
 
 mod command;

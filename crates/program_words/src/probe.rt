@@ -31,7 +31,7 @@ fn coordinate_in(text: &str) -> Option<i32>
     Some(number)
 }
 
-/// What stands before the first comma of a text, and what stands after it, where there is a comma.
+/// Returns what is before the first comma of a text, and what is after it, if there is a comma.
 fn cut(text: &str) -> (&str, Option<&str>)
     ensures { pieces text.now ≡ result.0.now ∷ left_pieces result.1 }
 {
@@ -82,7 +82,7 @@ fn segment_in(text: &str) -> Option<Segment>
     }
 }
 
-/// The segment that is asked for its nearest hit in each frame, where one is.
+/// Returns the segment whose nearest hit is asked for in each frame, if one is.
 pub(crate) fn probe_of(given: Option<&str>) -> Option<Option<Segment>>
     ensures { result ≡ probe_of (option_map (λ text. text.now) given.entry) }
 {

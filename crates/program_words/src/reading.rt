@@ -1,4 +1,4 @@
-//! Words read with clap.
+//! Arguments read with clap.
 ghost use Rattle.std.specs.Prelude.{◌≡◌, ◌≢◌, ◌≤◌, ◌==◌, true, false, length, map, codes, Some, None, Err, IfOk, IfSome, MatchResult, option_map};
 ghost use Rattle.std.specs.List.{list_any};
 ghost use Rattle.std.specs.Str.{bytes_eq};
@@ -17,14 +17,14 @@ use clap::error::ErrorKind;
 use clap::{ArgMatches, Error};
 use std::alloc::Global;
 
-/// Whether one of the words is `--`.
+/// Returns whether one of the words is `--`.
 fn has_dashes(words: &[String]) -> bool
     ensures { result ≡ list_any (λ w. bytes_eq (string_bytes w) (codes "--")) words.now }
 {
     words.iter().any(|word| word.as_str() == "--")
 }
 
-/// What clap's refusal means.
+/// Returns what clap's refusal means.
 fn refusal(cause: &Error) -> WordsError
     ensures { result ≡ error.Wrong → kind_of cause.now ≢ kind.OutOfMemory }
 {
@@ -35,7 +35,7 @@ fn refusal(cause: &Error) -> WordsError
     }
 }
 
-/// The matches of the words.
+/// Returns the matches of the words.
 fn matches<'a>(alloc: Global, words: &'a [String]) -> Result<ArgMatches<'a>, WordsError>
     ensures { MatchResult result
         (λ m. ((length (fault_of usage (map string_bytes words.entry.now)) == 0) ≡ true)
@@ -51,14 +51,14 @@ fn matches<'a>(alloc: Global, words: &'a [String]) -> Result<ArgMatches<'a>, Wor
     }
 }
 
-/// The value of an option, where it was given.
+/// Returns the value of an option, if it was given.
 fn value<'a>(matches: &ArgMatches<'a>, name: &str) -> Option<&'a str>
     ensures { option_map (λ text. text.now) result ≡ first_of name.now (rows_of (found_of matches.now)) }
 {
     matches.get_str(name)
 }
 
-/// What the values of the options mean.
+/// Returns what the values of the options mean.
 fn meaning(matches: &ArgMatches) -> Option<Words>
     ensures value { result ≡ meaning_of_values (rows_of (found_of matches.now)) }
     ensures stream { IfSome result (λ w. IfSome w.stream (λ n. (1 ≤ n) × (n ≤ 4096))) }
@@ -79,10 +79,12 @@ fn meaning(matches: &ArgMatches) -> Option<Words>
     })
 }
 
-/// Reads the words behind the program's name: `[--mode m] [--dbase] [--ahead 1..4] [--make 1..256]
-/// [--probe x0,y0,z0,x1,y1,z1] [--stream 1..4096]`, where `m` is `appculldraw`, `app_culldraw`, `appcull_draw` or
-/// `app_cull_draw`, and the others are coordinates; each at most once, in any order, its value as the next word or after `=`.
-/// A value that is the next word does not begin with `-`. It is `Err(Wrong)` only where they have no meaning.
+/// Reads the arguments behind the program's name: `[--mode m] [--dbase] [--ahead 1..4] [--make 1..256] [--probe
+/// x0,y0,z0,x1,y1,z1] [--stream 1..4096]`. The mode is `appculldraw`, `app_culldraw`, `appcull_draw` or
+/// `app_cull_draw`, and the six numbers of a probe are coordinates. Each option comes at most once, in any order, its
+/// value as the next word or after `=`. A value that is the next word does not begin with `-`.
+///
+/// Returns what they mean. Returns `Err(Wrong)` only if they have no meaning, and `Err(NoMemory)` if memory runs out.
 #[tactic(auto, unfolding(crate::specs::Meaning::meaning_of_words))]
 pub fn read_words(alloc: Global, words: &[String]) -> Result<Words, WordsError>
     ensures right { IfOk result (λ w. meaning_of_words (map string_bytes words.now) ≡ Some w) }

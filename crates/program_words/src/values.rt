@@ -38,7 +38,7 @@ fn mode_named(text: &str) -> Option<Mode>
     }
 }
 
-/// Which stages share a thread.
+/// Returns which stages share a thread.
 pub(crate) fn mode_of(given: Option<&str>) -> Option<Mode>
     ensures { result ≡ mode_of (option_map (λ text. text.now) given.entry) }
 {
@@ -55,7 +55,7 @@ pub(crate) fn dbase_of(given: Option<&str>) -> bool
     given.is_some_and(|text| text == "true")
 }
 
-/// How many frames may be in flight.
+/// Returns how many frames may be in flight.
 pub(crate) fn ahead_of(given: Option<&str>) -> Option<u8>
     ensures { result ≡ ahead_of (option_map (λ text. text.now) given.entry) }
 {
@@ -65,7 +65,7 @@ pub(crate) fn ahead_of(given: Option<&str>) -> Option<u8>
     }
 }
 
-/// The number of the generated play, where one is to be made.
+/// Returns the number of the generated play, if one is to be made.
 pub(crate) fn make_of(given: Option<&str>) -> Option<Option<u16>>
     ensures { result ≡ make_of (option_map (λ text. text.now) given.entry) }
 {
@@ -75,7 +75,7 @@ pub(crate) fn make_of(given: Option<&str>) -> Option<Option<u16>>
     }
 }
 
-/// How many items a piece of a draw list has at most, where draw lists are sent in pieces.
+/// Returns how many items a piece of a draw list has at most, if draw lists are sent in pieces.
 pub(crate) fn stream_of(given: Option<&str>) -> Option<Option<u32>>
     ensures value { result ≡ stream_of (option_map (λ text. text.now) given.entry) }
     ensures within { IfSome result (λ r. IfSome r (λ n. (1 ≤ n) × (n ≤ 4096))) }

@@ -1,4 +1,4 @@
-//! What words say, and why they may say nothing.
+//! What arguments mean, and why they may mean nothing.
 
 use nearest_hit::Segment;
 
@@ -15,26 +15,27 @@ pub enum Mode {
     AppCullDraw,
 }
 
-/// What right words say.
+/// What right arguments mean.
 #[derive(Clone, Copy, Debug, PartialEq, Eq)]
 pub struct Words {
+    /// Which stages share a thread.
     pub mode: Mode,
     /// Whether the database process has a thread of its own; else it is on the application's.
     pub dbase: bool,
     /// How many frames may be in flight, 1 to 4.
     pub ahead: u8,
-    /// The number of the generated play, 1 to 256, where one is to be made in place of reading the source.
+    /// The number of the generated play, 1 to 256, if one is to be played in place of the source's.
     pub make: Option<u16>,
-    /// The segment whose nearest hit is asked for in each frame, where one is, in eye coordinates of the first channel.
+    /// The segment whose nearest hit is asked for in each frame, if one is, in eye coordinates of the first channel.
     pub probe: Option<Segment>,
-    /// How many items a piece of a draw list has at most, 1 to 4,096, where draw lists are sent in pieces.
+    /// How many items a piece of a draw list has at most, 1 to 4,096, if draw lists are sent in pieces.
     pub stream: Option<u32>,
 }
 
-/// Why words say nothing.
+/// Why arguments were not read.
 #[derive(Clone, Copy, Debug, PartialEq, Eq)]
 pub enum WordsError {
-    /// They are not right.
+    /// They have no meaning.
     Wrong,
     /// Memory ran out.
     NoMemory,
