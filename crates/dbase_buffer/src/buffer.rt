@@ -19,7 +19,7 @@ use std::marker::Model;
 /// A buffer (pfBuffer). Edits are judged at once in a scene graph of the buffer's own, which begins
 /// as the scene alone and prepares frame 1; children that are asked to be added or removed are
 /// recorded without a test. Contracts see the graph, the recorded edits in order, and the number of
-/// dropped ones.
+/// dropped ones. It has room for at most one more edit than as many again as it has recorded.
 #[derive(Debug)]
 pub struct Buffer {
     graph: WorkGraph,
@@ -39,20 +39,18 @@ impl Drop for Buffer {
 }
 
 impl Model for Buffer {
-    ghost use Rattle.std.specs.Prelude.{◌≡◌, true};
-    ghost use Rattle.std.specs.List.{list_all};
-    ghost use Rattle.pf_model.specs.Fits.{fits};
+    ghost use Rattle.dbase_buffer.specs.Judging.{IsRecord};
     ghost use Rattle.pf_model.specs.Merges.{BufferState};
 
     ghost Value = { BufferState };
 
     ghost view = { λ b. record { graph = b.graph; edits = b.edits.items; dropped = b.dropped } };
 
-    ghost invariant = { λ b. list_all fits b.edits.items ≡ true };
+    ghost invariant = { λ b. IsRecord b.edits };
 }
 
 impl Buffer {
-    /// A buffer with nothing recorded and nothing dropped.
+    /// Returns a buffer with nothing recorded and nothing dropped. Returns `Err(NoMemory)` if memory runs out.
     pub fn new(alloc: Global) -> Result<Buffer, NoMemory>
         ensures { IfOk result (λ b. b ≡ empty_buffer) }
     {
@@ -101,8 +99,11 @@ impl Buffer {
         }
     }
 
-    /// Judges an edit in the buffer's graph: it is made there and recorded, or it has a fault there
-    /// and is counted as dropped. Want of memory comes only where it has no fault.
+    /// Makes an edit in the buffer's graph and records it. Its numbers are in the ranges of a play.
+    ///
+    /// Returns `Err(BufferError::Fault)` with the fault that the edit has in that graph, and counts the edit as
+    /// dropped. Returns `Err(BufferError::NoMemory)` if memory runs out for an edit without a fault, and leaves the
+    /// buffer as it was.
     #[tactic(auto, using(crate::proofs::Fitting::one_more_fits))]
     pub fn edit(&mut self, e: Edit) -> Result<(), BufferError>
         requires serials { self.old.graph.next_serial < 2 ^ 32 - 1 }
@@ -130,7 +131,9 @@ impl Buffer {
         }
     }
 
-    /// Records a child to be appended in the scene, without a test (pfBufferAddChild).
+    /// Records a child to be appended in the scene, without a test (pfBufferAddChild). `parent` and `child` are ids.
+    ///
+    /// Returns `Err(NoMemory)` if memory runs out, and leaves the buffer as it was.
     #[tactic(auto, using(crate::proofs::Fitting::one_more_fits))]
     pub fn ask_add(&mut self, parent: u16, child: u16) -> Result<(), NoMemory>
         ensures ok { OnOk result (self.new ≡ recorded self.old (Edit.Add parent child)) }
@@ -141,7 +144,10 @@ impl Buffer {
         Ok(())
     }
 
-    /// Records a child to be taken out in the scene, without a test (pfBufferRemoveChild).
+    /// Records a child to be taken out in the scene, without a test (pfBufferRemoveChild). `parent` and `child` are
+    /// ids.
+    ///
+    /// Returns `Err(NoMemory)` if memory runs out, and leaves the buffer as it was.
     #[tactic(auto, using(crate::proofs::Fitting::one_more_fits))]
     pub fn ask_remove(&mut self, parent: u16, child: u16) -> Result<(), NoMemory>
         ensures ok { OnOk result (self.new ≡ recorded self.old (Edit.Remove parent child)) }

@@ -241,9 +241,9 @@ impl Model for EditListBuilder {
 impl EditListBuilder {
     ghost use Rattle.std.specs.Prelude.{◌≡◌, ◌+◌, ◌<◌, ◌≤◌, max, [], ◌∷◌, ◌++◌, length, OnOk, OnErr};
 
-    /// No edits yet.
+    /// No edits yet, and room for none.
     pub fn new(alloc: Global) -> EditListBuilder
-        ensures { result.items ≡ [] }
+        ensures { result ≡ record { items = []; spare = 0 } }
     {
         EditListBuilder {
             edits: Vec::new(alloc),
