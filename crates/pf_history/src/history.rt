@@ -56,7 +56,7 @@ impl History {
         requires { 0 < self.old.spare }
         ensures entries { self.new.entries ≡ self.old.entries ++ (seat, entry) ∷ [] }
         ensures told { self.new.told ≡ self.old.told }
-        ensures spare { self.old.spare ≤ self.new.spare + 1 }
+        ensures spare { self.new.spare + 1 ≡ self.old.spare }
     {
         self.entries.push_reserved((seat, entry));
     }

@@ -140,4 +140,18 @@ impl<T: Drop> ToldLog<T> {
         self.room = n;
         Ok(())
     }
+
+    /// The entries that were not told, oldest first, for who is done with the log.
+    pub fn into_untold(self) -> Vec<T>
+        ensures { result.items ≡ drop self.told self.entries }
+    {
+        let Self {
+            alloc: _,
+            kept,
+            past: _,
+            len: _,
+            room: _,
+        } = self;
+        Vec::from(kept)
+    }
 }
