@@ -1,0 +1,5 @@
+pub mod Fitting
+pub mod HeadLemmas
+pub mod Moving
+pub mod Entries
+pub mod LawLemmas
