@@ -1,8 +1,8 @@
 -- The number of triangles of all records.
 use Rattle.std.proofs.Common.{◌≡◌, ℕ, suc, zero-add, ◌+◌, ◌-◌, ◌*◌, ◌<◌, ◌≤◌, List, [], ◌∷◌, map, sum, length, set, Option, Some, None, refl, sym, ◌∙◌, ap, subst, arith}
 use Rattle.std.specs.List.{AllByRecursion}
-use Rattle.std.specs.Option.{option_and_then}
-use Rattle.std.proofs.lemmas.List.Elements.{All-set, All-from_get_or}
+use Rattle.std.specs.Option.{option_and_then, option_map}
+use Rattle.std.proofs.lemmas.List.Elements.{All-set, All-get_or, All-from_get_or}
 use Rattle.std.proofs.lemmas.List.Sums.{sum_by-set, sum_by-cons, sum_by-le}
 use Rattle.std.proofs.Math.ListN.{length-map}
 use Rattle.slab.specs.Slab.{Slab, get}
@@ -58,6 +58,26 @@ take_counted slots id t m r within k there is = record {
         let some : slot_triangles (record_at slots id) ≡ triangles_of r.node.kind = ap slot_triangles there in
         let f : t ≡ triangles_in slots = k.total in
         omega (arith, e, some, f, is)
+
+-- a record changed that has as many triangles
+pub changed_counted : (slots : Slots) (id t : ℕ) (f : Record → Record) → ((r : Record) → triangles_of (f r).node.kind ≡ triangles_of r.node.kind) → id < length slots → AreCounted slots t
+    → (o : Option Record) → record_at slots id ≡ o → AreCounted (set slots id (option_map f o)) t
+changed_counted slots id t f keeps within k o there = record {
+  light = All-set (λ s. slot_triangles s ≤ 4096) slots id (option_map f o)
+      (subst (λ (n : ℕ). n ≤ 4096) (ap slot_triangles there ∙ sym (same o)) (All-get_or (λ s. slot_triangles s ≤ 4096) slots id None within k.light)) k.light;
+  total = total;
+}
+  where
+    same : (o : Option Record) → slot_triangles (option_map f o) ≡ slot_triangles o
+    same None = refl
+    same (Some r) = keeps r
+
+    total : t ≡ triangles_in (set slots id (option_map f o))
+    total =
+        let e : triangles_in (set slots id (option_map f o)) + slot_triangles (record_at slots id) ≡ triangles_in slots + slot_triangles (option_map f o) = sum_by-set slot_triangles slots id (option_map f o) None within in
+        let g : slot_triangles (record_at slots id) ≡ slot_triangles (option_map f o) = ap slot_triangles there ∙ sym (same o) in
+        let h : t ≡ triangles_in slots = k.total in
+        omega (arith, e, g, h)
 
 no_triangles : (slots : Slots) → ((b : ℕ) → record_at slots b ≡ None) → triangles_in slots ≡ 0
 no_triangles [] none = refl

@@ -11,6 +11,7 @@ pub mod Rewrites
 pub mod Uses
 pub mod Climbs
 pub mod Trials
+pub mod Spares
 pub mod Settles
 pub mod Sounds
 pub mod Works

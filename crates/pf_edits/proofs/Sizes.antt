@@ -176,3 +176,16 @@ module _ (nodes : Nodes) (up : IsRising (map (λ e. e.0) nodes)) (ext : ℕ → 
                 let k : (ext b).size ≤ 131072 = (outside b e).small in
                 let s : (ext b).size ≡ min 131073 (size_of (node_at nodes) b) = size_is b in
                 not_more (size_of (node_at nodes) b) (omega arith)
+
+-- no fault where all are within the limits
+pub all_fine : (nodes : Nodes) → IsRising (map (λ e. e.0) nodes) → ((b : ℕ) → height_of (node_at nodes) b ≤ 32) → ((b : ℕ) → size_of (node_at nodes) b ≤ 131072) → first (size_rules nodes) ≡ None
+all_fine nodes up low small =
+    ap (λ o. first (o ∷ large nodes ∷ []))
+    (ap (λ t. when t (fault.Deep (greatest_height nodes)))
+    (not_more 32 (greatest_height nodes) (at_most (height_of (node_at nodes)) 32 nodes (from_found (λ e. height_of (node_at nodes) e.0 ≤ 32) nodes nodes (λ e f. low e.0) (all_found nodes up)))))
+    ∙ ap (λ t. first (when t fault.Large ∷ []))
+    (any_none (λ b. nat_lt 131072 (size_of (node_at nodes) b)) nodes
+    (from_found (λ e. nat_lt 131072 (size_of (node_at nodes) e.0) ≡ false) nodes nodes (λ e f. not_more 131072 (size_of (node_at nodes) e.0) (small e.0)) (all_found nodes up)))
+  where
+    not_more : (m n : ℕ) → n ≤ m → nat_lt m n ≡ false
+    not_more m n h = grind (arith, nat_tests)

@@ -1,6 +1,6 @@
 -- What stands under each id after a change of the slab and of the keys.
 use Rattle.std.proofs.Common.{◌≡◌, ◌≢◌, ℕ, suc, zero-add, ◌+◌, ◌<◌, ◌≤◌, Bool, true, false, cond, ◌==◌, ◌⊎◌, inl, inr, List, [], ◌∷◌, length, get_or, set, Option, Some, None, is_some, refl, sym, ◌∙◌, ap, subst, arith}
-use Rattle.std.specs.Option.{option_and_then}
+use Rattle.std.specs.Option.{option_and_then, option_map}
 use Rattle.std.specs.List.{count_by}
 use Rattle.std.proofs.lemmas.List.{ext_get_or, get_or-set_same, get_or-set_other, length-set}
 use Rattle.std.proofs.lemmas.Bool.{eqb-true}
@@ -176,6 +176,71 @@ module _ (slab after : Slab Record) (keys : List (Option ℕ)) (id key : ℕ) (i
         apart a b k ea eb (inl p) q = absurd (none_here a k p.1 ea)
         apart a b k ea eb (inr p) (inl q) = absurd (none_here b k q.1 eb)
         apart a b k ea eb (inr p) (inr q) = indexed.apart a b k (old a k p.1 ea) (old b k q.1 eb)
+
+  -- The record under the key of an id changed
+
+  module _ (f : Record → Record) (at : get_or keys id None ≡ Some key) (up : Updates slab after key (option_map f (get slab key))) where
+    pub changed_slots : slots_of after keys ≡ set (slots_of slab keys) id (option_map f (get slab key))
+    changed_slots =
+        table_after slab after keys keys id (option_map f (get slab key)) refl inside (ap (option_and_then (get after)) at ∙ up.changed)
+        (λ b other. rest b other (get_or keys b None) refl)
+      where
+        rest : (b : ℕ) → b ≢ id → (o : Option ℕ) → get_or keys b None ≡ o → option_and_then (get after) o ≡ option_and_then (get slab) o
+        rest b other None e = refl
+        rest b other (Some k) e = up.others k (λ same. other (indexed.apart b id key (e ∙ ap Some same) at))
+
+    pub found_at : record_at (slots_of slab keys) id ≡ get slab key
+    found_at = slot_at slab keys id ∙ ap (option_and_then (get slab)) at
+
+    pub changed_at : (b : ℕ) → record_at (slots_of after keys) b ≡ cond (b == id) (option_map f (record_at (slots_of slab keys) b)) (record_at (slots_of slab keys) b)
+    changed_at b =
+        ap (λ slots. record_at slots b) changed_slots
+        ∙ record_at_set (slots_of slab keys) id (option_map f (get slab key)) b width ∙ by (b == id) refl
+      where
+        by : (t : Bool) → (b == id) ≡ t
+            → cond t (option_map f (get slab key)) (record_at (slots_of slab keys) b) ≡ cond t (option_map f (record_at (slots_of slab keys) b)) (record_at (slots_of slab keys) b)
+        by true e = ap (option_map f) (sym (ap (record_at (slots_of slab keys)) (eqb-true b id e) ∙ found_at))
+        by false e = refl
+
+    pub changed_indexed : slab_len after ≡ slab_len slab → after.capacity ≡ slab.capacity → IsIndexed keys after
+    changed_indexed len room = record {
+      wide = indexed.wide;
+      there = λ a k e. there a k e (eqb_tells a id);
+      apart = indexed.apart;
+      counted = ap (count_by is_some) changed_slots ∙ counted;
+      roomy = let c : 4097 ≤ slab.capacity = indexed.roomy in omega arith;
+      narrow = let c : slab.capacity ≤ 65535 = indexed.narrow in omega arith;
+    }
+      where
+        one : ℕ
+        one = 1
+
+        one_if : Bool → ℕ
+        one_if t = cond t 1 0
+
+        some : (o : Option Record) → is_some (option_map f o) ≡ is_some o
+        some None = refl
+        some (Some r) = refl
+
+        here : is_some (get slab key) ≡ true
+        here = indexed.there id key at
+
+        counted : count_by is_some (set (slots_of slab keys) id (option_map f (get slab key))) ≡ slab_len after
+        counted =
+            let e : count_by is_some (set (slots_of slab keys) id (option_map f (get slab key))) + cond (is_some (record_at (slots_of slab keys) id)) 1 0
+            ≡ count_by is_some (slots_of slab keys) + cond (is_some (option_map f (get slab key))) 1 0 =
+            count_set (slots_of slab keys) id (option_map f (get slab key)) width in
+            let old : cond (is_some (record_at (slots_of slab keys) id)) 1 0 ≡ one = ap one_if (ap (λ o. is_some o) found_at ∙ here) in
+            let new : cond (is_some (option_map f (get slab key))) 1 0 ≡ one = ap one_if (some (get slab key) ∙ here) in
+            let n : count_by is_some (slots_of slab keys) ≡ slab_len slab = indexed.counted in
+            omega (arith, e, old, new, n, len)
+
+        there : (a k : ℕ) → get_or keys a None ≡ Some k → (((a == id) ≡ true) × (a ≡ id)) ⊎ (((a == id) ≡ false) × (a ≢ id)) → is_some (get after k) ≡ true
+        there a k e (inl same) =
+            let f : Some key ≡ Some k = sym at ∙ subst (λ (x : ℕ). get_or keys x None ≡ Some k) same.1 e in
+            let g : key ≡ k = cc in
+            subst (λ (x : ℕ). is_some (get after x) ≡ true) g (ap (λ o. is_some o) up.changed ∙ some (get slab key) ∙ here)
+        there a k e (inr other) = ap (λ o. is_some o) (up.others k (λ same. other.1 (indexed.apart a id key (e ∙ ap Some same) at))) ∙ indexed.there a k e
 
 -- No keys
 

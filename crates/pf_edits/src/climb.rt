@@ -1,5 +1,5 @@
 //! Going up from a node, and extents reckoned anew along the way.
-ghost use Rattle.std.specs.Prelude.{◌≡◌, ◌≤◌, ◌<◌, ◌==◌, ◌||◌, ◌∷◌, [], length, slice_set, ℕ, true, false, if◌then◌else◌, reverse, map, max, Some, None, is_some, OnSome};
+ghost use Rattle.std.specs.Prelude.{◌≡◌, ◌+◌, ◌-◌, ◌*◌, ◌≤◌, ◌<◌, ◌==◌, ◌||◌, ◌∷◌, [], length, slice_set, ℕ, true, false, if◌then◌else◌, reverse, map, max, Some, None, is_some, OnSome};
 ghost use Rattle.std.specs.List.{fold};
 ghost use Rattle.std.specs.Option.{option_copied, option_map};
 ghost use Rattle.pf_model.specs.Graphs.{children_of, greatest, is_below};
@@ -135,18 +135,6 @@ fn reckoned(records: &Records, id: u16) -> Extent
     }
 }
 
-/// Sets the extent of a node, where it is there.
-pub(crate) fn set_extent(records: &mut Records, id: u16, extent: Extent)
-    ensures { (b : ℕ) → record_at records.new.slots b
-        ≡ (if b == id then option_map (with_extent extent) (record_at records.old.slots b)
-        else record_at records.old.slots b) }
-{
-    if let Some(mut record) = records.take(id) {
-        record.extent = extent;
-        records.put(id, record);
-    }
-}
-
 /// Reckons the extent of a node anew.
 pub(crate) fn reckon(records: &mut Records, id: u16)
     ensures nodes { (b : ℕ) → look_of records.new.slots b ≡ look_of records.old.slots b }
@@ -156,7 +144,7 @@ pub(crate) fn reckon(records: &mut Records, id: u16)
         else extent_at records.old.slots b) }
 {
     let extent = reckoned(records, id);
-    set_extent(records, id, extent);
+    records.set_extent(id, extent);
 }
 
 /// Reckons the extent of a node anew, but for one node.
@@ -204,7 +192,7 @@ pub(crate) fn set_along(records: &mut Records, way: &[u16], id: u16, extent: Ext
     ensures others { (b : ℕ) → is_in b (reverse way.now) ≡ false
         → extent_at records.new.slots b ≡ extent_at records.old.slots b }
 {
-    set_extent(records, id, extent);
+    records.set_extent(id, extent);
     reckon_others(records, way, id);
 }
 
@@ -218,4 +206,18 @@ pub(crate) fn greatest_along(records: &Records, way: &[u16]) -> Extent
         extent = extent.or(extent_at(records, *id));
     }
     extent
+}
+
+/// Whether it is sure that no limit is passed on a way on which the extent of one node changes: heights grow by no more
+/// than that node's own, and sizes by no greater factor.
+pub(crate) fn has_room(records: &Records, way: &[u16], before: Extent, after: Extent) -> bool
+    ensures low { result ≡ true → greatest (map (λ b. (extent_at records.now.slots b).height) way.now)
+        + (after.height - before.height) ≤ 32 }
+    ensures small { result ≡ true → greatest (map (λ b. (extent_at records.now.slots b).size) way.now)
+        * max before.size after.size ≤ 131072 * before.size }
+{
+    let greatest = greatest_along(records, way);
+    let height = u64::from(greatest.height) + u64::from(after.height.saturating_sub(before.height));
+    let most = before.or(after).size;
+    height <= 32 && u64::from(greatest.size) * u64::from(most) <= 131_072 * u64::from(before.size)
 }

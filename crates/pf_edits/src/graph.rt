@@ -48,7 +48,7 @@ impl Model for WorkGraph {
 }
 
 impl WorkGraph {
-    /// The graph of the scene alone, which prepares frame 1.
+    /// Returns the graph of the scene alone, which prepares frame 1. Returns `Err(NoMemory)` if memory runs out.
     pub fn new(alloc: Global) -> Result<WorkGraph, NoMemory>
         ensures { IfOk result (λ g. g ≡ empty_scene) }
     {
@@ -117,7 +117,10 @@ impl WorkGraph {
         self.work.judge(e)
     }
 
-    /// Applies an edit, or refuses it for its fault, or where it has none for want of memory, and stays as it was.
+    /// Applies an edit, whose numbers are in the ranges of a play.
+    ///
+    /// Returns `Err(EditError::Fault)` with the fault of the edit in this graph, and only if it has one. Returns
+    /// `Err(EditError::NoMemory)` if memory runs out for an edit without a fault. Either leaves the graph as it was.
     pub fn edit(&mut self, e: &Edit) -> Result<(), EditError>
         requires serials { self.old.next_serial < 2 ^ 32 - 1 }
         requires fits { fits e.now ≡ true }
@@ -132,8 +135,11 @@ impl WorkGraph {
         Ok(())
     }
 
-    /// Applies all edits of a list in order, or refuses it for the first fault or for want of memory and stays as it was.
-    /// Room is made edit by edit, each after it was judged: want of memory comes only where the first edit has no fault.
+    /// Applies all edits of a list in order. Their numbers are in the ranges of a play.
+    ///
+    /// Returns `Err(EditsError::Fault)` with the first fault and the place of its edit, counted from 1. Returns
+    /// `Err(EditsError::NoMemory)` if memory runs out, which comes only if the first edit has no fault. Either leaves
+    /// the graph as it was.
     pub fn edits(&mut self, es: &EditList) -> Result<(), EditsError>
         requires serials { self.old.next_serial + length es.now < 2 ^ 32 }
         requires fits { list_all fits es.now ≡ true }

@@ -11,7 +11,7 @@ ghost use Rattle.pf_edits.specs.Extents.{look_of, parents_of, extent_at, reckone
 ghost use Rattle.pf_edits.specs.Listed.{nodes_of};
 ghost use Rattle.pf_edits.specs.Settling.{Grows};
 
-use crate::climb::{climb, extent_at, has_child, is_in, set_along};
+use crate::climb::{climb, extent_at, has_child, has_room, is_in, set_along};
 use crate::extents::Extent;
 use crate::faults::excess;
 use crate::records::Records;
@@ -92,6 +92,35 @@ pub(crate) fn relink_freely(
     older
 }
 
+/// The fault of depth or size that a graph would have where a node had other children, with which its extent is known,
+/// by the extents along a way up from it. All stays as it is. Where there is no room for sure, the extents are set as
+/// after the change, and then back.
+fn fault_along(records: &mut Records, way: &[u16], id: u16, extent: Extent) -> Option<Fault>
+    requires sound { IsSound records.old.slots }
+    requires low { AreLow (look_of records.old.slots) }
+    requires small { (b : ℕ) → size_of (look_of records.old.slots) b ≤ 131072 }
+    requires there { is_some (look_of records.old.slots id) ≡ true }
+    requires leads { LeadUp (look_of records.old.slots) (reverse way.now) }
+    requires member { is_in id (reverse way.now) ≡ true }
+    requires above { (b : ℕ) → is_in b (reverse way.now) ≡ true
+        → (b == id || is_below (look_of records.old.slots) b id) ≡ true }
+    ensures fault { (cs : List ℕ) → extent ≡ reckoned (extent_at records.old.slots) cs
+        → ((x : ℕ) → is_in x cs ≡ true → (x == id || is_below (look_of records.old.slots) x id) ≡ false)
+        → result ≡ first (size_rules (change id (with_children cs) (nodes_of records.old.slots))) }
+    ensures nodes { (b : ℕ) → look_of records.new.slots b ≡ look_of records.old.slots b }
+    ensures parents { (b : ℕ) → parents_of records.new.slots b ≡ parents_of records.old.slots b }
+    ensures sound { IsSound records.new.slots }
+{
+    let before = extent_at(records, id);
+    if has_room(records, way, before, extent) {
+        return None;
+    }
+    set_along(records, way, id, extent);
+    let fault = excess(records, way);
+    set_along(records, way, id, before);
+    fault
+}
+
 /// The fault of depth or size that a graph would have where a node had other children, with which its extent is known. All
 /// stays as it is.
 pub(crate) fn fault_with(
@@ -114,10 +143,7 @@ pub(crate) fn fault_with(
     ensures sound { IsSound records.new.slots }
 {
     climb(records, way, id);
-    let before = extent_at(records, id);
-    set_along(records, way.as_slice(), id, extent);
-    let fault = excess(records, way.as_slice());
-    set_along(records, way.as_slice(), id, before);
+    let fault = fault_along(records, way.as_slice(), id, extent);
     way.clear();
     fault
 }

@@ -1,8 +1,10 @@
 //! The records of the working graph: a node a record, found by its id in one step.
 ghost use Rattle.std.specs.Prelude.{◌≡◌, ◌<◌, ◌≤◌, ◌==◌, if◌then◌else◌, Some, None, is_some, IsSome, OnSome, IfOk, slice_index_or, length, count_by, ℕ};
-ghost use Rattle.std.specs.Option.{option_copied};
+ghost use Rattle.std.specs.Option.{option_copied, option_map};
+ghost use Rattle.slab.specs.Slab.{get, slab_len, Updates};
 ghost use Rattle.pf_model.specs.Totals.{triangles_of};
 ghost use Rattle.pf_edits.specs.Tables.{record_at, triangles_in};
+ghost use Rattle.pf_edits.specs.Extents.{with_extent};
 
 use crate::extents::Extent;
 use crate::keys::Keys;
@@ -111,6 +113,28 @@ impl Records {
             }
             None => None,
         }
+    }
+
+    /// Sets the extent of the record of an id, where it has one.
+    pub(crate) fn set_extent(&mut self, id: u16, extent: Extent)
+        ensures { (b : ℕ) → record_at self.new.slots b
+            ≡ (if b == id then option_map (with_extent extent) (record_at self.old.slots b)
+            else record_at self.old.slots b) }
+    {
+        if let Some(key) = self.keys.get(id) {
+            write_extent(&mut self.slab, key, extent);
+        }
+    }
+}
+
+/// Sets the extent of the record under a key, where there is one.
+fn write_extent(slab: &mut Slab<Record>, key: usize, extent: Extent)
+    ensures updates { Updates slab.old slab.new key (option_map (with_extent extent) (get slab.old key)) }
+    ensures len { slab_len slab.new ≡ slab_len slab.old }
+    ensures capacity { slab.new.capacity ≡ slab.old.capacity }
+{
+    if let Some(record) = slab.get_mut(key) {
+        record.extent = extent;
     }
 }
 

@@ -1,4 +1,4 @@
-use Rattle.std.proofs.Common.{◌≡◌, ◌+◌, ◌-◌, ◌≤◌, sym, ◌∙◌, ap, subst, arith}
+use Rattle.std.proofs.Common.{◌≡◌, ◌+◌, ◌≤◌, sym, ◌∙◌, ap, subst, arith}
 use Rattle.pf_edits.specs.declared.extents.Extent.{Extent}
 use Rattle.pf_edits.specs.Extents.{extent_at, joined, reckoned}
 use Rattle.pf_edits.proofs.Trials.{size_left, height_left, extent_left}
