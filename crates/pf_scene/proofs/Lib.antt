@@ -8,6 +8,7 @@ pub mod Opened
 pub mod Kept
 pub mod Loops
 pub mod Taken
+pub mod Telling
 pub mod Rooms
 pub mod Trimmed
 pub mod Counted

@@ -1,5 +1,5 @@
 -- What an act does to the scene that it finds, and what a glance shows of it.
-use Rattle.std.specs.Prelude.{◌≡◌, ℕ, ◌+◌, ◌<◌, ◌≤◌, true, Option, Some, None, List, [], ◌∷◌, length, map, drop}
+use Rattle.std.specs.Prelude.{◌≡◌, ℕ, ◌+◌, ◌-◌, ◌<◌, ◌≤◌, true, Option, Some, None, List, [], ◌∷◌, ◌++◌, length, map, drop}
 use Rattle.std.specs.Vec.{vec_capacity}
 use Rattle.std.specs.List.{list_all}
 use Rattle.pf_model.specs.declared.edits.Edit.{Edit}
@@ -20,7 +20,8 @@ use Rattle.pf_scene.specs.declared.outcomes.Synced.{Synced}
 use Rattle.pf_scene.specs.declared.outcomes.Channels.{Channels}
 use Rattle.pf_scene.specs.declared.outcomes.Framed.{Framed}
 use Rattle.pf_scene.specs.declared.outcomes.Sight.{Sight}
-use Rattle.pf_scene.specs.Scenes.{Shared, SceneState, KeepsCopies, AreOfRetired, TakesHome, state_in, entered, weight_in, HasWeight, copies_after, one_more}
+use Rattle.pf_scene.specs.declared.outcomes.Told.{Told}
+use Rattle.pf_scene.specs.Scenes.{Shared, SceneState, KeepsCopies, AreOfRetired, TakesHome, state_in, entered, weight_in, HasWeight, copies_after, one_more, next_told, TellsNext}
 use Rattle.pf_scene.specs.Frames.{IsCutOf, AllHaveRoom, drawn}
 
 -- a seat is in charge
@@ -148,6 +149,18 @@ DoesTell told found left (Some e) =
     (found.told ≡ told) × (left ≡ record found { told = told + 1 })
     × (drop told found.shared.log ≡ e ∷ drop (told + 1) found.shared.log)
 DoesTell told found left None = (left ≡ found) × (found.told ≡ told → told ≡ length found.shared.log)
+
+-- how many entries a block has room for besides those in it
+abbrev pub free_in : Told → ℕ
+free_in block = vec_capacity block.entries - length block.entries.items
+
+-- Where so many entries were told, the next ones are told now, as many as the block has room for, and stand in order behind
+-- those in it; nothing else changes. None is told where another number was told.
+pub record TellsBlock (told : ℕ) (block : Told) (found left : SceneState) (reply : Told) : Type 0 where
+  pub next : found.told ≡ told → TellsNext (free_in block) found left
+  pub entries : found.told ≡ told → reply.entries.items ≡ block.entries.items ++ next_told (free_in block) found
+  pub other : (found.told ≡ told → ⊥) → (left ≡ found) × (reply.entries.items ≡ block.entries.items)
+  pub room : vec_capacity reply.entries ≡ vec_capacity block.entries
 
 -- What a glance shows: the stop mark, the counts of the state after the log, the weight and the copies.
 pub record Shows (found : SceneState) (sight : Sight) : Type 0 where

@@ -1,5 +1,5 @@
 -- What clauses see of the scene, and what its type keeps.
-use Rattle.std.specs.Prelude.{◌≡◌, ℕ, ◌+◌, ◌-◌, ◌^◌, ◌<◌, ◌≤◌, max, ◌==◌, Bool, true, if◌then◌else◌, is_some, Option, List, [], ◌∷◌, ◌++◌, length, drop, get_or, Some, None}
+use Rattle.std.specs.Prelude.{◌≡◌, ℕ, ◌+◌, ◌-◌, ◌^◌, ◌<◌, ◌≤◌, max, ◌==◌, Bool, true, if◌then◌else◌, is_some, Option, List, [], ◌∷◌, ◌++◌, length, take, drop, get_or, Some, None}
 use Rattle.std.specs.List.{sum_by, list_any}
 use Rattle.pf_model.specs.declared.nodes.Node.{Node}
 use Rattle.pf_model.specs.Kinds.{geom_of, is_geode}
@@ -70,6 +70,14 @@ abbrev pub TellsOne : SceneState → SceneState → Option (ℕ × Entry) → Ty
 TellsOne old new (Some e) =
     (new ≡ record old { told = old.told + 1 }) × (drop old.told old.shared.log ≡ e ∷ drop (old.told + 1) old.shared.log)
 TellsOne old new None = (new ≡ old) × (old.told ≡ length old.shared.log)
+
+-- the entries to be told next, up to so many: the oldest ones that were not told
+abbrev pub next_told : ℕ → SceneState → Log
+next_told most s = take most (drop s.told s.shared.log)
+
+-- these are told now, and nothing else changes
+abbrev pub TellsNext : ℕ → SceneState → SceneState → Type 0
+TellsNext most old new = new ≡ record old { told = old.told + length (next_told most old) }
 
 -- what a command adds to the weight of a log: its entry, and the edits of a merge
 abbrev pub weight_of : Command → ℕ

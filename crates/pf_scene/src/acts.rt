@@ -6,7 +6,7 @@ ghost use Rattle.pf_model.specs.Fits.{fits};
 ghost use Rattle.pf_scene.specs.Scenes.{weight_in};
 ghost use Rattle.pf_scene.specs.Acts.{MayEdit, MayMerge, MayView, MaySync, MayFrame};
 
-use crate::outcomes::{Channels, Framed, Home, Outcome, Sight, Synced};
+use crate::outcomes::{Channels, Framed, Home, Outcome, Sight, Synced, Told};
 use crate::scene::Scene;
 use pf_history::{Entry, Merge, Reply};
 use pf_io::NoMemory;
@@ -254,6 +254,7 @@ impl Act<Scene> for StopAct {
 /// Tells the next entry behind so many, and hands it out beside the number of its seat. It adds no entry.
 #[derive(Clone, Copy, Debug, PartialEq, Eq)]
 pub struct TellAct {
+    /// The number of entries that were told before.
     pub told: u64,
 }
 
@@ -270,6 +271,32 @@ impl Act<Scene> for TellAct {
             return None;
         }
         value.take_told()
+    }
+}
+
+/// Tells the next entries behind so many, as many as a block has room for, and puts them behind those in it, each beside the
+/// number of its seat. It adds no entry. Where room is left, all were told.
+#[derive(Debug, Drop)]
+pub struct TellBlockAct {
+    /// The number of entries that were told before.
+    pub told: u64,
+    pub block: Told,
+}
+
+impl Act<Scene> for TellBlockAct {
+    ghost use Rattle.pf_scene.specs.Acts.{TellsBlock};
+
+    type Reply = Told;
+
+    ghost does = { λ act seat found left reply. TellsBlock act.told act.block found left reply };
+
+    fn act(self, value: &mut Scene, seat: u32) -> Told {
+        let _ = seat;
+        let mut block = self.block;
+        if value.told() == self.told {
+            value.tell_into(&mut block.entries);
+        }
+        block
     }
 }
 

@@ -1,5 +1,6 @@
 //! The history, with room for its entries made in batches.
-ghost use Rattle.std.specs.Prelude.{◌≡◌, ◌≤◌, ◌∷◌, ◌++◌, [], length, OnOk, OnErr};
+ghost use Rattle.std.specs.Prelude.{◌≡◌, ◌+◌, ◌-◌, ◌≤◌, ◌∷◌, ◌++◌, [], length, take, drop, OnOk, OnErr};
+ghost use Rattle.std.specs.Vec.{vec_capacity};
 ghost use Rattle.pf_history.specs.Logs.{HasTold};
 ghost use Rattle.pf_scene.specs.Batches.{IsFull, IsReady};
 
@@ -68,6 +69,25 @@ impl Entries {
         ensures { HasTold self.old self.new result }
     {
         self.history.take()
+    }
+
+    /// Tells the oldest entries that were not told, in order, as many as there is room for, and puts them behind those of
+    /// `into`.
+    pub(crate) fn take_into(&mut self, into: &mut Vec<(u32, Entry)>)
+        ensures same { self.new.entries ≡ self.old.entries }
+        ensures told { self.new.told
+            ≡ self.old.told + length (take (vec_capacity into.old - length into.old.items) (drop self.old.told self.old.entries)) }
+        ensures entries { into.new.items ≡ into.old.items
+            ++ take (vec_capacity into.old - length into.old.items) (drop self.old.told self.old.entries) }
+        ensures room { vec_capacity into.new ≡ vec_capacity into.old }
+    {
+        let free = into.capacity() - into.len();
+        for _told in 0..free {
+            match self.take() {
+                Some(entry) => into.push_reserved(entry),
+                None => return,
+            }
+        }
     }
 
     /// The number of entries, told or not.

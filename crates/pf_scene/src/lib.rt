@@ -12,7 +12,9 @@ pub mod scene;
 pub(crate) mod stock;
 pub(crate) mod world;
 
-pub use acts::{EditAct, FrameAct, MergeAct, SightGlance, StopAct, SyncAct, TellAct, ViewAct};
-pub use outcomes::{Channels, Framed, Home, Outcome, Sight, Synced};
+pub use acts::{
+    EditAct, FrameAct, MergeAct, SightGlance, StopAct, SyncAct, TellAct, TellBlockAct, ViewAct,
+};
+pub use outcomes::{Channels, Framed, Home, Outcome, Sight, Synced, Told};
 pub use scene::Scene;
 pub use update_lists::{Cut, Views};

@@ -1,6 +1,6 @@
 //! What acts and glances answer.
 use draw_list::DrawList;
-use pf_history::Reply;
+use pf_history::{Entry, Reply};
 use update_lists::{Cut, Updates};
 
 /// What an act came to.
@@ -38,6 +38,12 @@ pub struct Channels {
 pub struct Framed {
     pub cut: Cut,
     pub channels: Channels,
+}
+
+/// A block of entries that were told, oldest first, each beside the number of its seat.
+#[derive(Debug, Drop)]
+pub struct Told {
+    pub entries: Vec<(u32, Entry)>,
 }
 
 /// What a glance shows: whether the stop mark is set, and the counts.

@@ -1,5 +1,5 @@
 //! The scene: the graph, the views, the frames, the graves and the history as one value.
-ghost use Rattle.std.specs.Prelude.{◌≡◌, ◌⊎◌, ◌+◌, ◌^◌, ◌<◌, ◌≤◌, true, false, None, length, map, OnOk, OnErr, IfOk, IfErr, [], ◌∷◌};
+ghost use Rattle.std.specs.Prelude.{◌≡◌, ◌⊎◌, ◌+◌, ◌-◌, ◌^◌, ◌<◌, ◌≤◌, true, false, None, length, map, OnOk, OnErr, IfOk, IfErr, [], ◌∷◌, ◌++◌};
 ghost use Rattle.std.specs.List.{list_all};
 ghost use Rattle.std.specs.Vec.{vec_capacity};
 ghost use Rattle.pf_model.specs.Limits.{IsGraphWithinLimits};
@@ -9,7 +9,7 @@ ghost use Rattle.pf_history.specs.declared.commands.Command.TheVariants as comma
 ghost use Rattle.pf_history.specs.Objects.{reply_of};
 ghost use Rattle.pf_history.specs.Logs.{IsLegal};
 ghost use Rattle.pf_history.specs.Cuts.{cut_of};
-ghost use Rattle.pf_scene.specs.Scenes.{KeepsCopies, AreOfRetired, TakesHome, state_in, entered, weight_in, HasWeight, copies_after, one_more, IsSmall, TellsOne};
+ghost use Rattle.pf_scene.specs.Scenes.{KeepsCopies, AreOfRetired, TakesHome, state_in, entered, weight_in, HasWeight, copies_after, one_more, IsSmall, TellsOne, TellsNext, next_told};
 ghost use Rattle.pf_scene.specs.Stock.{first_fault};
 ghost use Rattle.pf_scene.specs.Batches.{IsFull};
 ghost use Rattle.pf_scene.specs.Frames.{IsCutOf, AllHaveRoom, drawn};
@@ -95,8 +95,9 @@ impl Model for Scene {
 }
 
 impl Scene {
-    /// The scene before the first command, for so many frames ahead and so many channels. There is no stop mark, and the
-    /// seat in charge is 0.
+    /// Returns the scene before the first command, for `ahead` frames ahead of the last retired one and `channels`
+    /// channels, each 1 to 4. There is no stop mark, and the seat in charge is 0. Returns `Err(NoMemory)` if memory
+    /// runs out.
     pub fn new(alloc: Global, ahead: u8, channels: u8) -> Result<Scene, NoMemory>
         requires ahead { IsSmall ahead }
         requires channels { IsSmall channels }
@@ -238,6 +239,17 @@ impl Scene {
         self.history.take()
     }
 
+    /// Tells the oldest entries that were not told, in order, as many as there is room for: puts each behind those of `into`,
+    /// beside the number of its seat, and forgets it, so that it leaves memory. Nothing else changes.
+    pub fn tell_into(&mut self, into: &mut Vec<(u32, Entry)>)
+        ensures told { TellsNext (vec_capacity into.old - length into.old.items) self.old self.new }
+        ensures entries { into.new.items
+            ≡ into.old.items ++ next_told (vec_capacity into.old - length into.old.items) self.old }
+        ensures room { vec_capacity into.new ≡ vec_capacity into.old }
+    {
+        self.history.take_into(into);
+    }
+
     /// The number of entries that were told.
     pub fn told(&self) -> u64
         ensures { result ≡ self.now.told }
@@ -268,7 +280,9 @@ impl Scene {
         history.into_history()
     }
 
-    /// Sets the view of a channel, counted from 0.
+    /// Sets the view of a channel, counted from 0. Returns the reply, `Done`.
+    ///
+    /// Returns `Err(NoMemory)` if memory runs out, and leaves the scene as it was.
     pub fn view(&mut self, channel: u8, view: View) -> Result<Reply, NoMemory>
         requires channel { channel < self.old.shared.channels }
         requires weight { HasWeight self.old.shared (command.View channel view) }
@@ -287,9 +301,11 @@ impl Scene {
         Ok(Reply::Done)
     }
 
-    /// Retires so many frames, counted from the first, and frees the deleted nodes that only they name. The triangles of
-    /// the lists that came home go back to their cycles, whatever else is in the lists, and no list is left; a refusal
-    /// leaves the lists.
+    /// Retires `retired` frames, counted from the first, and frees the deleted nodes that only they name. The triangles
+    /// of the lists that returned go back to their cycles, whatever else is in the lists, and no list is left. Returns
+    /// the reply, with the serials of the nodes that were freed.
+    ///
+    /// Returns `Err(NoMemory)` if memory runs out, and leaves the scene and the lists as they were.
     pub fn sync(&mut self, retired: u32, home: &mut Vec<Updates>) -> Result<Reply, NoMemory>
         requires back { (state_in self.old.shared).retired ≤ retired }
         requires begun { retired ≤ (state_in self.old.shared).frames }
@@ -321,8 +337,10 @@ impl Scene {
         Ok(Reply::Freed(replies::whole(told)))
     }
 
-    /// Makes an edit. A fault is a reply, even where there is no memory but for the entry; room for entries is made for 64
-    /// at a time. Want of memory hands the edit back.
+    /// Makes an edit, whose numbers are in the ranges of a play. Returns the reply, and a fault is one.
+    ///
+    /// Returns `Err` with the edit if memory runs out, and leaves the scene as it was. That comes only if the edit has
+    /// no fault or the entry finds no room. Room for entries is made for 64 at a time.
     pub fn edit(&mut self, e: Edit) -> Result<Reply, Edit>
         requires fits { fits e ≡ true }
         requires weight { HasWeight self.old.shared (command.Edit e) }
@@ -351,8 +369,11 @@ impl Scene {
         Ok(replies::of_edit(fault))
     }
 
-    /// Makes all edits of a buffer, or none of them where one has a fault, which is then the reply; that of the first edit
-    /// even where there is no memory but for the entry, as in `edit`. Want of memory hands the merge back.
+    /// Makes all edits of a buffer, or none of them if one has a fault. Their numbers are in the ranges of a play.
+    /// Returns the reply, and the first fault is one.
+    ///
+    /// Returns `Err` with the merge if memory runs out, and leaves the scene as it was. That comes only if the first
+    /// edit has no fault or the entry finds no room, as in `edit`.
     pub fn merge(&mut self, m: Merge) -> Result<Reply, Merge>
         requires fits { list_all fits m.edits ≡ true }
         requires weight { HasWeight self.old.shared (command.Merge m) }
@@ -383,9 +404,11 @@ impl Scene {
         Ok(replies::of_merge(fault))
     }
 
-    /// Begins the frame in preparation, and answers its cut. All memory of the frame is taken before any change, the room
-    /// for a frame of this size in the draw list of each channel among it. Want of memory may leave more room and more
-    /// copies of triangles, and changes nothing else.
+    /// Begins the frame in preparation, and makes room for a frame of this size in the draw list of each channel.
+    /// `ahead` is that of the scene. Returns the cut of the frame.
+    ///
+    /// Returns `Err(NoMemory)` if memory runs out. Then there may be more room and more copies of triangles, and
+    /// nothing else has changed.
     #[tactic(auto, using(crate::proofs::Counted::no_fewer))]
     pub fn frame(&mut self, ahead: u8, lists: &mut [DrawList]) -> Result<Cut, NoMemory>
         requires ahead { ahead ≡ self.old.shared.ahead }
