@@ -52,6 +52,7 @@ came_back k a f packet seen told taken taken' told_sent sink sink' ends took bar
       home = back.kept.home;
       counted = back.kept.counted;
       passes = back.kept.passes;
+      told = back.kept.told;
       waited = back.kept.waited;
       whole = λ ok. back.says.fault;
       adds = back.kept.adds;
@@ -84,6 +85,7 @@ came_short k a f packet seen seen' told told' taken taken' told_sent sink sink' 
       home = back.kept.home;
       counted = back.kept.counted;
       passes = back.kept.passes;
+      told = back.kept.told;
       waited = back.kept.waited;
       whole = λ ok. absurd (cc);
       adds = back.kept.adds;
@@ -133,6 +135,7 @@ was_sent k a packet last seen told sent sent' room told_taken ends bare going la
           home_same g k (holding packet (work_of a)) (work_of (record a { ended = last })) seen ends.taken refl refl has;
       counted = λ holds right. holds;
       passes = λ enough. enough;
+      told = refl;
       waited = λ enough. enough;
       whole = λ ok. refl;
       adds = record { found = seen; goes_on = found-self k seen; adds = inl refl };
@@ -184,6 +187,7 @@ passes_wait k wanted w seen told ends bare going next here before =
       home = λ g stream given own keeps has. home_same g k w after seen ends.taken refl refl has;
       counted = λ holds right. holds;
       passes = λ fewer. omega (arith, fewer);
+      told = refl;
       waited = λ old. enough;
       whole = λ ok. refl;
       adds = record { found = seen; goes_on = found-self k seen; adds = inl refl };

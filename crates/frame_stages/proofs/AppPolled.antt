@@ -63,6 +63,7 @@ idle k w w' seen seen' told told' ends found same still waits =
       home = λ g stream given own keeps has. home_found g k w seen seen' ends.taken found has;
       counted = λ holds right. holds;
       passes = λ enough. enough;
+      told = refl;
       waited = λ enough. let more = merges_found k seen seen' found in omega (arith, enough, more);
       whole = λ ok. refl;
       adds = record { found = seen'; goes_on = found; adds = inl refl };
@@ -81,6 +82,7 @@ over k w seen seen' told told' ends found still =
       home = λ g stream given own keeps has. home_found g k w seen seen' ends.taken found has;
       counted = λ holds right. holds;
       passes = λ enough. enough;
+      told = refl;
       waited = λ enough. let more = merges_found k seen seen' found in omega (arith, enough, more);
       whole = λ ok. refl;
       adds = record { found = seen'; goes_on = found; adds = inl refl };
@@ -131,6 +133,7 @@ out k w w' seen seen' told told' ends wanted bare marks counted as_before =
           (home_found g k w seen seen' ends.taken marks.goes_on has);
       counted = counted;
       passes = λ enough. enough;
+      told = refl;
       waited = λ enough. let more = merges_found k seen seen' marks.goes_on in omega (arith, enough, more);
       whole = λ ok. refl;
       adds = record { found = seen'; goes_on = marks.goes_on; adds = inl refl };
@@ -173,6 +176,7 @@ pub record GoesOnBy (k : ℕ) (c : Command) (ends : Ends) (w w' : AppWork) (foun
   pub need : w'.state.need ≡ w.state.need
   pub passes : PassesEnough w.state → PassesEnough w'.state
   pub fault : w'.state.fault ≡ w.state.fault
+  pub told : w'.told ≡ w.told
   pub stays_open : (next_step w.rest ≡ None → ⊥) → w'.state.closed ≡ w.state.closed
   pub given : (g : Setup) → IsGiven g w → IsGiven g w'
   pub part : (g : Setup) (stream : List ℕ) → IsGiven g w → AreOwnFrames k found.log →
@@ -214,6 +218,7 @@ by_entry k c May w w' seen seen' told told' ends m bare back counted by =
           (home_found g k w seen log ends.taken m.goes_on has));
       counted = counted;
       passes = by.passes;
+      told = by.told;
       waited = λ enough.
           let first = merges_found k seen log m.goes_on in
           let second : merges_in log ≤ merges_in seen' = subst (λ (l : Log). merges_in log ≤ merges_in l) (sym m.adds) (merges_more log (e ∷ [])) in
@@ -298,6 +303,7 @@ looked r k w w' first seen told ends after found polled =
           (home_found g k w first seen ends.taken found has);
       counted = polled.counted;
       passes = polled.passes;
+      told = polled.told;
       waited = λ enough.
           let more = merges_found k first seen found in
           polled.waited (omega (arith, enough, more));
@@ -316,6 +322,7 @@ polled_keeps r k w w' before after polled =
       home = polled.home;
       counted = polled.counted;
       passes = polled.passes;
+      told = polled.told;
       waited = polled.waited;
       adds = polled.adds;
     }

@@ -254,7 +254,7 @@ pub frame_waits : (k : ℕ) (w w' : AppWork) (seen seen' : Log) (told told' : Op
     Polled k (Ok did.NotYet) w w' (around seen told ends) (around seen' told' ends)
 frame_waits k w w' seen seen' told told' ends bare next synced same b =
     barred k w w' (λ s. MayFrame s w.ahead w.channels) seen seen' told told' ends (Some app.Frame) bare next same b
-    (λ bars. subst (λ t. FrameWaits t w told ends seen') (sym synced) bars)
+    (λ bars. subst (λ t. FrameWaits t w told ends seen') (sym synced) (inl bars))
 
 -- a frame that was barred, by the numbers of the stage
 pub frame_barred : (k ahead ahead' : ℕ) (load : LoadState) (seen seen' : Log) (told told' : Option SceneState) (channels : ℕ) →
@@ -263,6 +263,17 @@ pub frame_barred : (k ahead ahead' : ℕ) (load : LoadState) (seen seen' : Log) 
 frame_barred k ahead ahead' load seen seen' told told' channels same many b =
     subst (λ n. Barred k (λ s. MayFrame s n channels) seen told seen' told') same
     (subst (λ n. Barred k (λ s. MayFrame s ahead n) seen told seen' told') many b)
+
+-- a frame has to wait for a load, after room was made
+pub load_waits : (k : ℕ) (a : Application) (m f : FlightState) (seen : Log) (told : Option SceneState) (ends : Ends) → a.held ≡ None →
+    next_step a.script.rest ≡ Some app.Frame → a.synced ≡ true → m ≡ record a.flight { room = m.room } → f ≡ m → m.spare ≡ [] →
+    Polled k (Ok did.NotYet) (work_of a) (work_of (record a { flight = f })) (around seen told ends) (around seen told ends)
+load_waits k a m f seen told ends bare next is_synced roomy same none =
+    let empty : a.flight.spare ≡ [] = sym (ap (λ (v : FlightState). v.spare) roomy) ∙ none in
+    idle k (work_of a) (work_of (record a { flight = f })) seen seen told told ends (found-self k seen)
+    (ap (λ (v : FlightState). work_of (record a { flight = v })) (same ∙ roomy)) refl
+    (step_waits (work_of a) seen told ends (Some app.Frame) bare next
+    (subst (λ t. FrameWaits t (work_of a) told ends seen) (sym is_synced) (inr empty)))
 
 -- room was made for the numbers of a frame, or not, and the loads in hand stay
 pub taken_none : (a : Application) (f : FlightState) → f ≡ record a.flight { room = f.room } →

@@ -66,6 +66,7 @@ brought_back k a f packet seen told taken taken' told_sent sink sink' ends took 
             (home_back g k (work_of a) after seen taken ends.sent stream packet given keeps away whole refl came.kept.home has);
         counted = λ holds right. holds;
         passes = λ enough. enough;
+        told = refl;
         waited = λ enough. enough;
         adds = record { found = seen; goes_on = found-self k seen; adds = inl refl };
       };
@@ -127,6 +128,7 @@ brought_short k a f packet seen seen' told told' taken taken' told_sent sink sin
             (home_back g k (work_of a) after seen taken ends.sent stream packet given keeps away whole refl came.kept.home has));
         counted = λ holds right. counted holds;
         passes = λ enough. enough;
+        told = refl;
         waited = λ enough. let more = merges_found k seen seen' marks.goes_on in omega (arith, enough, more);
         adds = record { found = seen'; goes_on = marks.goes_on; adds = inl refl };
       };

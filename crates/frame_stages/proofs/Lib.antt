@@ -22,3 +22,4 @@ pub mod AppLooks
 pub mod AppTurned
 pub mod InFlight
 pub mod Settled
+pub mod Spares

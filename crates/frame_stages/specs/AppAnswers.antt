@@ -157,9 +157,9 @@ CloseWaits w told ends seen' =
     (IsDry ends.told_sent ends.taken × (w.state.written < w.state.frames))
     ⊎ ((merges_in seen' < w.merges) ⊎ SyncWaits w told ends seen')
 
--- a Frame has to wait, behind a Sync or before one
+-- A Frame has to wait: behind a Sync it might not be made in the scene found, or no load is in hand; before one, the Sync has to.
 abbrev pub FrameWaits : Bool → AppWork → Option SceneState → Ends → Log → Type 0
-FrameWaits true w told ends seen' = Bars (λ s. MayFrame s w.ahead w.channels) told seen'
+FrameWaits true w told ends seen' = Bars (λ s. MayFrame s w.ahead w.channels) told seen' ⊎ (w.state.spare ≡ [])
 FrameWaits false w told ends seen' = SyncWaits w told ends seen'
 
 -- the next step has to wait
@@ -225,6 +225,8 @@ pub record IsKeptBy (k : ℕ) (old new : AppWork) (before after : Around) : Type
   pub counted : HoldsCopies before.told → IsHomeRight old before.told → HoldsCopies after.told
   -- it passed a line for each frame
   pub passes : PassesEnough old.state → PassesEnough new.state
+  -- it tells no numbers
+  pub told : new.told ≡ old.told
   -- the merges that it waited for stand in the log
   pub waited : old.state.need ≤ merges_in before.seen → new.state.need ≤ merges_in after.seen
   -- it adds at most one entry, and that is its own; each Sync retires just the frames whose pictures are wholly written
@@ -251,6 +253,8 @@ pub record Polled (k : ℕ) (result : Result Did StageError) (old new : AppWork)
   pub counted : HoldsCopies before.told → IsHomeRight old before.told → HoldsCopies after.told
   -- it passed a line for each frame
   pub passes : PassesEnough old.state → PassesEnough new.state
+  -- it tells no numbers
+  pub told : new.told ≡ old.told
   -- the merges that it waited for stand in the log
   pub waited : old.state.need ≤ merges_in before.seen → new.state.need ≤ merges_in after.seen
   -- only a fault of the sink makes it keep one

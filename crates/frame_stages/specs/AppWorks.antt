@@ -16,8 +16,9 @@ use Rattle.stage_parts.specs.DbaseSteps.{opening_app}
 use Rattle.stage_parts.specs.Grows.{synced_by}
 use Rattle.frame_stages.specs.declared.application.Application.{Application}
 
--- The application's stage: the lines that are left, what else it is given, its state, and the update lists that go home
--- with the next Sync, in the order in which they came.
+-- The application's stage: the lines that are left, what else it is given, its state, how many frames' numbers were told
+-- (the oldest ones of those in its state), and the update lists that go home with the next Sync, in the order in which they
+-- came.
 pub record AppWork : Type 0 where
   pub rest : List AppLine
   pub merges : ℕ
@@ -26,6 +27,7 @@ pub record AppWork : Type 0 where
   pub ahead : ℕ
   pub channels : ℕ
   pub state : AppState
+  pub told : ℕ
   pub home : List UpdateList
 
 -- the End is held
@@ -56,6 +58,7 @@ work_of a =
         spare = a.flight.spare;
         stats = a.flight.stats;
       };
+      told = a.flight.told;
       home = a.flight.home;
     }
 
@@ -90,6 +93,7 @@ opening_work g loads =
       ahead = g.ahead;
       channels = g.channels;
       state = opening_app loads;
+      told = 0;
       home = [];
     }
 

@@ -1,5 +1,5 @@
 -- The frames in flight, and what comes back of them.
-use Rattle.std.specs.Prelude.{◌≡◌, ℕ, ◌+◌, ◌<◌, ◌≤◌, List, [], ◌∷◌, ◌++◌, map, length, take, Option, Some}
+use Rattle.std.specs.Prelude.{◌≡◌, ℕ, ◌+◌, ◌<◌, ◌≤◌, List, [], ◌∷◌, ◌++◌, map, length, take, drop, Option, Some, None}
 use Rattle.std.specs.Io.KnownBytes.{append_known}
 use Rattle.fx_math.specs.declared.lenses.Lens.{Lens}
 use Rattle.pf_io.specs.Causes.{Rose}
@@ -16,7 +16,8 @@ use Rattle.stage_parts.specs.Answers.{IsDry}
 
 -- How many frames were begun, how many pictures were wholly written, and how many bytes of the next one before a fault;
 -- the loads in hand, the update lists that go home with the next Sync, in the order in which they came, the numbers of
--- the frames that came back and for how many there is room, and how many frames may be in flight.
+-- the frames that came back, how many of them were told (the oldest ones) and for how many more there is room, and how
+-- many frames may be in flight.
 pub record FlightState : Type 0 where
   pub frames : ℕ
   pub written : ℕ
@@ -24,6 +25,7 @@ pub record FlightState : Type 0 where
   pub spare : List LoadState
   pub home : List UpdateList
   pub stats : List Stats
+  pub told : ℕ
   pub room : ℕ
   pub ahead : ℕ
 
@@ -38,8 +40,8 @@ pub record IsInFlight (frames written ahead : ℕ) (fault : Option ℕ) (spare :
   pub loads : length spare + frames ≤ ahead + (written + cut_short fault)
   pub places : ahead ≤ hold
   pub homeward : ahead ≤ lists
-  pub told : stats ≤ written + cut_short fault
-  pub numbers : frames ≤ room
+  pub came : stats ≤ written + cut_short fault
+  pub numbers : frames ≤ stats + room
   pub settled : Each (λ l. HaveFirst l.lists) spare
 
 -- a play begins at most so many frames, since each has a line
@@ -54,7 +56,12 @@ begun f = record f { frames = f.frames + 1 }
 pub record IsTaken (f : FlightState) : Type 0 where
   pub loads : length f.spare + 1 + f.frames ≤ f.ahead + (f.written + cut_short f.fault)
   pub few : f.frames < most_frames
-  pub room : f.frames < f.room
+  pub room : f.frames < length f.stats + f.room
+
+-- Of these numbers so many were told: the oldest that were not told are told now; or all were told before.
+abbrev pub TellsNext : List Stats → (told told' : ℕ) → Option Stats → Type 0
+TellsNext stats told told' (Some numbers) = (told' ≡ told + 1) × (drop told stats ≡ numbers ∷ drop told' stats)
+TellsNext stats told told' None = (told' ≡ told) × (told ≡ length stats)
 
 -- The load has a draw list with a joint and an image of the lens's size for each of so many channels.
 pub record IsFitFor (lens : Lens) (channels : ℕ) (l : LoadState) : Type 0 where
@@ -78,14 +85,14 @@ pub record SinkSide : Type 0 where
 -- A packet came back, and its picture was wholly written.
 pub record CameBack (packet : Packet) (old new : FlightState) (sink sink' : SinkSide) : Type 0 where
   pub kept : IsKeptOf packet old new
-  pub state : new ≡ record old { written = old.written + 1; spare = new.spare; home = new.home; stats = new.stats }
+  pub state : new ≡ record old { written = old.written + 1; spare = new.spare; home = new.home; stats = new.stats; room = new.room }
   pub wrote : sink' ≡ record sink { bytes = append_known sink.bytes (bytes_in packet) }
 
 -- A packet came back, and a fault cut its picture short.
 pub record CameShort (packet : Packet) (old new : FlightState) (sink sink' : SinkSide) : Type 0 where
   pub bytes : ℕ
   pub kept : IsKeptOf packet old new
-  pub state : new ≡ record old { fault = Some bytes; spare = new.spare; home = new.home; stats = new.stats }
+  pub state : new ≡ record old { fault = Some bytes; spare = new.spare; home = new.home; stats = new.stats; room = new.room }
   pub wrote : sink'.bytes ≡ append_known sink.bytes (take bytes (bytes_in packet))
   pub rose : Rose sink.faults sink'.faults
   pub last : sink'.at_fault ≡ sink'.bytes

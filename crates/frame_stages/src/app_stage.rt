@@ -1,9 +1,9 @@
 //! The application.
-ghost use Rattle.std.specs.Prelude.{◌≡◌, ◌+◌, ◌≤◌, ◌<◌, true, false, ℕ, List, [], ◌∷◌, length, None, Some, Ok, IfOk, OnOk, OnErr};
+ghost use Rattle.std.specs.Prelude.{◌≡◌, ◌+◌, ◌≤◌, ◌<◌, true, false, ℕ, List, [], ◌∷◌, ◌++◌, length, drop, None, Some, Ok, IfOk, OnOk, OnErr};
 ghost use Rattle.stage_parts.specs.declared.answers.Did.TheVariants as did;
 ghost use Rattle.stage_parts.specs.Answers.{is_over};
 ghost use Rattle.stage_parts.specs.Loads.{Each};
-ghost use Rattle.frame_stages.specs.Flights.{IsFitFor};
+ghost use Rattle.frame_stages.specs.Flights.{IsFitFor, TellsNext};
 ghost use Rattle.frame_stages.specs.Scripts.{most_lines};
 ghost use Rattle.pf_history.specs.Logs.{Log};
 ghost use Rattle.stage_parts.specs.declared.packets.Packet.{Packet};
@@ -56,8 +56,10 @@ impl Model for AppStage {
 }
 
 impl AppStage {
-    /// The application of a section, which has not begun: of a play with so many merges, before a lens and a background,
-    /// where so many frames may be in flight, with so many channels.
+    /// Returns the application of the section `app` of a play with `merges` merges, which has not begun. The section
+    /// has at most 2,147,483,648 lines, the background is red, green and blue, and `ahead` frames may be in flight.
+    ///
+    /// Returns `Err(NoMemory)` if memory runs out.
     pub fn new(
         alloc: Global,
         app: Vec<AppLine>,
@@ -95,16 +97,27 @@ impl AppStage {
         })
     }
 
-    /// The numbers of the frames that came back, in order.
-    pub fn stats(&self) -> &[Stats]
-        ensures { result.now ≡ self.now.state.stats }
+    /// The numbers of the frames that came back and were not told, in order: two slices, of which the second goes on where
+    /// the first ends. Where none were told, these are all.
+    pub fn untold_stats(&self) -> (&[Stats], &[Stats])
+        ensures { result.0.now ++ result.1.now ≡ drop self.now.told self.now.state.stats }
     {
-        self.parts.flight.stats()
+        self.parts.flight.untold_stats()
     }
 
-    /// The numbers of the frames that came back, in order, for who is done with the stage.
+    /// Tells the numbers of the oldest frame that came back and was not told: hands them out, and forgets them. Returns None
+    /// where all were told.
+    pub fn take_stats(&mut self) -> Option<Stats>
+        ensures tells { TellsNext self.old.state.stats self.old.told self.new.told result }
+        ensures same { self.new ≡ record self.old { told = self.new.told } }
+    {
+        self.parts.flight.take_stats()
+    }
+
+    /// The numbers of the frames that came back and were not told, in order, for who is done with the stage. Where none
+    /// were told, these are all.
     pub fn into_stats(self) -> Vec<Stats>
-        ensures { result.items ≡ self.state.stats }
+        ensures untold { result.items ≡ drop self.told self.state.stats }
     {
         let Self { parts } = self;
         parts.flight.into_stats()
@@ -192,8 +205,11 @@ impl AppStage {
         self.parts.merges = merges;
     }
 
-    /// Takes a packet back, where a frame is away and one came, and writes its picture, wherever in its section it stands.
-    /// Returns `Did` where it did, else `NotYet`; and `FrameFault` where a fault of the sink cut the picture short.
+    /// Takes a packet back, if a frame is away and one came, and writes its picture, wherever in its section it stands.
+    /// Returns `Did` if it took one, and else `NotYet`.
+    ///
+    /// Returns `Err(StageError::FrameFault)` if a fault of the sink cut the picture short, and no other error. Then the
+    /// packet is taken, and the stop mark is set.
     pub fn take_back<D: Desk<Scene>, T: TakeEnd<Packet>, O: Sink>(
         &mut self,
         desk: &mut D,
@@ -216,8 +232,13 @@ impl AppStage {
         self.parts.take_back(desk, from_draw, frames)
     }
 
-    /// One step: sends the packet that it holds, or takes the next step of its section. It takes a packet back and writes
-    /// its picture before a Sync.
+    /// One step: sends the packet that it holds, or takes the next step of its section. It takes a packet back and
+    /// writes its picture before a Sync. Returns `Did` if it did something, `NotYet` if it has to wait, and `Over` if
+    /// it is over or finds the stop mark.
+    ///
+    /// Returns `Err(StageError::FrameFault)` if a fault of the sink cut a picture short; the packet is then taken.
+    /// Returns `Err(StageError::NoMemory)` if memory runs out for its next step, which is then left. At either it makes
+    /// no entry, and sets the stop mark.
     pub fn poll<D: Desk<Scene>, S: SendEnd<Packet>, T: TakeEnd<Packet>, O: Sink, G: Gate>(
         &mut self,
         desk: &mut D,

@@ -379,7 +379,8 @@ impl Application {
         }
     }
 
-    /// Begins the frame of the next line behind a Sync. All memory of the frame is taken before.
+    /// Begins the frame of the next line behind a Sync. All memory of the frame is taken before. It waits where no load is
+    /// in hand.
     fn frame<D: Desk<Scene>, G: Gate>(&mut self, desk: &mut D, gate: &G) -> Result<Did, StageError>
         requires next { next_step self.old.script.rest ≡ Some app.Frame }
         requires synced { self.old.synced ≡ true }
@@ -398,10 +399,7 @@ impl Application {
             return Err(StageError::NoMemory);
         };
         match self.flight.take_load() {
-            None => {
-                stop(desk);
-                Err(StageError::NoMemory)
-            }
+            None => Ok(Did::NotYet),
             Some(load) => {
                 gate.pass(Stage::App, self.flight.frames() + 1);
                 if load.is_for(&self.lens, self.channels) {

@@ -71,7 +71,8 @@ fn is_end(packet: &Packet) -> bool
 }
 
 impl CullStage {
-    /// The cull of a lens, which has not begun: its copy is the scene alone.
+    /// Returns the cull of a lens, which has not begun: its copy is the scene alone. Returns `Err(NoMemory)` if memory
+    /// runs out.
     pub fn new(alloc: Global, lens: Lens) -> Result<CullStage, NoMemory>
         ensures lens { IfOk result (λ c. c.lens ≡ lens) }
         ensures nodes { IfOk result (λ c. c.copy.nodes ≡ copy_of []) }
@@ -206,7 +207,8 @@ impl CullStage {
         self.ended
     }
 
-    /// One step: sends the packet that it holds, or takes one and holds what it makes of it.
+    /// One step: sends the packet that it holds, or takes one and holds what it makes of it. Returns `Did` if a packet
+    /// moved, `NotYet` if none could, and `Over` if it has ended or finds the stop mark. It returns no error.
     pub fn poll<D: Desk<Scene>, S: SendEnd<Packet>, T: TakeEnd<Packet>, G: Gate>(
         &mut self,
         desk: &mut D,

@@ -90,7 +90,8 @@ fn queue_of(lines: Vec<BaseLine>) -> VecDeque<BaseLine>
 }
 
 impl DbaseStage {
-    /// The database process before its first line. It takes no memory.
+    /// Returns the database process before its first line. It takes no memory, and returns no error. The section
+    /// `dbase` has at most 2,147,483,648 lines and whole buffers, and its numbers are in the ranges of a play.
     pub fn new(alloc: Global, dbase: Vec<BaseLine>) -> Result<DbaseStage, NoMemory>
         requires few { length dbase.items ≤ most_lines }
         requires fit { list_all (λ l. base_fits l.step) dbase.items ≡ true }
@@ -283,7 +284,11 @@ impl DbaseStage {
         }
     }
 
-    /// One step: passes an await, a line of a buffer, or a merge, which it enters in the scene.
+    /// One step: passes an await, a line of a buffer, or a merge, which it enters in the scene. Returns `Did` if it
+    /// passed a line, `NotYet` if it has to wait, and `Over` if no line is left or it finds the stop mark.
+    ///
+    /// Returns `Err(StageError::NoMemory)` if memory runs out, and no other error. Then it added no entry, has set the
+    /// stop mark, and is over: no line is left.
     pub fn poll<D: Desk<Scene>, G: Gate>(
         &mut self,
         desk: &mut D,

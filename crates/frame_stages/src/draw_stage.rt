@@ -62,7 +62,8 @@ impl Model for DrawStage {
 }
 
 impl DrawStage {
-    /// The draw of a lens before a background, which has not begun.
+    /// Returns the draw of a lens before a background of red, green and blue, which has not begun. Returns
+    /// `Err(NoMemory)` if memory runs out.
     pub fn new(alloc: Global, lens: Lens, back: [u8; 3]) -> Result<DrawStage, NoMemory>
         ensures { IfOk result (λ d. d ≡ record { lens = lens; back = back; state = record { ended = false; held = None } }) }
     {
@@ -182,7 +183,8 @@ impl DrawStage {
         self.ended
     }
 
-    /// One step: sends the packet that it holds, or takes one and holds what it makes of it.
+    /// One step: sends the packet that it holds, or takes one and holds what it makes of it. Returns `Did` if a packet
+    /// moved, `NotYet` if none could, and `Over` if it has ended or finds the stop mark. It returns no error.
     pub fn poll<R: Threads + Sync, D: Desk<Scene>, S: SendEnd<Packet>, T: TakeEnd<Packet>, G: Gate>(
         &mut self,
         rt: &R,

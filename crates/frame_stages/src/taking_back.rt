@@ -1,6 +1,6 @@
 //! The frames in flight: the loads in hand, and the packets that come back, whose pictures are written.
-ghost use Rattle.std.specs.Prelude.{◌≡◌, ◌+◌, ◌<◌, ◌≤◌, ◌↔◌, ℕ, true, false, List, [], ◌∷◌, ◌++◌, length, IsTrue, None, is_some, IfOk, IfSome, IfNone, IfErr, OnOk, OnErr};
-ghost use Rattle.std.specs.Vec.{vec_len, vec_capacity};
+ghost use Rattle.std.specs.Prelude.{◌≡◌, ◌+◌, ◌<◌, ◌≤◌, ◌↔◌, ℕ, true, false, List, [], ◌∷◌, ◌++◌, length, drop, IsTrue, None, is_some, IfOk, IfSome, IfNone, IfErr, OnOk, OnErr};
+ghost use Rattle.std.specs.Vec.{vec_capacity};
 ghost use Rattle.stage_parts.specs.Loads.{Each, AreImages};
 ghost use Rattle.stage_parts.specs.Parts.{cut_short};
 ghost use Rattle.stage_parts.specs.declared.packets.Packet.TheVariants as packet;
@@ -9,7 +9,7 @@ ghost use Rattle.frame_stages.specs.AppTurns.{Comes, LeavesHome};
 ghost use Rattle.frame_stages.specs.Copies.{HoldsCopies, AreHomeward};
 ghost use Rattle.pf_history.specs.declared.commands.Command.TheVariants as command;
 ghost use Rattle.pf_scene.specs.Acts.{MaySync};
-ghost use Rattle.frame_stages.specs.Flights.{HaveFirst, IsFitFor, begun, most_frames, IsTaken, IsKeptOf, CameBack, CameShort, Brings};
+ghost use Rattle.frame_stages.specs.Flights.{HaveFirst, IsFitFor, begun, most_frames, IsTaken, TellsNext, IsKeptOf, CameBack, CameShort, Brings};
 
 use crate::app_turns::{Came, make_sync};
 use draw_list::{DrawList, Stats};
@@ -22,6 +22,7 @@ use seat_lock::Desk;
 use stage_parts::{Load, Packet};
 use std::alloc::Global;
 use std::marker::Model;
+use told_log::ToldLog;
 use update_lists::Updates;
 
 /// What came of bringing a packet back.
@@ -36,7 +37,7 @@ pub(crate) enum Brought {
 }
 
 /// How many frames were begun and how many pictures were wholly written, the loads in hand, the update lists that go home
-/// with the next Sync, and the numbers of the frames that came back.
+/// with the next Sync, and the numbers of the frames that came back, of which those that were told leave memory.
 #[derive(Drop)]
 pub(crate) struct Flight {
     frames: u32,
@@ -44,12 +45,13 @@ pub(crate) struct Flight {
     fault: Option<usize>,
     spare: Vec<Load>,
     home: Vec<Updates>,
-    stats: Vec<Stats>,
+    stats: ToldLog<Stats>,
     ahead: u8,
 }
 
 impl Model for Flight {
-    ghost use Rattle.std.specs.Vec.{vec_len, vec_capacity};
+    ghost use Rattle.std.specs.Prelude.{length};
+    ghost use Rattle.std.specs.Vec.{vec_capacity};
     ghost use Rattle.frame_stages.specs.Flights.{FlightState, IsInFlight};
 
     ghost Value = { FlightState };
@@ -60,13 +62,14 @@ impl Model for Flight {
       fault = f.fault;
       spare = f.spare.items;
       home = f.home.items;
-      stats = f.stats.items;
-      room = vec_capacity f.stats;
+      stats = f.stats.entries;
+      told = f.stats.told;
+      room = f.stats.spare;
       ahead = f.ahead;
     } };
 
     ghost invariant = { λ f. IsInFlight f.frames f.written f.ahead f.fault f.spare.items (vec_capacity f.spare)
-        (vec_capacity f.home) (vec_len f.stats) (vec_capacity f.stats) };
+        (vec_capacity f.home) (length f.stats.entries) f.stats.spare };
 }
 
 /// Clears a draw list, so that it has a joint, and a frame's room is not asked for behind what was drawn.
@@ -150,6 +153,7 @@ impl Flight {
           spare = f.spare;
           home = [];
           stats = [];
+          told = 0;
           room = f.room;
           ahead = ahead;
         }) }
@@ -164,7 +168,7 @@ impl Flight {
             fault: None,
             spare,
             home,
-            stats: Vec::new(alloc),
+            stats: ToldLog::new(alloc),
             ahead,
         })
     }
@@ -211,18 +215,27 @@ impl Flight {
         self.fault.is_some()
     }
 
-    /// The numbers of the frames that came back, in order.
-    pub(crate) fn stats(&self) -> &[Stats]
-        ensures { result.now ≡ self.now.stats }
+    /// The numbers of the frames that came back and were not told, in order: two slices, of which the second goes on where
+    /// the first ends.
+    pub(crate) fn untold_stats(&self) -> (&[Stats], &[Stats])
+        ensures { result.0.now ++ result.1.now ≡ drop self.now.told self.now.stats }
     {
-        self.stats.as_slice()
+        self.stats.untold()
     }
 
-    /// The numbers of the frames that came back, in order.
-    pub(crate) fn into_stats(self) -> Vec<Stats>
-        ensures { result.items ≡ self.stats }
+    /// Tells the oldest numbers that were not told: hands them out, and forgets them. Returns None where all were told.
+    pub(crate) fn take_stats(&mut self) -> Option<Stats>
+        ensures tells { TellsNext self.old.stats self.old.told self.new.told result }
+        ensures same { self.new ≡ record self.old { told = self.new.told } }
     {
-        self.stats
+        self.stats.take()
+    }
+
+    /// The numbers of the frames that came back and were not told, in order.
+    pub(crate) fn into_stats(self) -> Vec<Stats>
+        ensures { result.items ≡ drop self.told self.stats }
+    {
+        self.stats.into_untold()
     }
 
     /// Keeps a load that came back, its numbers, and the update list that goes home.
@@ -231,7 +244,12 @@ impl Flight {
             ≤ self.old.ahead + (self.old.written + cut_short self.old.fault) }
         requires stats { length self.old.stats + 1 ≤ self.old.written + cut_short self.old.fault }
         ensures kept { IsKeptOf (packet.Frame load) self.old self.new }
-        ensures same { self.new ≡ record self.old { spare = self.new.spare; home = self.new.home; stats = self.new.stats } }
+        ensures same { self.new ≡ record self.old {
+          spare = self.new.spare;
+          home = self.new.home;
+          stats = self.new.stats;
+          room = self.new.room;
+        } }
     {
         self.stats.push_reserved(load.stats());
         bring_home(&mut self.home, load.take_updates());
@@ -317,19 +335,18 @@ impl Flight {
     /// Makes room for the numbers of one frame more. It is refused only where there is none.
     pub(crate) fn make_room(&mut self) -> Result<(), NoMemory>
         requires few { self.old.frames < most_frames }
-        ensures room { OnOk result (self.old.frames < self.new.room) }
-        ensures full { OnErr result (self.old.room ≤ self.old.frames) }
+        ensures room { OnOk result (self.old.frames < length self.new.stats + self.new.room) }
+        ensures full { OnErr result (length self.old.stats + self.old.room ≤ self.old.frames) }
         ensures same { self.new ≡ record self.old { room = self.new.room } }
     {
         let away = self.frames as usize - self.stats.len();
-        self.stats.reserve(away + 1)?;
-        Ok(())
+        self.stats.reserve(away + 1)
     }
 
     /// Takes a load out of hand for the next frame, where one is there.
     pub(crate) fn take_load(&mut self) -> Option<Load>
         requires few { self.old.frames < most_frames }
-        requires room { self.old.frames < self.old.room }
+        requires room { self.old.frames < length self.old.stats + self.old.room }
         ensures some { IfSome result (λ l. self.old.spare ≡ self.new.spare ++ l ∷ []) }
         ensures first { IfSome result (λ l. HaveFirst l.lists) }
         ensures taken { IfSome result (λ l. IsTaken self.new) }

@@ -148,6 +148,7 @@ app_self x bytes =
       links = links_self x;
       own = λ o. o;
       given = λ g given. given;
+      told = refl;
       keeps = λ g stream given own keeps.
           record {
             more = [];
@@ -178,6 +179,7 @@ app_on x y z a b c first second =
       links = links_on x y z first.links second.links;
       own = λ o. second.own (first.own o);
       given = λ g given. second.given g (first.given g given);
+      told = second.told ∙ first.told;
       keeps = λ g stream given own keeps.
           let frames : AreOwnFrames y.place.number z.place.seen =
           subst (λ (k : ℕ). AreOwnFrames k z.place.seen) second.desk.number own in

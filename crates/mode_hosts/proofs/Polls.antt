@@ -66,6 +66,7 @@ app_goes result old new told told' told_sent told_taken room sink sink' polled d
           subst (λ (k : ℕ). AreApp (of k new.place.seen)) (sym desk.number)
           (still_own old.place.number (λ e. e.caller ≡ App) old.place.seen new.place.seen goes own);
       given = polled.given;
+      told = polled.told;
       keeps = λ g stream given own keeps.
           let on : KeepsOn g old.place.number new.work.state sink.bytes _ stream =
           polled.part g stream given (subst (λ (k : ℕ). AreOwnFrames k new.place.seen) desk.number own) keeps in

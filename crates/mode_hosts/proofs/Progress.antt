@@ -28,6 +28,7 @@ use Rattle.frame_stages.specs.AppWorks.{is_done, merges_in}
 use Rattle.frame_stages.specs.AppAnswers.{SyncWaits, FrameWaits, CloseWaits, StepWaits}
 use Rattle.frame_stages.specs.DbaseWorks.{StandsIn, HoldsBuffer, is_ended, has_ended, buffer_at}
 use Rattle.frame_stages.specs.DbaseAnswers.{HasToWaitBefore, HasToWait}
+use Rattle.frame_stages.proofs.Spares.{none_in_hand}
 use Rattle.pipe_plays.specs.Plays.{CanRun, FitsItsPlay, setup_of}
 use Rattle.pipe_plays.proofs.Ranges.{passes_at}
 use Rattle.mode_hosts.specs.Gathering.{own_seats, IsPipeOf, pipe_of}
@@ -174,7 +175,11 @@ module _ (play : Script) (ahead : ℕ) (bytes : Option (List ℕ)) (s : System) 
   frame_goes : s.scene.shared.stopped ≡ false → PassersWait p → p.app.held ≡ None → (synced : Bool) → s.sites.app.work.state.synced ≡ synced →
       FrameWaits synced s.sites.app.work (Some s.scene) (app_ends ahead s) s.scene.shared.log → ⊥
   frame_goes unset passers bare false is waits = sync_goes unset passers bare waits
-  frame_goes unset passers bare true is waits =
+  frame_goes unset passers bare true is (inr none) =
+      let all = none_in_hand (setup_of play ahead) play.dbase own_seats p fits none in
+      let free = (counted play ahead own_seats p fits).state.room is in
+      omega (arith, all, free)
+  frame_goes unset passers bare true is (inl waits) =
       let given = is_of.seats.app.given in
       let free = (counted play ahead own_seats p fits).state.room is in
       let there : (state_of s.scene.shared.channels s.scene.shared.log).frames < (state_of s.scene.shared.channels s.scene.shared.log).retired + ahead =

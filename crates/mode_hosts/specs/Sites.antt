@@ -132,13 +132,15 @@ pub record AppWrote (g : Setup) (site : Site AppWork) (bytes bytes' : Option (Li
   pub keeps : AppKeeps g site.place.number site.work.state site.place.seen site.taken site.sent (stream ++ more)
 
 -- APP after polls, with the bytes of the frame sink before and after: its log goes on, by entries of its own under its
--- number and of others, and, where all Frames of the log seen at the end are its own, it keeps its part.
+-- number and of others, it tells no frame's numbers, and, where all Frames of the log seen at the end are its own, it keeps
+-- its part.
 pub record AppGoes (old new : Site AppWork) (bytes bytes' : Option (List ℕ)) : Type 0 where
   pub desk : IsSameDesk old.place new.place
   pub front : IsPrefix old.place.seen new.place.seen
   pub links : AreSameLinks old new
   pub own : AreApp (of old.place.number old.place.seen) → AreApp (of new.place.number new.place.seen)
   pub given : (g : Setup) → IsGiven g old.work → IsGiven g new.work
+  pub told : new.work.told ≡ old.work.told
   pub keeps : (g : Setup) (stream : List ℕ) → IsGiven g old.work → AreOwnFrames new.place.number new.place.seen →
       AppKeeps g old.place.number old.work.state old.place.seen old.taken old.sent stream →
       AppWrote g new bytes bytes' stream

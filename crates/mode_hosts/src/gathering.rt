@@ -1,5 +1,5 @@
 //! What the seats leave, once all of them have returned.
-ghost use Rattle.std.specs.Prelude.{◌≡◌, ◌<◌, ◌≤◌, ℕ, [], length, take};
+ghost use Rattle.std.specs.Prelude.{◌≡◌, ◌<◌, ◌≤◌, ℕ, [], length, take, drop};
 ghost use Rattle.std.specs.Option.{option_map};
 ghost use Rattle.frame_link.specs.Ends.{ring_sent, ring_send_at, ring_taken, ring_take_at};
 ghost use Rattle.seat_lock.specs.Tokens.{lock_id};
@@ -23,7 +23,7 @@ use std::alloc::Global;
 use std::sync::Wait;
 use stream_stages::Piece;
 
-/// What a play leaves: the history, the numbers of the returned frames, and the results of the probe.
+/// What a play leaves: the history, the numbers of the returned frames that were not told, and the results of the probe.
 #[derive(Drop)]
 pub(crate) struct Gathered {
     pub(crate) history: History,
@@ -100,7 +100,7 @@ pub(crate) fn gather<R: Wait, D: Wait + Drop>(
 ) -> Gathered
     requires { AreAllTogether (lock_id lock.now) (all_sites seats) }
     ensures home { AllCameHome (all_sites seats) result.history.entries }
-    ensures stats { result.stats.items ≡ seats.app.stage.state.stats }
+    ensures stats { result.stats.items ≡ drop seats.app.stage.told seats.app.stage.state.stats }
     ensures answers { result.answers.items ≡ answers_of (probe_site seats.probe).way }
 {
     let AllSeats {

@@ -92,7 +92,7 @@ pub(crate) fn leave<R: Wait, D: Wait + Drop, O: Sink>(
     requires { AreAllTogether (lock_id lock.now) (all_sites seats) }
     ensures leaves { (play : Script) (ahead : ℕ) (probe : Option Segment) (bytes : Option (List ℕ)) → CanRun play ahead
         → AllKeep (setup_of play ahead) play.dbase probe (all_sites seats) bytes (O.written frames.old)
-        → StaysWhole came None (app_site seats.app).work.state.fault
+        → StaysWhole came None (app_site seats.app).work.state.fault → (app_site seats.app).work.told ≡ 0
         → LeavesPipe play ahead own_seats result.end result.history.entries result.stats.items bytes (O.written frames.new) }
     ensures probes { (play : Script) (ahead : ℕ) (probe : Option Segment) (bytes : Option (List ℕ)) → CanRun play ahead
         → AllKeep (setup_of play ahead) play.dbase probe (all_sites seats) bytes (O.written frames.old)

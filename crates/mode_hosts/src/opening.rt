@@ -177,6 +177,7 @@ pub(crate) fn open<D: Wait + Copy + Drop>(
     ensures together { IfOk result (λ o. AreAllTogether (lock_id (arc_value o.lock)) (all_sites o.seats)) }
     ensures limit { IfOk result (λ o. limit_of (any_cull o.seats.cull.stage) ≡ setup.now.stream) }
     ensures uncut { IfOk result (λ o. (app_site o.seats.app).work.state.fault ≡ None) }
+    ensures untold { IfOk result (λ o. (app_site o.seats.app).work.told ≡ 0) }
     ensures keeps { IfOk result (λ o. (bytes : Option (List ℕ))
         → AllKeep (setup_of play setup.now.ahead) play.dbase setup.now.probe (all_sites o.seats) bytes bytes) }
 {

@@ -56,6 +56,7 @@ fn get_ready<R: Wait + Copy + Drop, G: Drop>(
     ensures together { IfOk result (λ r. AreAllTogether (lock_id (arc_value r.opened.lock)) (all_sites r.opened.seats)) }
     ensures limit { IfOk result (λ r. limit_of (any_cull r.opened.seats.cull.stage) ≡ setup.now.stream) }
     ensures uncut { IfOk result (λ r. (app_site r.opened.seats.app).work.state.fault ≡ None) }
+    ensures untold { IfOk result (λ r. (app_site r.opened.seats.app).work.told ≡ 0) }
     ensures keeps { IfOk result (λ r. (bytes : Option (List ℕ))
         → AllKeep (setup_of play setup.now.ahead) play.dbase setup.now.probe (all_sites r.opened.seats) bytes bytes) }
 {

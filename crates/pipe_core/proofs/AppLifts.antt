@@ -47,6 +47,7 @@ use Rattle.frame_stages.specs.AppWorks.{AppWork, is_done, merges_in}
 use Rattle.frame_stages.specs.AppAnswers as stage
 use Rattle.frame_stages.specs.AppAnswers.{Around, around, AppAdds, AppAnswers, IsKeptBy, Polled, IsLonger}
 use Rattle.frame_stages.specs.DbaseWorks.{dbase_state}
+use Rattle.frame_stages.proofs.Spares.{none_in_hand}
 use Rattle.pipe_core.specs.declared.events.Event.TheVariants as event
 use Rattle.pipe_plays.specs.Plays.{CanRun, setup_of}
 use Rattle.pipe_core.specs.Cores.{CoreState, CoreFits, one_seat}
@@ -325,7 +326,12 @@ frame_waits : (play : Script) (ahead : ℕ) (p : PipeWork) (sink : SinkSide) (se
     stage.FrameWaits synced p.app (Some p.scene) (before_poll p sink).ends seen' →
     FrameMustWait synced (shared_of play ahead (core_of play p)) (core_of play p).pipe
 frame_waits play ahead p sink seen' some keeps false waits = sync_waits play ahead p sink seen' some keeps waits
-frame_waits play ahead p sink seen' some keeps true waits =
+frame_waits play ahead p sink seen' some keeps true (inr none) =
+    λ may.
+    let all = none_in_hand (setup_of play ahead) play.dbase one_seat (core_of play p).pipe keeps.core.pipe none in
+    let free = may.free in
+    omega (arith, all, free)
+frame_waits play ahead p sink seen' some keeps true (inl waits) =
     λ may.
     let stages = keeps.stages in
     let same = stages.app.ahead in
@@ -482,6 +488,7 @@ app_lifts play ahead p w scene sent taken sink sink' result some keeps legal lin
           home = polled.home;
           counted = polled.counted;
           passes = polled.passes;
+          told = polled.told;
           waited = polled.waited;
           adds = polled.adds;
         })
@@ -500,7 +507,7 @@ app_lifts play ahead p w scene sent taken sink sink' result some keeps legal lin
         AppLifted play ahead answer p (applied p w scene sent taken) sink.bytes sink'.bytes
     lifted answer polled alive kept says =
         record {
-          lifted = record { keeps = kept.keeps; adds = kept.adds; answer = says };
+          lifted = record { keeps = kept.keeps; adds = kept.adds; told = polled.told; answer = says };
           wrote = kept.wrote;
           going = app_stays play ahead p w scene sent taken sink sink' answer keeps.core kept.keeps.core polled.answer alive;
         }

@@ -286,6 +286,7 @@ base_passes play ahead p d scene keeps legal holds l passes does alive copies =
       keeps = base_keeps play ahead p d scene keeps legal step.grows holds (omega (arith, within, passes.at)) (λ set. step.stopped ∙ set)
           step.ahead step.channels (λ fails. absurd (let clash : true ≡ false = sym fails ∙ passes.runs in cc)) copies;
       adds = step.adds p.app.state.written;
+      told = refl;
       answer = record { alive = alive; moves = omega (arith, step.longer, passes.at); mark = step.stopped };
     }
 
@@ -312,7 +313,7 @@ base_lifts play ahead p d scene result keeps legal part answer ended looked coun
     resting : (answer : Result Did StageError) → d ≡ p.dbase → scene ≡ p.scene → Answers play ahead event.Dbase answer (core_of play p) (core_of play p) →
         Lifted play ahead event.Dbase answer p (based p d scene)
     resting answer same_base same_scene says =
-        subst (Lifted play ahead event.Dbase answer p) (base_rests play p d scene same_base same_scene) (record { keeps = keeps; adds = inl refl; answer = says })
+        subst (Lifted play ahead event.Dbase answer p) (base_rests play p d scene same_base same_scene) (record { keeps = keeps; adds = inl refl; told = refl; answer = says })
 
     running : (b : Bool) → p.dbase.failed ≡ b → (p.scene.shared.stopped ≡ true → ⊥) → p.dbase.failed ≡ false
     running true is unset = absurd (unset (keeps.failed is))
@@ -344,6 +345,7 @@ base_lifts play ahead p d scene result keeps legal part answer ended looked coun
               (let within = keeps.core.dbase_lines in omega (arith, within, gives.at)) (λ was. set)
               (ap (λ (x : Shared). x.ahead) shared) channels (λ fails. set) (counted keeps.copies);
           adds = inl log;
+          told = refl;
           answer = (not_over (Err error.NoMemory) (IsOver play event.Dbase (core_of play p)) over refl, tt, log, set);
         }
     by (Err error.FrameFault) answer over is = absurd answer

@@ -32,19 +32,20 @@ use Rattle.pipe_core.proofs.Openings.{ran_more, steps_on, nothing_written, writt
 
 pub not_gone : (play : Script) (ahead : ℕ) (p : PipeWork) (bytes : Option (List ℕ)) → PipeKeeps play ahead p → GoesOn play ahead p p bytes bytes
 not_gone play ahead p bytes keeps =
-    record { keeps = keeps; wrote = nothing_written bytes (core_of play p) (core_of play p) refl }
+    record { keeps = keeps; told = refl; wrote = nothing_written bytes (core_of play p) (core_of play p) refl }
 
 pub gone_on : (play : Script) (ahead : ℕ) (p q r : PipeWork) (a b c : Option (List ℕ)) → GoesOn play ahead p q a b → GoesOn play ahead q r b c →
     GoesOn play ahead p r a c
 gone_on play ahead p q r a b c first second =
     record {
       keeps = second.keeps;
+      told = second.told ∙ first.told;
       wrote = written_more a b c (core_of play p) (core_of play q) (core_of play r) first.wrote second.wrote;
     }
 
 pub stepped : (play : Script) (ahead : ℕ) (e : Event) (result : Result Did StageError) (p q : PipeWork) (a b : Option (List ℕ)) →
     Lifted play ahead e result p q → IsWritten a b (core_of play p) (core_of play q) → GoesOn play ahead p q a b
-stepped play ahead e result p q a b lifted wrote = record { keeps = lifted.keeps; wrote = wrote }
+stepped play ahead e result p q a b lifted wrote = record { keeps = lifted.keeps; told = lifted.told; wrote = wrote }
 
 -- Polls in order
 

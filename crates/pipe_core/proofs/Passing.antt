@@ -102,6 +102,7 @@ draw_lifts play ahead p d taken sent result keeps link_b link_c part answer ende
         copies = keeps.copies;
       };
       adds = inl refl;
+      told = refl;
       answer = passes_answer play ahead event.Draw (core_of play p) (core_of play (with_draw p d taken sent)) result before after
           (has_to_wait p.draw.state.held (p.b.line.sent ≡ p.b.line.taken) (length p.c.line.taken + p.c.room ≤ length p.c.line.sent))
           answer
@@ -185,6 +186,7 @@ cull_lifts play ahead p w taken sent result keeps link_a link_b lens part answer
         copies = keeps.copies;
       };
       adds = inl refl;
+      told = refl;
       answer = passes_answer play ahead event.Cull (core_of play p) (core_of play (culled p w taken sent)) result before after
           (has_to_wait p.cull.held (p.a.line.sent ≡ p.a.line.taken) (length p.b.line.taken + p.b.room ≤ length p.b.line.sent))
           answer

@@ -14,10 +14,11 @@ use Rattle.pipe_core.specs.Pipes.{PipeWork, core_of, PipeKeeps, IsWritten}
 abbrev pub all_events : List Event
 all_events = event.App ∷ event.Cull ∷ event.Draw ∷ event.Dbase ∷ []
 
--- A pipe of a play after polls: it keeps what a pipe of the play keeps, and the frame sink was given what the stream grew
--- by.
+-- A pipe of a play after polls: it keeps what a pipe of the play keeps, no frame's numbers were told, and the frame sink
+-- was given what the stream grew by.
 pub record GoesOn (play : Script) (ahead : ℕ) (p q : PipeWork) (bytes bytes' : Option (List ℕ)) : Type 0 where
   pub keeps : PipeKeeps play ahead q
+  pub told : q.app.told ≡ p.app.told
   pub wrote : IsWritten bytes bytes' (core_of play p) (core_of play q)
 
 -- The core after polls of which none answered an error, and whether each of them found its stage over.

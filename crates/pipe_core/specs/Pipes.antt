@@ -141,11 +141,12 @@ AddsAtMostOne e written before after =
     ⊎ ((entry : Entry) × (polled_caller e ≡ Some entry.caller) × RetiresJust written entry.command
     × (after ≡ before ++ (0, entry) ∷ []))
 
--- An event of a pipe that keeps what a pipe of a play keeps: it keeps it, adds at most one entry, and this is what it
--- answers.
+-- An event of a pipe that keeps what a pipe of a play keeps: it keeps it, adds at most one entry, tells no frame's numbers,
+-- and this is what it answers.
 pub record Lifted (play : Script) (ahead : ℕ) (e : Event) (result : Result Did StageError) (p q : PipeWork) : Type 0 where
   pub keeps : PipeKeeps play ahead q
   pub adds : AddsAtMostOne e q.app.state.written p.scene.shared.log q.scene.shared.log
+  pub told : q.app.told ≡ p.app.told
   pub answer : Answers play ahead e result (core_of play p) (core_of play q)
 
 -- a link's room, and what was sent over it and received

@@ -139,9 +139,13 @@ impl Pipe {
         )
     }
 
-    /// Goes on until nothing can go on before more lines are given: each line given so far is passed, or stands at a wait or
-    /// an await that they do not meet, each picture of a frame that was begun is wholly written, and the application has not
-    /// closed. The sink is not flushed. An error ends it, and sets the stop mark.
+    /// Goes on until nothing can go on before more lines are given. Each line given so far is then passed, or stands at
+    /// a wait or an await that they do not meet. Each picture of a frame that was begun is wholly written, and the
+    /// application has not closed. This is so if the application had not closed before and the stop mark was not set.
+    /// The sink is not flushed.
+    ///
+    /// Returns `Err(StageError::FrameFault)` if the sink reports a fault, and `Err(StageError::NoMemory)` if memory
+    /// runs out. Either ends it, and sets the stop mark.
     pub fn settle<R: Threads + Sync, O: Sink>(
         &mut self,
         rt: &R,
@@ -160,9 +164,11 @@ impl Pipe {
         Ok(())
     }
 
-    /// Makes a command: gives the line, and settles. Without an error it was made behind all others, and its picture, where it
-    /// has one, is wholly written. Out of memory while the line is given, nothing changed; after another error the stop mark
-    /// is set.
+    /// Makes a command: gives the line, and settles. Without an error it was made behind all others, and its picture,
+    /// if it has one, is wholly written.
+    ///
+    /// Returns `Err(StageError::FrameFault)` if the sink reports a fault, and `Err(StageError::NoMemory)` if memory
+    /// runs out. Either leaves the pipe as it was, or the line was given and the stop mark is set.
     pub fn make<R: Threads + Sync, O: Sink>(
         &mut self,
         rt: &R,
@@ -187,8 +193,11 @@ impl Pipe {
         }
     }
 
-    /// Makes the merges of a block: gives it, and settles. Without an error they were made behind all other commands. Out of
-    /// memory while the block is given, nothing changed; after another error the stop mark is set.
+    /// Makes the merges of a block of at most 262,144 lines: gives it, and settles. Without an error they were made
+    /// behind all other commands.
+    ///
+    /// Returns `Err(StageError::FrameFault)` if the sink reports a fault, and `Err(StageError::NoMemory)` if memory
+    /// runs out. Either leaves the pipe as it was, or the block was given and the stop mark is set.
     pub fn make_block<R: Threads + Sync, O: Sink>(
         &mut self,
         rt: &R,

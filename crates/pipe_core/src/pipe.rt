@@ -1,5 +1,5 @@
 //! The pipe on one thread.
-ghost use Rattle.std.specs.Prelude.{◌≡◌, ℕ, ◌+◌, ◌<◌, ◌≤◌, true, false, [], ◌∷◌, length, None, Some, Err, IfOk, OnOk, OnErr, IfErr};
+ghost use Rattle.std.specs.Prelude.{◌≡◌, ℕ, ◌+◌, ◌<◌, ◌≤◌, true, false, [], ◌∷◌, length, drop, None, Some, Err, IfOk, OnOk, OnErr, IfErr};
 ghost use Rattle.std.specs.List.{list_all};
 ghost use Rattle.pf_io.specs.Causes.{Rose, Calm};
 ghost use Rattle.play_format.specs.Plays.{Script, base_fits, open_after};
@@ -99,13 +99,15 @@ fn new_desk(alloc: Global, ahead: u8, channels: u8) -> Result<PlainDesk<Scene>, 
 }
 
 impl Pipe {
-    /// The pipe of a play before its first event, where so many frames may be in flight. The stop mark is not set.
+    /// Returns the pipe of a play before its first event, where `ahead` frames may be in flight, 1 to 4. The stop mark
+    /// is not set. Returns `Err(NoMemory)` if memory runs out.
     pub fn new(alloc: Global, play: Play, ahead: u8) -> Result<Pipe, NoMemory>
         requires ahead { IsSmall ahead }
         ensures keeps { IfOk result (λ p. PipeKeeps play ahead p) }
         ensures unset { IfOk result (λ p. (core_of play p).stopped ≡ false) }
         ensures log { IfOk result (λ p. p.scene.shared.log ≡ []) }
         ensures uncut { IfOk result (λ p. p.app.state.fault ≡ None) }
+        ensures untold { IfOk result (λ p. p.app.told ≡ 0) }
     {
         let lens = play.lens();
         let back = play.back();
@@ -210,8 +212,10 @@ impl Pipe {
         self.app.wants_line()
     }
 
-    /// Takes a picture back and writes it, where the application holds no packet and one came back: whether it did. It may
-    /// come wherever in its section the application stands. At a fault of the sink the stop mark is set.
+    /// Takes a picture back and writes it, if the application holds no packet and one returned. It may come wherever in
+    /// its section the application stands. Returns whether it took one.
+    ///
+    /// Returns `Err(StageError::FrameFault)` if the sink reports a fault. The stop mark is then set.
     pub fn take_back<O: Sink>(&mut self, frames: &mut O) -> Result<bool, StageError>
         ensures goes { (play : Script) (ahead : ℕ) → PipeKeeps play ahead self.old
             → TurnsGo play ahead NoneIsBack result self.old self.new (O.written frames.old) (O.written frames.new) }
@@ -327,8 +331,12 @@ impl Pipe {
         }
     }
 
-    /// One event: one whole poll of the stage that it names. The frame sink is given the pictures that came back. After an
-    /// error the stop mark is set; FrameFault comes from the application alone, where the sink has one fault more.
+    /// One event: one whole poll of the stage that it names. The frame sink is given the pictures that returned.
+    /// Returns `Did` if the stage did something, `NotYet` if it has to wait, and `Over` if it is over.
+    ///
+    /// Returns `Err(StageError::FrameFault)` if the sink reports a fault, which comes only from the application.
+    /// Returns `Err(StageError::NoMemory)` if memory runs out for the application or the database process. Either adds
+    /// no entry, and sets the stop mark.
     pub fn step<R: Threads + Sync, O: Sink>(
         &mut self,
         rt: &R,
@@ -350,6 +358,9 @@ impl Pipe {
     }
 
     /// Events in order, up to the first error.
+    ///
+    /// Returns `Err(StageError::FrameFault)` if the sink reports a fault, and `Err(StageError::NoMemory)` if memory
+    /// runs out. At either the events before it were made, none behind it was, and the stop mark is set.
     pub fn run_events<R: Threads + Sync, O: Sink>(
         &mut self,
         rt: &R,
@@ -377,10 +388,10 @@ impl Pipe {
         }
         Ok(())
     }
-    /// The history, and the numbers of the frames that came back.
+    /// The history, and the numbers of the frames that came back and were not told.
     pub(crate) fn into_parts(self) -> (History, Vec<Stats>)
         ensures history { result.0.entries ≡ self.scene.shared.log }
-        ensures stats { result.1.items ≡ self.app.state.stats }
+        ensures stats { result.1.items ≡ drop self.app.told self.app.state.stats }
     {
         let Self {
             app,

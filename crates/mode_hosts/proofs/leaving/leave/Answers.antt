@@ -1,4 +1,4 @@
-use Rattle.std.proofs.Common.{ℕ, List, Option, sym, ◌∙◌, subst}
+use Rattle.std.proofs.Common.{ℕ, List, Option, drop, sym, ap, ◌∙◌, subst}
 use Rattle.seat_lock.specs.Tokens.{lock_id}
 use Rattle.pipe_plays.specs.Plays.{setup_of}
 use Rattle.pipe_plays.proofs.Ended.{done_only}
@@ -9,7 +9,7 @@ use Rattle.mode_hosts.proofs.Probes.{four_home, probed}
 use Rattle.mode_hosts.proofs.leaving.leave.Goals as goal
 
 pub returns-clause-leaves : goal.returns-clause-leaves
-returns-clause-leaves g c = λ play ahead probe bytes can keeps whole.
+returns-clause-leaves g c = λ play ahead probe bytes can keeps whole untold.
     let s = all_sites c.args.seats in
     let lock = lock_id c.args.lock.now in
     let log = c.gather-gathered.result.history.entries in
@@ -19,7 +19,8 @@ returns-clause-leaves g c = λ play ahead probe bytes can keeps whole.
     let home = four_home c.two_links_are_one.ensures (setup_of play ahead) play.dbase probe lock s log bytes written c.requires kept
     c.gather-gathered.ensures.home in
     leaves_pipe c.streamed_frames_are_whole_ones.ensures play ahead lock s.four c.finish-came.result c.of-end.result log
-    c.gather-gathered.result.stats.items bytes written can kept.four home c.gather-gathered.ensures.stats c.of-end.ensures
+    c.gather-gathered.result.stats.items bytes written can kept.four home
+    (c.gather-gathered.ensures.stats ∙ ap (λ n. drop n s.four.app.work.state.stats) untold) c.of-end.ensures
     (came.uncut s.four.app.work.state.fault whole)
     (λ done.
     let end = sym c.of-end.ensures ∙ done in

@@ -1,4 +1,4 @@
-use Rattle.std.proofs.Common.{◌≡◌, ℕ, List, [], Option, None, refl, sym, subst}
+use Rattle.std.proofs.Common.{◌≡◌, ℕ, List, [], Option, None, refl, sym, ◌∙◌, subst}
 use Rattle.draw_list.specs.declared.stats.Stats.{Stats}
 use Rattle.pf_history.specs.Logs.{Log}
 use Rattle.pipe_plays.specs.declared.played.PlayEnd.TheVariants as ends
@@ -52,7 +52,9 @@ returns-in-Ok g c =
     subst (λ (fault : Option ℕ). StaysWhole ended.came fault ended.app.stage.state.fault) c.in-Ok.ensures.uncut run.uncut in
     let whole : StaysWhole ended.came None seats.app.stage.state.fault =
     subst (λ (a : AppSeat g.row.R.Denot). StaysWhole ended.came None a.stage.state.fault) (sym c.seats_of-seats.ensures.app) came in
-    let pipe = c.leave.ensures.leaves play ahead setup.probe before can keeps whole in
+    let untold : seats.app.stage.told ≡ 0 =
+    subst (λ (a : AppSeat g.row.R.Denot). a.stage.told ≡ 0) (sym c.seats_of-seats.ensures.app) (run.goes.told ∙ c.in-Ok.ensures.untold) in
+    let pipe = c.leave.ensures.leaves play ahead setup.probe before can keeps whole untold in
     let left = c.a_play_leaves_its_history.ensures play ahead own_seats c.leave.result.end c.leave.result.history.entries c.leave.result.stats.items before now
     can pipe in
     let hits = c.leave.ensures.probes play ahead setup.probe before can keeps in

@@ -1,4 +1,4 @@
-use Rattle.std.proofs.Common.{◌≡◌, List, [], refl, sym, ◌∙◌, subst, arith}
+use Rattle.std.proofs.Common.{◌≡◌, List, [], drop, refl, sym, ap, ◌∙◌, subst, arith}
 use Rattle.draw_list.specs.declared.stats.Stats.{Stats}
 use Rattle.pf_history.specs.Logs.{Log}
 use Rattle.pipe_plays.specs.declared.played.PlayEnd.TheVariants as ends
@@ -20,10 +20,13 @@ returns-in-Ok g c =
     let now = g.O.Sink.written c.run-came.new.frames in
     let log = c.into_parts-history.result.0.entries in
     let stats = c.into_parts-history.result.1.items in
+    let goes = run.goes play ahead can made.keeps in
+    let untold : stats ≡ c.run-came.new.pipe.app.state.stats =
+    c.into_parts-history.ensures.stats ∙ ap (λ n. drop n c.run-came.new.pipe.app.state.stats) (goes.told ∙ made.untold) in
     let pipe = leaves_pipe c.a_pipe_shows_its_history.ensures play ahead c.in-Ok.pipe c.run-came.new.pipe c.run-came.result before now c.of.result
-    log stats can made.keeps made.log made.uncut (run.goes play ahead can made.keeps) run.uncut
+    log stats can made.keeps made.log made.uncut goes run.uncut
     (run.ended play ahead can c.requires.can_end made.keeps made.unset (omega (arith, c.most_rounds-most.ensures.enough)))
-    c.of.ensures c.into_parts-history.ensures.history c.into_parts-history.ensures.stats in
+    c.of.ensures c.into_parts-history.ensures.history untold in
     let left = c.a_play_leaves_its_history.ensures play ahead one_seat c.of.result log stats before now can pipe in
     record {
       legal = left.now.legal;

@@ -1,10 +1,9 @@
 -- A frame is begun, or not.
-use Rattle.std.proofs.Common.{◌≡◌, sym, subst}
-use Rattle.frame_stages.specs.Flights.{FlightState}
+use Rattle.std.proofs.Common.{sym, subst}
 use Rattle.frame_stages.specs.AppWorks.{AppWork, work_of}
 use Rattle.frame_stages.specs.AppAnswers.{around, MayWant, Polled}
 use Rattle.frame_stages.proofs.AppPolled.{out}
-use Rattle.frame_stages.proofs.AppTakes.{taken_none, taken_some}
+use Rattle.frame_stages.proofs.AppTakes.{load_waits, taken_none, taken_some}
 use Rattle.frame_stages.proofs.application.Application.frame.Goals as goal
 
 pub returns-in_default-clause-polled : goal.returns-in_default-clause-polled
@@ -14,10 +13,8 @@ returns-in_default-clause-polled g c = λ ends.
 
 pub returns-in-None-clause-polled : goal.returns-in-None-clause-polled
 returns-in-None-clause-polled g c = λ ends.
-    out (g.D.Desk.number c.args.desk.now) (work_of c.args.self.now) (work_of (record c.args.self.now { flight = c.take_load.new.self })) (g.D.Desk.seen c.args.desk.now) (g.D.Desk.seen c.stop-in-None.new.desk) (g.D.Desk.told c.args.desk.now) (g.D.Desk.told c.stop-in-None.new.desk) ends (subst MayWant (sym c.requires.next) tt) c.requires.bare
-    c.stop-in-None.ensures.marks (λ holds right. c.stop-in-None.ensures.counted holds)
-    (taken_none c.args.self.now c.take_load.new.self
-    (subst (λ (v : FlightState). v ≡ record c.args.self.now.flight { room = v.room }) (sym c.in-None.ensures.none.1) c.make_room.ensures.same))
+    load_waits (g.D.Desk.number c.args.desk.now) c.args.self.now c.make_room.new.self c.take_load.new.self (g.D.Desk.seen c.args.desk.now) (g.D.Desk.told c.args.desk.now) ends c.requires.bare c.requires.next c.requires.synced
+    c.make_room.ensures.same c.in-None.ensures.none.1 c.in-None.ensures.none.0
 
 pub returns-then-is_for-clause-polled : goal.returns-then-is_for-clause-polled
 returns-then-is_for-clause-polled g c = λ ends.

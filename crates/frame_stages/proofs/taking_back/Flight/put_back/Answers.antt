@@ -21,7 +21,7 @@ invariant_of-self c =
       loads = omega (arith, loads, long);
       places = omega (arith, places, capacity);
       homeward = inv.homeward;
-      told = inv.told;
+      came = inv.came;
       numbers = inv.numbers;
       settled = subst (λ (xs : List LoadState). Each (λ (l : LoadState). HaveFirst l.lists) xs) (sym items)
           (each_push (λ (l : LoadState). HaveFirst l.lists) i.spare.items c.args.load inv.settled c.requires.first);

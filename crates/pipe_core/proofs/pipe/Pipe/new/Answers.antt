@@ -46,3 +46,6 @@ returns-clause-keeps c =
 
 pub returns-clause-uncut : goal.returns-clause-uncut
 returns-clause-uncut c = ap (λ (w : AppWork). w.state.fault) (of_ok _ c.in_ok-parts.ensures.app c.new.ensures.opens)
+
+pub returns-clause-untold : goal.returns-clause-untold
+returns-clause-untold c = ap (λ (w : AppWork). w.told) (of_ok _ c.in_ok-parts.ensures.app c.new.ensures.opens)
