@@ -117,6 +117,12 @@ stopped_ends meant left left' ends ends' s found unasked =
     read stop.FrameFault e q = absurd e
     read stop.NoMemory e q = absurd cc
 
+-- what holds where these words give a number to make holds where the same words, by what was said, give one
+pub unasked_of : (P : Type 0) (meant : Option Words) (w : Words) → meant ≡ Some w → ((n : ℕ) → w.make ≡ Some n → P) →
+    (words : Words) (n : ℕ) → meant ≡ Some words → words.make ≡ Some n → P
+unasked_of P meant w is unasked words n means some =
+    unasked n (ap (λ (v : Words). v.make) (same_Some w words (sym is ∙ means)) ∙ some)
+
 -- a call that reads nothing
 pub unread_ends : (meant : Option Words) (left : Bytes) (ends : ℕ) (s : Stop) →
     ((s ≡ stop.Words) × (meant ≡ None)) ⊎ (s ≡ stop.NoMemory) → FindsEnd meant left left ends ends (status_of s)

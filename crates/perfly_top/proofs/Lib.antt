@@ -9,3 +9,4 @@ mod Dues
 mod Runs
 mod Pairs
 mod WordRanges
+mod Setups

@@ -1,5 +1,5 @@
 -- Why a call ends, and what it has read by then.
-use Rattle.std.proofs.Common.{◌≡◌, ℕ, ◌≤◌, List, [], Option, Some, None, IfSome, IsSome, refl, sym, subst}
+use Rattle.std.proofs.Common.{◌≡◌, ◌≢◌, ◌⊎◌, ℕ, ◌≤◌, List, [], Option, Some, None, IfSome, IsSome, inl, inr, refl, sym, subst}
 use Rattle.std.specs.Prelude.{◌↔◌}
 use Rattle.std.proofs.lemmas.Option.{same_Some}
 use Rattle.pf_io.specs.Streams.{TakesFront}
@@ -11,7 +11,7 @@ use Rattle.program_words.specs.declared.words.Words.{Words}
 use Rattle.perfly_top.specs.declared.stop.Stop.{Stop}
 use Rattle.perfly_top.specs.declared.stop.Stop.TheVariants as stop
 use Rattle.perfly_top.specs.Calls.{given_text, IsGiven, IsBarred, IsReadFor}
-use Rattle.perfly_top.specs.Endings.{IsWhy}
+use Rattle.perfly_top.specs.Endings.{status_of, IsWhy}
 
 -- a play that is stuck was not made
 unmade_by : (make : Option ℕ) (left : Option (List ℕ)) (play : Script) → IfSome make (λ n. n ≤ 256) →
@@ -59,3 +59,18 @@ why_front meant left left' (stop.Stuck app dbase) why = read_front why.words.mak
 why_front meant left left' stop.ReadFault why = why.3
 why_front meant left left' stop.FrameFault why = absurd why
 why_front meant left left' stop.NoMemory why = why
+
+-- why a call stops that reads nothing
+pub unread_why : (meant : Option Words) (left : Option (List ℕ)) (s : Stop) →
+    ((s ≡ stop.Words) × (meant ≡ None)) ⊎ (s ≡ stop.NoMemory) → IsWhy meant left left s
+unread_why meant left s (inl is) = subst (IsWhy meant left left) (sym is.0) (is.1, refl)
+unread_why meant left s (inr is) = subst (IsWhy meant left left) (sym is) (none_taken left)
+
+-- a call whose words are right does not stop for them
+pub right_status : (w : Words) (left left' : Option (List ℕ)) (s : Stop) → IsWhy (Some w) left left' s → status_of s ≢ 1
+right_status w left left' stop.Words why e = absurd (let none = why.0 in cc)
+right_status w left left' (stop.Refused r) why e = absurd cc
+right_status w left left' (stop.Stuck app dbase) why e = absurd cc
+right_status w left left' stop.ReadFault why e = absurd cc
+right_status w left left' stop.FrameFault why e = absurd cc
+right_status w left left' stop.NoMemory why e = absurd cc

@@ -1,14 +1,14 @@
-//! A play that is played, and its report.
-ghost use Rattle.std.specs.Prelude.{◌≡◌, ◌≤◌, ◌++◌, true, Some, IfOk, OnOk, IsSome, IfSome};
+//! A play that is played by hosts, and the report of a play.
+ghost use Rattle.std.specs.Prelude.{◌≡◌, ◌≤◌, ◌++◌, true, false, Some, IfOk, OnOk, IsSome, IfSome};
 ghost use Rattle.play_check.specs.Stuck.{IsStuck};
 ghost use Rattle.perfly_top.specs.Program.{stream_of, account, told, IsSummed};
 ghost use Rattle.perfly_top.specs.Sums.{sum_of_bytes};
 ghost use Rattle.perfly_top.specs.Runs.{IsRun, EndsByFault, HasNumbers, HasAnswers};
-ghost use Rattle.perfly_top.specs.Setups.{players_of};
+ghost use Rattle.perfly_top.specs.Setups.{is_on_one_thread, players_of};
 ghost use Rattle.play_format.specs.Plays.{Script};
 ghost use Rattle.program_words.specs.declared.words.Words.{Words};
 
-use crate::setup::{Players, is_on_one_thread, setup_of};
+use crate::setup::{Players, setup_of};
 use crate::summing::{Held, Lent, Start, Summing};
 use pf_io::{Gate, NoMemory, Sink};
 use pipe_core::{PlayEnd, Played};
@@ -28,13 +28,13 @@ pub(crate) struct Run {
     pub(crate) sum: u64,
 }
 
-/// Plays a play as the words say: with all stages on one thread, or with the stages divided among threads. Nothing is
-/// added up.
+/// Plays a play with the stages divided among the hosts that the words ask for. Nothing is added up.
 fn play_by<
     R: Threads + Wait + Copy + Drop + Send + Sync + 'static,
     O: Sink,
     G: Gate + Send + Drop + 'static,
 >(alloc: Global, rt: &R, play: Play, words: Words, frames: &mut O, gate: G) -> Run
+    requires more { is_on_one_thread words ≡ false }
     requires can_end { IsStuck play.app play.dbase → ⊥ }
     requires some { 1 ≤ words.ahead }
     requires few { words.ahead ≤ 4 }
@@ -48,23 +48,15 @@ fn play_by<
         (O.at_fault frames.new) (O.written frames.new) }
     ensures flushed { result.played.end ≡ PlayEnd.Done → O.flushed frames.new ≡ true }
 {
-    if is_on_one_thread(words) {
-        Run {
-            played: pipe_core::play_all(alloc, rt, play, words.ahead, frames, &gate),
-            players: Players::Alone(words.ahead),
-            sum: 0,
-        }
-    } else {
-        let setup = setup_of(words);
-        Run {
-            played: mode_hosts::play_all(alloc, rt, play, &setup, frames, gate),
-            players: Players::Hosts(setup),
-            sum: 0,
-        }
+    let setup = setup_of(words);
+    Run {
+        played: mode_hosts::play_all(alloc, rt, play, &setup, frames, gate),
+        players: Players::Hosts(setup),
+        sum: 0,
     }
 }
 
-/// Plays a play into a sink that is held, adds up the bytes of its pictures, and returns the sink.
+/// Plays a play by hosts into a sink that is held, adds up the bytes of its pictures, and returns the sink.
 fn held_run<
     R: Threads + Wait + Copy + Drop + Send + Sync + 'static,
     H: Held,
@@ -73,6 +65,7 @@ fn held_run<
 >(alloc: Global, rt: &R, play: Play, words: Words, held: H, gate: G) -> (Run, H)
     requires start { S.start ≡ H.bytes held }
     requires loan { S.loan ≡ Some (H.loan held) }
+    requires more { is_on_one_thread words ≡ false }
     requires can_end { IsStuck play.app play.dbase → ⊥ }
     requires some { 1 ≤ words.ahead }
     requires few { words.ahead ≤ 4 }
@@ -103,12 +96,13 @@ fn held_run<
     (Run { sum, ..run }, held)
 }
 
-/// Plays a play, and adds up the bytes of its pictures.
+/// Plays a play by hosts, and adds up the bytes of its pictures.
 fn summed_run<
     R: Threads + Wait + Copy + Drop + Send + Sync + 'static,
     O: Sink,
     G: Gate + Send + Drop + 'static,
 >(alloc: Global, rt: &R, play: Play, words: Words, frames: &mut O, gate: G) -> Run
+    requires more { is_on_one_thread words ≡ false }
     requires can_end { IsStuck play.app play.dbase → ⊥ }
     requires some { 1 ≤ words.ahead }
     requires few { words.ahead ≤ 4 }
@@ -130,12 +124,13 @@ fn summed_run<
     run
 }
 
-/// Plays a play, and adds up the bytes of its pictures if a summary is to be written.
+/// Plays a play by hosts, and adds up the bytes of its pictures if a summary is to be written.
 pub(crate) fn run_of<
     R: Threads + Wait + Copy + Drop + Send + Sync + 'static,
     O: Sink,
     G: Gate + Send + Drop + 'static,
 >(alloc: Global, rt: &R, play: Play, words: Words, frames: &mut O, gate: G) -> Run
+    requires more { is_on_one_thread words ≡ false }
     requires can_end { IsStuck play.app play.dbase → ⊥ }
     requires some { 1 ≤ words.ahead }
     requires few { words.ahead ≤ 4 }

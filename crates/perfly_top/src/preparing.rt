@@ -1,5 +1,5 @@
 //! What a call has to play.
-ghost use Rattle.std.specs.Prelude.{◌≡◌, ◌≢◌, ◌≤◌, ◌⊎◌, ℕ, map, None, Some, Err, IfOk, IfErr, IfSome};
+ghost use Rattle.std.specs.Prelude.{◌≡◌, ◌≢◌, ◌≤◌, ◌⊎◌, ℕ, map, None, Some, Err, IfOk, OnOk, IfErr, IfSome};
 ghost use Rattle.std.specs.String.{string_bytes};
 ghost use Rattle.pf_io.specs.Causes.{Calm, Rose};
 ghost use Rattle.play_check.specs.Stuck.{IsStuck};
@@ -19,15 +19,8 @@ use program_words::{Words, read_words};
 use std::alloc::Global;
 use std::thread::Threads;
 
-/// A play that can end, and the words that say how it is played.
-#[derive(Drop)]
-pub(crate) struct Task {
-    pub(crate) words: Words,
-    pub(crate) play: Play,
-}
-
 /// Returns what the words mean, or why they have no meaning.
-fn right_words(alloc: Global, words: &[String]) -> Result<Words, Stop>
+pub(crate) fn right_words(alloc: Global, words: &[String]) -> Result<Words, Stop>
     ensures meaning { IfOk result (λ w. meaning_of_words (map string_bytes words.now) ≡ Some w) }
     ensures some { IfOk result (λ w. 1 ≤ w.ahead) }
     ensures few { IfOk result (λ w. w.ahead ≤ 4) }
@@ -44,29 +37,24 @@ fn right_words(alloc: Global, words: &[String]) -> Result<Words, Stop>
 pub(crate) fn prepared<R: Threads + Sync, I: Source>(
     alloc: Global,
     rt: &R,
-    words: &[String],
+    words: Words,
     input: &mut I,
-) -> Result<Task, Stop>
-    ensures given { IfOk result (λ t.
-        IsGiven (meaning_of_words (map string_bytes words.now)) (I.left input.old) (I.left input.new) t.words t.play) }
-    ensures can_end { IfOk result (λ t. ¬ IsStuck t.play.app t.play.dbase) }
-    ensures some { IfOk result (λ t. 1 ≤ t.words.ahead) }
-    ensures few { IfOk result (λ t. t.words.ahead ≤ 4) }
-    ensures stream { IfOk result (λ t. IfSome t.words.stream (λ n. (1 ≤ n) × (n ≤ 4096))) }
-    ensures why { IfErr result (λ s. IsWhy (meaning_of_words (map string_bytes words.now)) (I.left input.old) (I.left input.new) s) }
-    ensures unread { (w : Words) (n : ℕ) → meaning_of_words (map string_bytes words.now) ≡ Some w → w.make ≡ Some n
-        → I.left input.new ≡ I.left input.old }
+) -> Result<Play, Stop>
+    requires low { IfSome words.make (λ n. 1 ≤ n) }
+    requires high { IfSome words.make (λ n. n ≤ 256) }
+    ensures given { IfOk result (λ play. IsGiven (Some words) (I.left input.old) (I.left input.new) words play) }
+    ensures can_end { IfOk result (λ play. ¬ IsStuck play.app play.dbase) }
+    ensures why { IfErr result (λ s. IsWhy (Some words) (I.left input.old) (I.left input.new) s) }
+    ensures unread { (n : ℕ) → words.make ≡ Some n → I.left input.new ≡ I.left input.old }
     ensures fault { result ≡ Err stop.ReadFault → Rose (I.faults input.old) (I.faults input.new) }
     ensures calm { result ≢ Err stop.ReadFault → Calm (I.faults input.old) (I.faults input.new) }
-    ensures one_end { IfOk result (λ t. I.ends input.new ≡ ends_for t.words.make (I.ends input.old)) }
-    ensures no_end { (w : Words) (n : ℕ) → meaning_of_words (map string_bytes words.now) ≡ Some w → w.make ≡ Some n
-        → I.ends input.new ≡ I.ends input.old }
+    ensures one_end { OnOk result (I.ends input.new ≡ ends_for words.make (I.ends input.old)) }
+    ensures no_end { (n : ℕ) → words.make ≡ Some n → I.ends input.new ≡ I.ends input.old }
     ensures ends { IfErr result (λ s. EndsFor (I.left input.old) (I.left input.new) (I.ends input.old) (I.ends input.new) s) }
 {
-    let words = right_words(alloc, words)?;
     let play = given_play(alloc, rt, words.make, input)?;
     match stuck(&play) {
         Some((app, dbase)) => Err(Stop::Stuck(app, dbase)),
-        None => Ok(Task { words, play }),
+        None => Ok(play),
     }
 }

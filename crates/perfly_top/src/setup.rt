@@ -1,6 +1,6 @@
 //! How the words divide the stages of a play among threads.
-ghost use Rattle.std.specs.Prelude.{◌≡◌};
-ghost use Rattle.perfly_top.specs.Setups.{host_mode, setup_of, is_on_one_thread};
+ghost use Rattle.std.specs.Prelude.{◌≡◌, false, IfSome, IfNone};
+ghost use Rattle.perfly_top.specs.Setups.{host_mode, setup_of, is_on_one_thread, words_alone};
 
 use mode_hosts::Setup;
 use program_words::{Mode, Words};
@@ -39,8 +39,35 @@ pub(crate) fn setup_of(words: Words) -> Setup
     }
 }
 
+/// What can be asked of one thread: the words without a mode of several threads, `--dbase`, `--probe` and `--stream`.
+#[derive(Clone, Copy, Debug, PartialEq, Eq)]
+pub struct AloneWords {
+    /// How many frames may be in flight, 1 to 4.
+    pub ahead: u8,
+    /// The number of the generated play, 1 to 256, if one is to be played in place of the source's.
+    pub make: Option<u16>,
+}
+
+impl AloneWords {
+    /// Returns what these words ask of one thread, or None if they ask for a mode of several threads, for `--dbase`, for
+    /// `--probe` or for `--stream`.
+    pub fn of(words: Words) -> Option<AloneWords>
+        ensures same { IfSome result (λ alone. words_alone alone ≡ words) }
+        ensures more { IfNone result (is_on_one_thread words ≡ false) }
+    {
+        if is_on_one_thread(words) {
+            Some(AloneWords {
+                ahead: words.ahead,
+                make: words.make,
+            })
+        } else {
+            None
+        }
+    }
+}
+
 /// Returns whether the words put all stages on one thread, so that nothing is shared.
-pub(crate) fn is_on_one_thread(words: Words) -> bool
+fn is_on_one_thread(words: Words) -> bool
     ensures { result ≡ is_on_one_thread words }
 {
     words.mode == Mode::Appculldraw

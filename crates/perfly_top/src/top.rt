@@ -1,23 +1,20 @@
 //! The whole of perfly as one call.
 ghost use Rattle.std.specs.Prelude.{◌≡◌, ◌≢◌, ◌↔◌, ◌⊎◌, ◌≤◌, ℕ, true, None, Some, IsSome, IfSome, map};
 ghost use Rattle.std.specs.String.{string_bytes};
-ghost use Rattle.std.specs.Io.KnownBytes.{append_known};
 ghost use Rattle.pf_io.specs.Causes.{Calm, Rose};
 ghost use Rattle.pf_io.specs.Streams.{TakesFront};
-ghost use Rattle.play_check.specs.Stuck.{IsStuck};
 ghost use Rattle.program_words.specs.declared.words.Words.{Words};
 ghost use Rattle.program_words.specs.Meaning.{meaning_of_words};
-ghost use Rattle.perfly_top.specs.Calls.{IsRefused, IsBarred, IsUntouched, AddsSome};
-ghost use Rattle.perfly_top.specs.Program.{told, IsSummed, IsPart, IsPlayed};
+ghost use Rattle.perfly_top.specs.Calls.{IsRefused, IsBarred, IsUntouched};
 ghost use Rattle.perfly_top.specs.Endings.{IsStopped, IsBegun, IsDone, IsDoneUntold, FindsEnd, IsDue, IsDueMade};
 
+use crate::alone::perfly_alone;
 use crate::ending::{
     DONE, Ended, FRAME_FAULT, NO_MEMORY, READ_FAULT, REFUSED, REPORT_FAULT, STUCK, WORDS, stopped,
-    tell,
 };
-use crate::playing::run_of;
-use crate::preparing::{Task, prepared};
-use crate::stop::Stop;
+use crate::hosted::perfly_hosted;
+use crate::preparing::right_words;
+use crate::setup::AloneWords;
 use pf_history::History;
 use pf_io::{Gate, Sink, Source};
 use pipe_core::PlayEnd;
@@ -25,61 +22,14 @@ use std::alloc::Global;
 use std::sync::Wait;
 use std::thread::Threads;
 
-/// Plays what there is to play, and reports it.
-fn played<
-    R: Threads + Wait + Copy + Drop + Send + Sync + 'static,
-    O: Sink,
-    P: Sink,
-    G: Gate + Send + Drop + 'static,
->(alloc: Global, rt: &R, task: Task, frames: &mut O, report: &mut P, gate: G) -> Ended
-    requires can_end { ¬ IsStuck task.play.app task.play.dbase }
-    requires some { 1 ≤ task.words.ahead }
-    requires few { task.words.ahead ≤ 4 }
-    requires stream { IfSome task.words.stream (λ n. (1 ≤ n) × (n ≤ 4096)) }
-    ensures one_of { (result.status ≡ DONE) ⊎ (result.status ≡ FRAME_FAULT) ⊎ (result.status ≡ REPORT_FAULT)
-        ⊎ (result.status ≡ NO_MEMORY) }
-    ensures begun { result.status ≡ FRAME_FAULT
-        → IsPart task.words task.play PlayEnd.FrameFault result.history.entries (O.written frames.old) (O.written frames.new) }
-    ensures part { result.status ≡ NO_MEMORY
-        → IsPart task.words task.play PlayEnd.NoMemory result.history.entries (O.written frames.old) (O.written frames.new) }
-    ensures played { (result.status ≡ DONE) ⊎ (result.status ≡ REPORT_FAULT)
-        → IsPlayed task.words task.play result.history.entries (O.written frames.old) (O.written frames.new) }
-    ensures whole { result.status ≡ DONE → (sum : ℕ)
-        × IsSummed task.words task.play result.history.entries (O.written frames.old) sum
-        × (P.written report.new ≡ append_known (P.written report.old) (told task.words task.play result.history.entries sum)) }
-    ensures some_told { result.status ≡ REPORT_FAULT → (sum : ℕ)
-        × IsSummed task.words task.play result.history.entries (O.written frames.old) sum
-        × AddsSome (P.written report.old) (P.written report.new) (told task.words task.play result.history.entries sum) }
-    ensures frame_fault { result.status ≡ FRAME_FAULT → Rose (O.faults frames.old) (O.faults frames.new) }
-    ensures frame_last { result.status ≡ FRAME_FAULT → O.at_fault frames.new ≡ O.written frames.new }
-    ensures frame_calm { result.status ≢ FRAME_FAULT → Calm (O.faults frames.old) (O.faults frames.new) }
-    ensures report_fault { result.status ≡ REPORT_FAULT → Rose (P.faults report.old) (P.faults report.new) }
-    ensures report_calm { result.status ≡ DONE → Calm (P.faults report.old) (P.faults report.new) }
-    ensures frames_flushed { (result.status ≡ DONE) ⊎ (result.status ≡ REPORT_FAULT) → O.flushed frames.new ≡ true }
-    ensures report_flushed { result.status ≡ DONE → P.flushed report.new ≡ true }
-    ensures stopped { result.status ≢ DONE → result.status ≢ REPORT_FAULT
-        → IsStopped result.status result.refusal result.stuck
-        (P.written report.old) (P.written report.new) (P.faults report.old) (P.faults report.new) }
-    ensures no_refusal { result.refusal ≡ None }
-    ensures not_stuck { result.stuck ≡ None }
-{
-    let words = task.words;
-    let run = run_of(alloc, rt, task.play, words, frames, gate);
-    match run.played.end {
-        PlayEnd::Done => tell(alloc, words, run, report),
-        PlayEnd::FrameFault => stopped(report, Stop::FrameFault, run.played.history),
-        PlayEnd::NoMemory => stopped(report, Stop::NoMemory, run.played.history),
-    }
-}
-
 /// Plays the play of a source, as `words`, the arguments behind the program's name, say. It reads the play, writes the
 /// pictures of its frames to `frames` as P6 images, and the report of its calls to `report`. With `--make` the source
 /// is not read: a generated play is played, and `report` gets one line. If the play does not come to its end, `report`
 /// gets a message.
 ///
 /// The stages pass `gate` before each frame and each merge. By the words they share one thread or are divided among
-/// several; the caller's thread alone uses the source and the two sinks. In a mode with several threads the call waits
-/// for them.
+/// several; the caller's thread alone uses the source and the two sinks. If they share one, the words being those of an
+/// [`AloneWords`], the call is one of [`perfly_alone`], which may not wait. Else the call waits for the other threads.
 ///
 /// Returns the status, 0 to 7, with the history. The status is [`WORDS`] if the words have no meaning, [`REFUSED`] if
 /// what was read is no play, and [`STUCK`] if the play could never end. It is [`READ_FAULT`], [`FRAME_FAULT`] or
@@ -152,8 +102,11 @@ pub fn perfly<
     ensures due { IsDue (meaning_of_words (map string_bytes words.now)) (I.left input.old) result.status }
     ensures made { IsDueMade (meaning_of_words (map string_bytes words.now)) result.status }
 {
-    match prepared(alloc, rt, words, input) {
+    match right_words(alloc, words) {
         Err(stop) => stopped(report, stop, History::new(alloc)),
-        Ok(task) => played(alloc, rt, task, frames, report, gate),
+        Ok(words) => match AloneWords::of(words) {
+            Some(alone) => perfly_alone(alloc, rt, alone, input, frames, report, &gate),
+            None => perfly_hosted(alloc, rt, words, input, frames, report, gate),
+        },
     }
 }

@@ -1,29 +1,29 @@
 use Rattle.std.proofs.Common.{refl, inl, inr}
 use Rattle.pipe_plays.specs.declared.played.PlayEnd.TheVariants as end
 use Rattle.perfly_top.proofs.Runs.{no_fault, part_of, played_of, whole_of, some_of}
-use Rattle.perfly_top.proofs.top.played.Goals as goal
+use Rattle.perfly_top.proofs.hosted.played.Goals as goal
 
 pub returns-in-Done-clause-part : goal.returns-in-Done-clause-part
 returns-in-Done-clause-part g c = λ none.
-    part_of c.args.task.words c.args.task.play c.run_of-run.result.played.end end.NoMemory c.tell.result.history
+    part_of c.args.words c.args.play c.run_of-run.result.played.end end.NoMemory c.tell.result.history
     c.run_of-run.result.played.history c.run_of-run.result.played.stats.items (g.O.Sink.written c.args.frames.now)
     (g.O.Sink.written c.run_of-run.new.frames) (λ no. no_fault (inl c.in-Done.is)) c.tell.ensures.history c.run_of-run.ensures.run
 
 pub returns-in-Done-clause-played : goal.returns-in-Done-clause-played
 returns-in-Done-clause-played g c = λ told.
-    played_of c.args.task.words c.args.task.play c.run_of-run.result.played.end c.tell.result.history c.run_of-run.result.played.history
+    played_of c.args.words c.args.play c.run_of-run.result.played.end c.tell.result.history c.run_of-run.result.played.history
     c.run_of-run.result.played.stats.items (g.O.Sink.written c.args.frames.now) (g.O.Sink.written c.run_of-run.new.frames)
     c.tell.ensures.history c.run_of-run.ensures.run c.in-Done.is c.requires.can_end
 
 pub returns-in-FrameFault-clause-begun : goal.returns-in-FrameFault-clause-begun
 returns-in-FrameFault-clause-begun g c = λ fault.
-    part_of c.args.task.words c.args.task.play c.run_of-run.result.played.end end.FrameFault c.stopped.result.history
+    part_of c.args.words c.args.play c.run_of-run.result.played.end end.FrameFault c.stopped.result.history
     c.run_of-run.result.played.history c.run_of-run.result.played.stats.items (g.O.Sink.written c.args.frames.now)
     (g.O.Sink.written c.run_of-run.new.frames) (λ no. absurd (no refl)) c.stopped.ensures.history c.run_of-run.ensures.run
 
 pub returns-in-NoMemory-clause-part : goal.returns-in-NoMemory-clause-part
 returns-in-NoMemory-clause-part g c = λ none.
-    part_of c.args.task.words c.args.task.play c.run_of-run.result.played.end end.NoMemory c.stopped-in-NoMemory.result.history
+    part_of c.args.words c.args.play c.run_of-run.result.played.end end.NoMemory c.stopped-in-NoMemory.result.history
     c.run_of-run.result.played.history c.run_of-run.result.played.stats.items (g.O.Sink.written c.args.frames.now)
     (g.O.Sink.written c.run_of-run.new.frames) (λ no. no_fault (inr c.in-NoMemory.is)) c.stopped-in-NoMemory.ensures.history
     c.run_of-run.ensures.run
@@ -31,13 +31,13 @@ returns-in-NoMemory-clause-part g c = λ none.
 pub returns-in-Done-clause-whole : goal.returns-in-Done-clause-whole
 returns-in-Done-clause-whole g c = λ told.
     let run = c.run_of-run.ensures.run in
-    whole_of c.args.task.words c.args.task.play c.tell.result.history c.run_of-run.result.played.history (g.O.Sink.written c.args.frames.now)
+    whole_of c.args.words c.args.play c.tell.result.history c.run_of-run.result.played.history (g.O.Sink.written c.args.frames.now)
     (g.P.Sink.written c.args.report.now) (g.P.Sink.written c.tell.new.report) c.run_of-run.result.sum c.tell.ensures.history
-    (c.run_of-run.ensures.sum c.in-Done.is) (c.tell.ensures.whole c.args.task.play (run.numbers c.in-Done.is) (c.run_of-run.ensures.answers c.in-Done.is) told)
+    (c.run_of-run.ensures.sum c.in-Done.is) (c.tell.ensures.whole c.args.play (run.numbers c.in-Done.is) (c.run_of-run.ensures.answers c.in-Done.is) told)
 
 pub returns-in-Done-clause-some_told : goal.returns-in-Done-clause-some_told
 returns-in-Done-clause-some_told g c = λ told.
     let run = c.run_of-run.ensures.run in
-    some_of c.args.task.words c.args.task.play c.tell.result.history c.run_of-run.result.played.history (g.O.Sink.written c.args.frames.now)
+    some_of c.args.words c.args.play c.tell.result.history c.run_of-run.result.played.history (g.O.Sink.written c.args.frames.now)
     (g.P.Sink.written c.args.report.now) (g.P.Sink.written c.tell.new.report) c.run_of-run.result.sum c.tell.ensures.history
-    (c.run_of-run.ensures.sum c.in-Done.is) (c.tell.ensures.some c.args.task.play (run.numbers c.in-Done.is) (c.run_of-run.ensures.answers c.in-Done.is) told)
+    (c.run_of-run.ensures.sum c.in-Done.is) (c.tell.ensures.some c.args.play (run.numbers c.in-Done.is) (c.run_of-run.ensures.answers c.in-Done.is) told)
