@@ -43,8 +43,10 @@ fn append_lines(out: &mut Vec<u8>, probes: &[Option<Near>]) -> Result<(), NoMemo
     Ok(())
 }
 
-/// Appends a line for each answer of a probe, one for each frame in turn: `probe k none` where frame k has no hit, and else
-/// `probe k t place tri id` with the numbers of its nearest hit. Where memory runs out, `out` is as before.
+/// Appends a line for each result of a probe, one for each frame in turn: `probe k none` if frame k has no hit, and
+/// else `probe k t place tri id` with the numbers of its nearest hit.
+///
+/// Returns `Err(NoMemory)` if memory runs out, and leaves the text of `out` as it was.
 pub fn append_probes(
     alloc: Global,
     out: &mut Vec<u8>,

@@ -14,9 +14,11 @@ use pf_history::{Command, Entry, History};
 use pf_io::NoMemory;
 use std::alloc::Global;
 
-/// Appends the report of a history: a line for each entry, and then a line for each frame, whose
-/// numbers are handed in in turn, summed over the channels. Where memory runs out, or an entry was
-/// told and left it, `out` is as before.
+/// Appends the report of a history: a line for each entry, and then a line for each frame, whose numbers are handed in
+/// in turn, summed over the channels.
+///
+/// Returns `Err(NoMemory)` if memory runs out, or if an entry was told and left memory. The text of `out` is then as it
+/// was.
 pub fn append_report(
     alloc: Global,
     out: &mut Vec<u8>,
@@ -38,7 +40,9 @@ pub fn append_report(
     Ok(())
 }
 
-/// Appends the lines of the frames alone. Where memory runs out, `out` is as before.
+/// Appends the lines of the frames alone, whose numbers are handed in in turn, summed over the channels.
+///
+/// Returns `Err(NoMemory)` if memory runs out, and leaves the text of `out` as it was.
 pub fn append_stats(alloc: Global, out: &mut Vec<u8>, stats: &[Stats]) -> Result<(), NoMemory>
     ensures text { OnOk result (out.new.items ≡ out.old.items ++ frame_texts 1 stats.now) }
     ensures kept { OnErr result (out.new.items ≡ out.old.items) }
@@ -109,9 +113,11 @@ fn merges_of(first: &[(u32, Entry)], rest: &[(u32, Entry)]) -> usize
     merges_in(first) + merges_in(rest)
 }
 
-/// Appends the summary of the history of a play that was made from the number `n`, in one line:
-/// how many Frames and merges it has, the numbers of all frames summed, and `sum`. Where memory
-/// runs out, or an entry was told and left it, `out` is as before.
+/// Appends the summary of the history of a play that was made from the number `n`, in one line: how many Frames and
+/// merges it has, the numbers of all frames summed, and `sum`.
+///
+/// Returns `Err(NoMemory)` if memory runs out, or if an entry was told and left memory. The text of `out` is then as it
+/// was.
 pub fn append_summary(
     alloc: Global,
     out: &mut Vec<u8>,
