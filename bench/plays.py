@@ -6,6 +6,8 @@
 import sys
 
 UNIT = 4096  # a play counts 4096 to a unit of length
+FARTHEST = 1073741823  # a coordinate's, to either side
+MOST_LINES = 262144  # of a play
 
 
 class Random:
@@ -345,7 +347,7 @@ def instances(size=1024):
 def panes(count=130048, glass=1):
     """256 small panes at one place in a picture of 64 x 64, seen so many times in all: a multiple of 512, at most 130,048, since the
     scene has 131,072 nodes at most, each as often as it stands there. With 0 for glass they are opaque geometry."""
-    lines = header(64, 64, 2)
+    lines = header(64, 64, 2 if glass else 1)
     pane = triangle((-UNIT * 2, UNIT * 16, -UNIT * 2, 250, 200, 40), (UNIT * 2, UNIT * 16, -UNIT * 2, 200, 60, 40),
                     (0, UNIT * 16, UNIT * 2, 40, 60, 200))
     for node in range(256):
@@ -357,9 +359,83 @@ def panes(count=130048, glass=1):
         lines += [f"group {100 + node}", f"add {100 + node} 2", f"add {100 + node} 3", f"add 1 {100 + node}"]
     return lines + ["add 0 1", "frame"]
 
+def broad(count=65536, size=1024, focal=1):
+    """As many triangles as a play may have, each from side to side of the cube of all coordinates, before a lens that sees
+    nearly all of what is in front."""
+    random = Random(5)
+    lines = header(size, size)
+    lines[2] = f"lens {focal} 1 {FARTHEST}"
+    for first in range(0, count, 4096):
+        triangles = []
+        for _ in range(min(4096, count - first)):
+            corners = [[random(32768) * 65535 - FARTHEST for _ in range(3)] for _ in range(3)]
+            for axis, corner in enumerate(corners):
+                corner[axis] = random(2) * 2 * FARTHEST - FARTHEST
+            triangles.append(triangle(*((*corner, random(256), random(256), random(256)) for corner in corners)))
+        geode(lines, 10 + first // 4096, first // 4096, triangles)
+        lines.append(f"add 0 {10 + first // 4096}")
+    return lines + ["frame"]
+
+
+def parents(edits=250000, count=300):
+    """A child of so many parents, below which a node is added and taken out again and again."""
+    lines = header(1, 1) + ["group 1", "add 0 1", "group 2", "add 0 2", "group 3", "group 4"]
+    for k in range(count):
+        lines += [f"group {100 + k}", f"add {1 + k % 2} {100 + k}", f"add {100 + k} 3"]
+    return lines + ["add 3 4", "remove 3 4"] * (edits // 2) + ["frame"]
+
+
+
+def wide(frames=4, channels=1):
+    """Frames of nothing in the largest pictures, of so many channels."""
+    lines = header(1024, 1024, 1 if channels == 1 else 2)
+    return (lines if channels == 1 else several(lines, channels)) + ["frame"] * frames
+
+
+def several(lines, channels):
+    """The lines of a play with so many channels, whose section of the application has just begun."""
+    return lines[:-1] + [f"channels {channels}", lines[-1]]
+
+
+def full(count=MOST_LINES):
+    """The edits of `edits`, in as many lines as a play may have."""
+    return edits(count - len(edits(0)))
+
+
+def slivers(count=65536):
+    """As many narrow triangles as a play may have, each from far above the picture to far below it."""
+    random = Random(13)
+    lines = header(1024, 1024)
+    for first in range(0, count, 4096):
+        triangles = []
+        for _ in range(min(4096, count - first)):
+            depth = 2 ** 24 + random(32768) * 512
+            left = (random(1024) - 512) * (depth // 512)
+            ends = ((left, -FARTHEST), (left + depth // 64, FARTHEST), (left + depth // 32, -FARTHEST))
+            triangles.append(triangle(*((x, depth, z, random(256), random(256), random(256)) for x, z in ends)))
+        geode(lines, 10 + first // 4096, first // 4096, triangles)
+        lines.append(f"add 0 {10 + first // 4096}")
+    return lines + ["frame"]
+
+
+def limits(frames=4):
+    """All limits at once: 65,536 triangles over all rows of the largest pictures, four channels, 4,096 nodes, which the scene
+    has 130,797 times, and edits in as many lines as a play may have."""
+    lines = several(header(1024, 1024, 2), 4) + slivers(65536 - 256)[5:-1] + panes(247 * 512, 0)[5:-1]
+    names = range(4000, 4000 + 4096 - 16 - 256 - 3 - 247)
+    groups, moved = names[::250], [name for name in names if (name - 4000) % 250]
+    for group in groups:
+        lines += [f"group {group}", f"add 0 {group}"]
+    for name in moved:
+        lines += [f"dcs {name}", f"add {groups[(name - 4000) // 250]} {name}"]
+    each, more = divmod(MOST_LINES - len(lines) - frames, frames)
+    for k in range(frames):
+        lines += [f"trans {moved[n % len(moved)]} {n} {k} 0" for n in range(each + (more if k == 0 else 0))] + ["frame"]
+    return lines
+
 
 PLAYS = {play.__name__: play for play in (flight, city, town, traffic, signs, fill, edits, empty, parked, merges, children,
-                                          waiting, large, instances, panes)}
+                                          waiting, large, instances, panes, broad, parents, wide, full, slivers, limits)}
 
 
 def main():
