@@ -43,7 +43,7 @@ line_word : (s : Spot) (ws : List (List ℕ)) (c : Command) → ok_or (command_a
 line_word s [] c e k = absurd cc
 line_word s (w ∷ ws) c e k = found_word s w ws (named s w) c refl e k
 
-not_wrong : (b : Bool) (d : Why) (r : Result Entry Why) (y : Entry) → cond b (Err d) r ≡ Ok y → (b ≡ false) × (r ≡ Ok y)
+pub not_wrong : (b : Bool) (d : Why) (r : Result Entry Why) (y : Entry) → cond b (Err d) r ≡ Ok y → (b ≡ false) × (r ≡ Ok y)
 not_wrong true d r y e = absurd cc
 not_wrong false d r y e = (refl, e)
 

@@ -39,7 +39,7 @@ judged_entries a b r = cond a (Err whys.Count) (cond b (Err whys.Length) r)
 abbrev a_step : LiveStand × List Entry → Result (LiveStand × List Entry) Why
 a_step p = Ok p
 
-step_entries : (s : LiveStand) (a b : Bool) (r : Result (List Entry) Why) (p : LiveStand × List Entry) → judged_step s a b r ≡ Ok p → (es : List Entry) × (judged_entries a b r ≡ Ok es) × (stand_behind s es ≡ p)
+pub step_entries : (s : LiveStand) (a b : Bool) (r : Result (List Entry) Why) (p : LiveStand × List Entry) → judged_step s a b r ≡ Ok p → (es : List Entry) × (judged_entries a b r ≡ Ok es) × (stand_behind s es ≡ p)
 step_entries s true b r p e = absurd cc
 step_entries s false true r p e = absurd cc
 step_entries s false false (Err why) p e = absurd cc
@@ -52,12 +52,12 @@ step_wrong s false false (Err d) why e = let k : d ≡ why = cc in rw k refl
 step_wrong s false false (Ok es) why e = absurd cc
 
 -- a line before others
-from_line : (s : Spot) (n : ℕ) (line : List ℕ) (left : List (List ℕ)) (r : Result (List Entry) Why) → 0 < length left → live_judged n line (entries_at n s line) ≡ r
+pub from_line : (s : Spot) (n : ℕ) (line : List ℕ) (left : List (List ℕ)) (r : Result (List Entry) Why) → 0 < length left → live_judged n line (entries_at n s line) ≡ r
     → live_from s n (line ∷ left) ≡ (at_line n r >>= λ es. live_from (spot_behind s es) (n + 1) left >>= λ fs. Ok (es ++ fs))
 unfolding live_from
 from_line s n line left r h e = rw (not_zero (length left) h, e) refl
 
-from_last : (s : Spot) (n : ℕ) (rest : List ℕ) → live_from s n (rest ∷ []) ≡ unless (end_refusal s n rest) []
+pub from_last : (s : Spot) (n : ℕ) (rest : List ℕ) → live_from s n (rest ∷ []) ≡ unless (end_refusal s n rest) []
 unfolding live_from
 from_last s n rest = refl
 

@@ -3,3 +3,8 @@ pub mod HeadLemmas
 pub mod Moving
 pub mod Entries
 pub mod LawLemmas
+pub mod Reading
+pub mod OneReading
+pub mod GivenLines
+pub mod GivenText
+pub mod LivePlay

@@ -1,12 +1,19 @@
--- Reading a live text line by line is reading its text.
-use Rattle.std.specs.Prelude.{◌≡◌, ℕ, ◌<◌, List, [], ◌∷◌, ◌++◌, length, Option, Some, Result, Ok, Err}
+-- What the definitions of live texts imply.
+use Rattle.std.specs.Prelude.{◌≡◌, ℕ, ◌+◌, ◌<◌, ◌≤◌, true, List, [], ◌∷◌, ◌++◌, length, Option, Some, Result, Ok, Err}
 use Rattle.play_format.specs.declared.refusal.Why.{Why}
 use Rattle.play_format.specs.declared.refusal.Refusal.{Refusal}
 use Rattle.play_format.specs.Words.{pieces}
 use Rattle.play_format.specs.Commands.{Entry}
+use Rattle.play_format.specs.Places.{may_end}
 use Rattle.play_format.specs.Grammar.{◌>>=◌}
+use Rattle.play_format.specs.Spelling.{text_of_lines}
+use Rattle.play_format.specs.Plays.{IsPlay}
+use Rattle.live_text.specs.declared.given.Given.{Given}
 use Rattle.live_text.specs.LiveGrammar.{live_from, end_refusal, unless, live_reading}
-use Rattle.live_text.specs.Stands.{LiveStand, live_start, live_step}
+use Rattle.live_text.specs.LiveCommands.{LiveCommand, LiveHeader, SpellsLive, app_steps, dbase_steps, play_of}
+use Rattle.live_text.specs.Stands.{LiveStand, live_start, live_step, LineGives, LinesGive, headers_in, commands_in}
+
+-- Line by line
 
 -- entries, and then those that are read
 abbrev pub behind_entries : List Entry → Result (List Entry) Refusal → Result (List Entry) Refusal
@@ -25,3 +32,37 @@ pub record ReadsByLines : Type 0 where
   pub wrong : (s : LiveStand) (line : List ℕ) (why : Why) (left : List (List ℕ)) → 0 < length left
       → live_step s line ≡ Err why → unread s (line ∷ left) ≡ Err (record { line = s.line; why = why })
   pub end : (s : LiveStand) (rest : List ℕ) → unread s (rest ∷ []) ≡ unless (end_refusal s.spot s.line rest) s.begun
+
+-- One reading
+
+-- a text spells at most one header and list of commands
+abbrev pub HasOneLiveReading : Type 0
+HasOneLiveReading =
+    (text : List ℕ) (h k : LiveHeader) (cs ds : List LiveCommand) → SpellsLive text h cs → SpellsLive text k ds
+    → (h ≡ k) × (cs ≡ ds)
+
+-- What stands behind a text that spells commands only adds commands: the longer text has the same header, and its commands
+-- begin with those of the shorter one.
+abbrev pub OnlyAddsCommands : Type 0
+OnlyAddsCommands =
+    (text more : List ℕ) (h k : LiveHeader) (cs ds : List LiveCommand) → SpellsLive text h cs → SpellsLive (text ++ more) k ds
+    → (h ≡ k) × (later : List LiveCommand) × (ds ≡ cs ++ later)
+
+-- What was given, and the text
+
+-- Lines that are read one after the other are read with one line more. Where a text may end behind them, one header was
+-- given, and the text of these lines spells it and the commands that were given.
+pub record GivenIsSpelled : Type 0 where
+  pub more : (s t u : LiveStand) (lines : List (List ℕ)) (given : List (Option Given)) (line : List ℕ) (found : Option Given)
+      → LinesGive s lines given t → LineGives t line u found → LinesGive s (lines ++ line ∷ []) (given ++ found ∷ []) u
+  pub spelled : (lines : List (List ℕ)) (given : List (Option Given)) (t : LiveStand) → LinesGive live_start lines given t
+      → may_end t.spot ≡ true
+      → (h : LiveHeader) × (headers_in given ≡ h ∷ []) × SpellsLive (text_of_lines lines) h (commands_in given)
+
+-- Plays
+
+-- the play of a live text is one, where it has few enough steps
+abbrev pub MakesPlay : Type 0
+MakesPlay =
+    (text : List ℕ) (h : LiveHeader) (cs : List LiveCommand) → SpellsLive text h cs
+    → length (app_steps 0 cs) + length (dbase_steps cs) ≤ 262144 → IsPlay (play_of h cs)

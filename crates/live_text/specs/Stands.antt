@@ -1,5 +1,5 @@
 -- Where a reader of a live text stands between two lines, and what a line makes whole.
-use Rattle.std.specs.Prelude.{◌≡◌, ℕ, ◌+◌, ◌-◌, Bool, if◌then◌else◌, List, [], ◌++◌, length, Option, Some, None, Result, Ok}
+use Rattle.std.specs.Prelude.{◌≡◌, ℕ, ◌+◌, ◌-◌, Bool, if◌then◌else◌, List, [], ◌∷◌, ◌++◌, length, Option, Some, None, Result, Ok}
 use Rattle.play_format.specs.declared.refusal.Why.{Why}
 use Rattle.play_format.specs.declared.places.Version.TheVariants as version
 use Rattle.play_format.specs.declared.places.Spot.{Spot}
@@ -9,7 +9,7 @@ use Rattle.play_format.specs.Grammar.{◌>>=◌}
 use Rattle.live_text.specs.declared.given.Given.{Given}
 use Rattle.live_text.specs.declared.given.Given.TheVariants as given
 use Rattle.live_text.specs.LiveGrammar.{entries_at, spot_behind, live_judged}
-use Rattle.live_text.specs.LiveCommands.{SpellsHeader, SpellsLine, SpellsBlock}
+use Rattle.live_text.specs.LiveCommands.{LiveCommand, Line, Block, LiveHeader, SpellsHeader, SpellsLine, SpellsBlock}
 
 -- The number of the next line, the spot before it, and the lines that were read of what is not whole yet.
 pub record LiveStand : Type 0 where
@@ -55,3 +55,22 @@ pub record LineGives (s : LiveStand) (line : List ℕ) (t : LiveStand) (found : 
   pub whole : List Entry
   pub step : live_step s line ≡ Ok (t, whole)
   pub spelled : SpellsGiven t.spot.channels (begun_at s) found whole
+
+-- lines were read between two stands, one after the other, and this was given at each
+abbrev pub LinesGive : LiveStand → List (List ℕ) → List (Option Given) → LiveStand → Type 0
+LinesGive s [] [] t = s ≡ t
+LinesGive s (line ∷ lines) (found ∷ more) t = (u : LiveStand) × LineGives s line u found × LinesGive u lines more t
+LinesGive s _ _ t = ⊥
+
+-- the headers among what was given
+abbrev pub headers_in : List (Option Given) → List LiveHeader
+headers_in [] = []
+headers_in (Some (given.Header lens back channels) ∷ more) = record { lens = lens; back = back; channels = channels } ∷ headers_in more
+headers_in (found ∷ more) = headers_in more
+
+-- the commands among what was given
+abbrev pub commands_in : List (Option Given) → List LiveCommand
+commands_in [] = []
+commands_in (Some (given.Line l) ∷ more) = Line l ∷ commands_in more
+commands_in (Some (given.Block ls) ∷ more) = Block ls.items ∷ commands_in more
+commands_in (found ∷ more) = commands_in more

@@ -10,5 +10,7 @@ mod reader;
 mod state;
 
 pub use given::Given;
-pub use laws::live_reading_by_lines;
+pub use laws::{
+    live_reading_by_lines, live_text_makes_play, one_live_reading, what_is_given_is_spelled,
+};
 pub use reader::LiveReader;

@@ -48,11 +48,11 @@ follow_within s (e ∷ es) some few h =
     let k = channels_within s.channels e.0 e.1 some few h.0.within in
     (record { channels = s.channels; few = few; within = h.0.within }, follow_within (next_spot s e.0 e.1) es (some_channels s e.0 e.1 k.0) (few_channels s e.0 e.1 k.1) h.1)
 
-front_within : (xs ys : List Entry) → AllWithin (xs ++ ys) → AllWithin xs
+pub front_within : (xs ys : List Entry) → AllWithin (xs ++ ys) → AllWithin xs
 front_within [] ys h = tt
 front_within (x ∷ xs) ys h = (h.0, front_within xs ys h.1)
 
-rest_within : (xs ys : List Entry) → AllWithin (xs ++ ys) → AllWithin ys
+pub rest_within : (xs ys : List Entry) → AllWithin (xs ++ ys) → AllWithin ys
 rest_within [] ys h = h
 rest_within (x ∷ xs) ys h = rest_within xs ys h.1
 
@@ -75,10 +75,10 @@ triangles_told : (ts : List Tri) → AreTriangles ts → AllWithin (map tri_entr
 triangles_told [] h w = refl
 triangles_told (t ∷ ts) h w = ap (λ (x : Tri). x ∷ tris_of (map tri_entry ts)) (tri_again t h.0 w.0.within) ∙ ap (λ (xs : List Tri). t ∷ xs) (triangles_told ts h.1 w.1)
 
-head_same : (x y : Entry) (xs ys : List Entry) → x ∷ xs ≡ y ∷ ys → x ≡ y
+pub head_same : (x y : Entry) (xs ys : List Entry) → x ∷ xs ≡ y ∷ ys → x ≡ y
 head_same x y xs ys e = cc
 
-tail_same : (x y : Entry) (xs ys : List Entry) → x ∷ xs ≡ y ∷ ys → xs ≡ ys
+pub tail_same : (x y : Entry) (xs ys : List Entry) → x ∷ xs ≡ y ∷ ys → xs ≡ ys
 tail_same x y xs ys e = cc
 
 edit_triangles_written : (e : Edit) → IsWritten e → AreTriangles (edit_triangles e)
@@ -105,7 +105,7 @@ abbrev app_some : AppStep → Option AppStep
 app_some s = Some s
 
 -- steps with the same lines in front are the same
-app_step_same : (s t : AppStep) (xs ys : List Entry) → IsAppStep s → IsAppStep t → app_lines s ++ xs ≡ app_lines t ++ ys → AllWithin (app_lines s ++ xs) → AllWithin (app_lines t ++ ys) → (s ≡ t) × (xs ≡ ys)
+pub app_step_same : (s t : AppStep) (xs ys : List Entry) → IsAppStep s → IsAppStep t → app_lines s ++ xs ≡ app_lines t ++ ys → AllWithin (app_lines s ++ xs) → AllWithin (app_lines t ++ ys) → (s ≡ t) × (xs ≡ ys)
 app_step_same s t xs ys h k e w v =
     let first : app_entry s ≡ app_entry t = head_same (app_entry s) (app_entry t) _ _ e in
     let rest : map tri_entry (app_triangles s) ++ xs ≡ map tri_entry (app_triangles t) ++ ys = tail_same (app_entry s) (app_entry t) _ _ e in
@@ -125,7 +125,7 @@ abbrev base_some : BaseStep → Option BaseStep
 base_some s = Some s
 
 -- steps with the same lines in front are the same
-base_step_same : (s t : BaseStep) (xs ys : List Entry) → IsBaseStep s → IsBaseStep t → base_lines s ++ xs ≡ base_lines t ++ ys → AllWithin (base_lines s ++ xs) → AllWithin (base_lines t ++ ys) → (s ≡ t) × (xs ≡ ys)
+pub base_step_same : (s t : BaseStep) (xs ys : List Entry) → IsBaseStep s → IsBaseStep t → base_lines s ++ xs ≡ base_lines t ++ ys → AllWithin (base_lines s ++ xs) → AllWithin (base_lines t ++ ys) → (s ≡ t) × (xs ≡ ys)
 base_step_same s t xs ys h k e w v =
     let first : base_entry s ≡ base_entry t = head_same (base_entry s) (base_entry t) _ _ e in
     let rest : map tri_entry (base_triangles s) ++ xs ≡ map tri_entry (base_triangles t) ++ ys = tail_same (base_entry s) (base_entry t) _ _ e in
@@ -147,10 +147,10 @@ app_line_of n s = record { line = n; step = s }
 abbrev base_line_of : ℕ → BaseStep → BaseLine
 base_line_of n s = record { line = n; step = s }
 
-app_line_same : (l m : AppLine) (n : ℕ) → l.line ≡ n → m.line ≡ n → l.step ≡ m.step → l ≡ m
+pub app_line_same : (l m : AppLine) (n : ℕ) → l.line ≡ n → m.line ≡ n → l.step ≡ m.step → l ≡ m
 app_line_same l m n e f g = ap (λ (k : ℕ). app_line_of k l.step) (e ∙ sym f) ∙ ap (λ (s : AppStep). app_line_of m.line s) g
 
-base_line_same : (l m : BaseLine) (n : ℕ) → l.line ≡ n → m.line ≡ n → l.step ≡ m.step → l ≡ m
+pub base_line_same : (l m : BaseLine) (n : ℕ) → l.line ≡ n → m.line ≡ n → l.step ≡ m.step → l ≡ m
 base_line_same l m n e f g = ap (λ (k : ℕ). base_line_of k l.step) (e ∙ sym f) ∙ ap (λ (s : BaseStep). base_line_of m.line s) g
 
 pub app_unique : (n : ℕ) (ls ms : List AppLine) (xs ys : List Entry) → Ends xs → Ends ys → app_entries ls ++ xs ≡ app_entries ms ++ ys → AllWithin (app_entries ls ++ xs) → AllWithin (app_entries ms ++ ys)
@@ -215,12 +215,12 @@ five_same : (w h f : ℕ) (n r : ℤ) (w2 h2 f2 : ℕ) (n2 r2 : ℤ) → pos w �
     → (w ≡ w2) × (h ≡ h2) × (f ≡ f2) × (n ≡ n2) × (r ≡ r2)
 five_same w h f n r w2 h2 f2 n2 r2 a b = (cc, cc, cc, cc, cc)
 
-record HeaderSame (l m : Lens) (a b : List ℕ) (x y : List Entry) : Type 0 where
-  lens : l ≡ m
-  back : a ≡ b
-  rest : x ≡ y
+pub record HeaderSame (l m : Lens) (a b : List ℕ) (x y : List Entry) : Type 0 where
+  pub lens : l ≡ m
+  pub back : a ≡ b
+  pub rest : x ≡ y
 
-header_same : (l m : Lens) (a b : List ℕ) (x y : List Entry)
+pub header_same : (l m : Lens) (a b : List ℕ) (x y : List Entry)
     → (command.Size, pos l.w ∷ pos l.h ∷ []) ∷ (command.Lens, pos l.f ∷ l.near ∷ l.far ∷ []) ∷ (command.Back, map pos a) ∷ x ≡ (command.Size, pos m.w ∷ pos m.h ∷ []) ∷ (command.Lens, pos m.f ∷ m.near ∷ m.far ∷ []) ∷ (command.Back, map pos b) ∷ y
     → HeaderSame l m a b x y
 header_same l m a b x y e =
@@ -232,12 +232,12 @@ header_same l m a b x y e =
     let k = five_same l.w l.h l.f l.near l.far m.w m.h m.f m.near m.far size lens in
     record { lens = same_lens l m k.0 k.1 k.2 k.3 k.4; back = sym (naturals_of a) ∙ ap naturals colours ∙ naturals_of b; rest = tail_same _ _ _ _ back_line }
 
-record BodySame (s t : Bool) (n k : ℕ) (x y : List Entry) : Type 0 where
-  says : s ≡ t
-  channels : n ≡ k
-  body : x ≡ y
+pub record BodySame (s t : Bool) (n k : ℕ) (x y : List Entry) : Type 0 where
+  pub says : s ≡ t
+  pub channels : n ≡ k
+  pub body : x ≡ y
 
-channels_same : (s t : Bool) (n k : ℕ) (x y : List Entry) → (s ≡ false → n ≡ 1) → (t ≡ false → k ≡ 1)
+pub channels_same : (s t : Bool) (n k : ℕ) (x y : List Entry) → (s ≡ false → n ≡ 1) → (t ≡ false → k ≡ 1)
     → (channels_entries s n ++ (command.App, []) ∷ []) ++ x ≡ (channels_entries t k ++ (command.App, []) ∷ []) ++ y → BodySame s t n k x y
 channels_same true true n k x y a b e =
     let numbers : pos n ∷ [] ≡ pos k ∷ [] = entry_numbers (head_same _ _ _ _ e) in

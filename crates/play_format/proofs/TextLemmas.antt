@@ -154,7 +154,7 @@ lines_again s n (e ∷ es) some few h k =
 -- Texts
 
 -- the words of a line without a line feed are joined to one
-join_has_no : (w : List ℕ) (ws : List (List ℕ)) → list_all is_clear (w ∷ ws) ≡ true → has_no 10 (join_with_byte 32 (w ∷ ws)) ≡ true
+pub join_has_no : (w : List ℕ) (ws : List (List ℕ)) → list_all is_clear (w ∷ ws) ≡ true → has_no 10 (join_with_byte 32 (w ∷ ws)) ≡ true
 join_has_no w [] e = no_feed w (both (is_clear w) true e).0
 join_has_no w (v ∷ ws) e =
     let b = both (is_clear w) (list_all is_clear (v ∷ ws)) e in
@@ -168,7 +168,7 @@ lines_have_no s (e ∷ es) some few h =
     (join_has_no (text_of e.0) (map signed_decimal e.1 ++ tail_of e.0) (words_clear s.channels e.0 e.1 few h.0.within))
     (lines_have_no (next_spot s e.0 e.1) es (some_channels s e.0 e.1 channels.0) (few_channels s e.0 e.1 channels.1) h.1)
 
-pieces_of_lines : (ls : List (List ℕ)) → list_all (has_no 10) ls ≡ true → pieces (text_of_lines ls) ≡ ls ++ [] ∷ []
+pub pieces_of_lines : (ls : List (List ℕ)) → list_all (has_no 10) ls ≡ true → pieces (text_of_lines ls) ≡ ls ++ [] ∷ []
 pieces_of_lines [] e = refl
 pieces_of_lines (l ∷ ls) e =
     let b = both (has_no 10 l) (list_all (has_no 10) ls) e in
