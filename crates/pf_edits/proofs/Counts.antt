@@ -1,17 +1,19 @@
 -- The number of triangles of all records.
-use Rattle.std.proofs.Common.{◌≡◌, ℕ, suc, zero-add, ◌+◌, ◌-◌, ◌*◌, ◌<◌, ◌≤◌, List, [], ◌∷◌, map, sum, length, set, Option, Some, None, refl, sym, ◌∙◌, ap, subst, arith}
+use Rattle.std.proofs.Common.{◌≡◌, ℕ, suc, zero-add, ◌+◌, ◌-◌, ◌*◌, ◌<◌, ◌≤◌, List, [], ◌∷◌, map, sum, length, set, Option, Some, None, is_some, true, refl, sym, ◌∙◌, ap, subst, arith}
 use Rattle.std.specs.List.{AllByRecursion}
 use Rattle.std.specs.Option.{option_and_then, option_map}
 use Rattle.std.proofs.lemmas.List.Elements.{All-set, All-get_or, All-from_get_or}
 use Rattle.std.proofs.lemmas.List.Sums.{sum_by-set, sum_by-cons, sum_by-le}
 use Rattle.std.proofs.Math.ListN.{length-map}
 use Rattle.slab.specs.Slab.{Slab, get}
+use Rattle.pf_model.specs.declared.nodes.Kind.{Kind}
 use Rattle.pf_model.specs.declared.nodes.Node.{Node}
 use Rattle.pf_model.specs.Graphs.{node_at}
 use Rattle.pf_model.specs.Totals.{triangles_of, triangle_count}
 use Rattle.pf_model.proofs.Totals.{triangles_counted}
 use Rattle.pf_edits.specs.declared.records.Record.{Record}
 use Rattle.pf_edits.specs.Tables.{Slots, record_at, slots_of, slot_triangles, triangles_in, AreCounted}
+use Rattle.pf_edits.specs.Extents.{kind_in, with_other_kind}
 use Rattle.pf_edits.specs.Listed.{nodes_from, nodes_of}
 use Rattle.pf_edits.proofs.Listed.{rising}
 
@@ -78,6 +80,41 @@ changed_counted slots id t f keeps within k o there = record {
         let g : slot_triangles (record_at slots id) ≡ slot_triangles (option_map f o) = ap slot_triangles there ∙ sym (same o) in
         let h : t ≡ triangles_in slots = k.total in
         omega (arith, e, g, h)
+
+-- A record with another kind of node
+
+pub kind_counts : (o : Option Record) (k : Kind) → option_map kind_in o ≡ Some k → slot_triangles o ≡ triangles_of k
+kind_counts None k e = absurd (cc)
+kind_counts (Some r) k e = let s : r.node.kind ≡ k = cc in ap triangles_of s
+
+-- what stands under an id counts
+pub counted_few : (slots : Slots) (id t m : ℕ) (o : Option Record) → id < length slots → AreCounted slots t → record_at slots id ≡ o → m ≡ slot_triangles o → m ≤ t
+counted_few slots id t m o within k there is =
+    let e : triangles_in (set slots id None) + slot_triangles (record_at slots id) ≡ triangles_in slots + 0 = sum_by-set slot_triangles slots id None None within in
+    let some : slot_triangles (record_at slots id) ≡ slot_triangles o = ap slot_triangles there in
+    let f : t ≡ triangles_in slots = k.total in
+    omega (arith, e, some, f, is)
+
+pub swapped_counted : (slots : Slots) (id t m n : ℕ) (kind : Kind) (o : Option Record) → id < length slots → AreCounted slots t → record_at slots id ≡ o → is_some o ≡ true
+    → m ≡ slot_triangles o → n ≡ triangles_of kind → n ≤ 4096 → AreCounted (set slots id (option_map (with_other_kind kind) o)) (t - m + n)
+swapped_counted slots id t m n kind o within k there some was is few = record {
+  light = All-set (λ s. slot_triangles s ≤ 4096) slots id (option_map (with_other_kind kind) o) (subst (λ (x : ℕ). x ≤ 4096) (is ∙ sym (new o some)) few) k.light;
+  total = total;
+}
+  where
+    new : (o : Option Record) → is_some o ≡ true → slot_triangles (option_map (with_other_kind kind) o) ≡ triangles_of kind
+    new None h = absurd (cc)
+    new (Some r) h = refl
+
+    total : t - m + n ≡ triangles_in (set slots id (option_map (with_other_kind kind) o))
+    total =
+        let e : triangles_in (set slots id (option_map (with_other_kind kind) o)) + slot_triangles (record_at slots id) ≡ triangles_in slots + slot_triangles (option_map (with_other_kind kind) o) =
+        sum_by-set slot_triangles slots id (option_map (with_other_kind kind) o) None within in
+        let f : slot_triangles (record_at slots id) ≡ slot_triangles o = ap slot_triangles there in
+        let g : slot_triangles (option_map (with_other_kind kind) o) ≡ triangles_of kind = new o some in
+        let h : t ≡ triangles_in slots = k.total in
+        let l : m ≤ t = counted_few slots id t m o within k there was in
+        omega (arith, e, f, g, h, l, was, is)
 
 no_triangles : (slots : Slots) → ((b : ℕ) → record_at slots b ≡ None) → triangles_in slots ≡ 0
 no_triangles [] none = refl

@@ -15,12 +15,12 @@ use Rattle.pf_model.proofs.EditLimits.{limits_effect}
 use Rattle.pf_edits.specs.declared.records.Record.{Record}
 use Rattle.pf_edits.specs.declared.work.Work.{Work}
 use Rattle.pf_edits.specs.Tables.{Slots, record_at}
-use Rattle.pf_edits.specs.Ways.{is_in}
+use Rattle.pf_edits.specs.Ways.{is_in, LeadUp, IsUpFrom}
 use Rattle.pf_edits.specs.Extents.{look_of, parents_of, child_list, IsSound}
 use Rattle.pf_edits.specs.Listed.{nodes_of}
-use Rattle.pf_edits.specs.Working.{IsWorking}
+use Rattle.pf_edits.specs.Working.{told, IsWorking}
 use Rattle.pf_edits.proofs.Ups.{head_or_rest, ahead, not_true, no_true}
-use Rattle.pf_edits.proofs.Relinks.{no_cycle}
+use Rattle.pf_edits.proofs.Relinks.{no_cycle, closes}
 use Rattle.pf_edits.proofs.Settles.{both}
 use Rattle.pf_edits.proofs.Listed.{found, looks}
 
@@ -28,11 +28,27 @@ pub on_err : {A E : Type 0} {P : Type 0} (r : Result A E) → P → OnErr r P
 on_err (Ok x) p = tt
 on_err (Err e) p = p
 
+pub low_in : (w : Work) → IsGraphWithinLimits (told w) → AreLow (look_of w.records.slots)
+low_in w k = λ b. subst (λ (f : Look). height_of f b ≤ 32) (looks w.records.slots) (k.within.limits.low b)
+
+pub small_in : (w : Work) → IsGraphWithinLimits (told w) → (b : ℕ) → size_of (look_of w.records.slots) b ≤ 131072
+small_in w k = λ b. subst (λ (f : Look). size_of f b ≤ 131072) (looks w.records.slots) (k.within.limits.small b)
+
 pub low_of : (w : Work) → IsWorking w → AreLow (look_of w.records.slots)
-low_of w k = λ b. subst (λ (f : Look). height_of f b ≤ 32) (looks w.records.slots) (k.within.within.limits.low b)
+low_of w k = low_in w k.within
 
 pub small_of : (w : Work) → IsWorking w → (b : ℕ) → size_of (look_of w.records.slots) b ≤ 131072
-small_of w k = λ b. subst (λ (f : Look). size_of f b ≤ 131072) (looks w.records.slots) (k.within.within.limits.small b)
+small_of w k = small_in w k.within
+
+-- what is on a way up from a node: the node and those above it
+pub way_up : (look : Look) (start way : List ℕ) (id : ℕ) → start ≡ [] → LeadUp look way → is_in id way ≡ true
+    → ((b : ℕ) → is_in b way ≡ true → (is_in b start || (b == id || is_below look b id)) ≡ true) → IsUpFrom look way id
+way_up look start way id none leads on above =
+    closes look way id leads on (λ b h. subst (λ (xs : List ℕ). (is_in b xs || (b == id || is_below look b id)) ≡ true) none (above b h))
+
+-- a child on the way up from its parent closes a cycle
+pub told_cycle : (s : Slots) (way : List ℕ) (p c : ℕ) → IsUpFrom (look_of s) way p → is_in c way ≡ (c == p || is_below (node_at (nodes_of s)) c p)
+told_cycle s way p c up = up c ∙ ap (λ (f : Look). c == p || is_below f c p) (sym (looks s))
 
 pub keeps_of : (w : Work) → IsWorking w → KeepsLimits (look_of w.records.slots)
 keeps_of w k = subst KeepsLimits (looks w.records.slots) k.within.within.limits

@@ -6,6 +6,7 @@ use Rattle.pf_model.specs.declared.nodes.Kind.{Kind}
 use Rattle.pf_model.specs.declared.nodes.Node.{Node}
 use Rattle.pf_model.specs.Graphs.{Look, children_of}
 use Rattle.pf_model.specs.Limits.{has_child}
+use Rattle.pf_model.specs.NodeEdits.{with_children, with_kind}
 use Rattle.pf_edits.specs.declared.extents.Extent.{Extent}
 use Rattle.pf_edits.specs.declared.records.Record.{Record}
 use Rattle.pf_edits.specs.Tables.{Slots, record_at}
@@ -51,6 +52,20 @@ pub record IsSound (slots : Slots) : Type 0 where
 -- a record with this extent
 abbrev pub with_extent : Extent → Record → Record
 with_extent e r = record r { extent = e }
+
+-- the children of a record's node, and the record with other ones
+abbrev pub children_in : Record → List ℕ
+children_in r = r.node.children
+
+abbrev pub with_child_list : List ℕ → Record → Record
+with_child_list cs r = record r { node = with_children cs r.node }
+
+-- the kind of a record's node, and the record with another one
+abbrev pub kind_in : Record → Kind
+kind_in r = r.node.kind
+
+abbrev pub with_other_kind : Kind → Record → Record
+with_other_kind k r = record r { node = with_kind k r.node }
 
 -- an extent within the limits
 pub record IsWithin (e : Extent) : Type 0 where

@@ -1,7 +1,7 @@
 -- Ways up from a node.
-use Rattle.std.specs.Prelude.{◌≡◌, ⊤, ℕ, ◌≤◌, Bool, true, false, ◌==◌, List, [], ◌∷◌, length, reverse, count_by, slice_index_or}
+use Rattle.std.specs.Prelude.{◌≡◌, ⊤, ℕ, ◌≤◌, Bool, true, false, ◌==◌, ◌||◌, List, [], ◌∷◌, length, reverse, count_by, slice_index_or}
 use Rattle.std.specs.List.{list_any}
-use Rattle.pf_model.specs.Graphs.{Look}
+use Rattle.pf_model.specs.Graphs.{Look, is_below}
 use Rattle.pf_model.specs.Limits.{has_child}
 
 abbrev pub is_in : ℕ → List ℕ → Bool
@@ -20,3 +20,7 @@ pub record IsMarked (marks : List Bool) (ids : List ℕ) (capacity room : ℕ) :
 abbrev pub LeadUp : Look → List ℕ → Type 0
 LeadUp look [] = ⊤
 LeadUp look (x ∷ xs) = ((y : ℕ) → has_child look y x ≡ true → is_in y xs ≡ true) × LeadUp look xs
+
+-- a node and those above it, and no others
+abbrev pub IsUpFrom : Look → List ℕ → ℕ → Type 0
+IsUpFrom look ids id = (b : ℕ) → is_in b ids ≡ (b == id || is_below look b id)

@@ -1,14 +1,13 @@
 //! Faults of edits, in the order of their rules.
-ghost use Rattle.std.specs.Prelude.{◌≡◌, ◌==◌, ◌||◌, ◌∷◌, ◌<◌, [], ℕ, true, false, nat_lt, length, map, None, is_some};
+ghost use Rattle.std.specs.Prelude.{◌≡◌, ◌==◌, ◌∷◌, ◌<◌, [], ℕ, true, false, nat_lt, length, map, None, is_some};
 ghost use Rattle.std.specs.List.{list_any};
 ghost use Rattle.std.specs.Option.{option_copied};
 ghost use Rattle.pf_model.specs.Kinds.{is_geode};
-ghost use Rattle.pf_model.specs.Graphs.{Nodes, node_at, is_below};
+ghost use Rattle.pf_model.specs.Graphs.{Nodes, node_at};
 ghost use Rattle.pf_model.specs.Limits.{has_child, IsRising};
-ghost use Rattle.pf_model.specs.Laws.{AreLow};
 ghost use Rattle.pf_model.specs.Edits.{first, when, absent, has_kind, child_count, is_child, cycle, full, make_rules, link_rules, room_rules};
 ghost use Rattle.pf_model.specs.Edits.{add_rules, insert_rules, swap_rules, replace_rules, remove_rules, delete_rules, size_rules};
-ghost use Rattle.pf_edits.specs.Ways.{is_in};
+ghost use Rattle.pf_edits.specs.Ways.{is_in, IsUpFrom};
 ghost use Rattle.pf_edits.specs.Extents.{look_of, extent_at, Meets, IsSound, IsWithin};
 ghost use Rattle.pf_edits.specs.Listed.{nodes_of};
 
@@ -65,29 +64,13 @@ fn is_child(records: &Records, parent: u16, child: u16) -> bool
     }
 }
 
-/// Whether a new child of a node would close a cycle: it is the node or above it.
-fn closes_cycle(records: &Records, way: &mut Way, parent: u16, child: u16) -> bool
-    requires way { way.old ≡ [] }
-    requires sound { IsSound records.now.slots }
-    requires low { AreLow (look_of records.now.slots) }
-    ensures value { result ≡ (child == parent || is_below (node_at (nodes_of records.now.slots)) child parent) }
-    ensures way { way.new ≡ [] }
+/// A link that would put the parent below itself, by the way up from the parent: the child is on it.
+#[tactic(auto, using(crate::proofs::Works::told_cycle))]
+fn cycle(records: &Records, way: &Way, parent: u16, child: u16) -> Option<Fault>
+    requires { IsUpFrom (look_of records.now.slots) way.now parent }
+    ensures { result ≡ cycle (nodes_of records.now.slots) parent child }
 {
-    climb::climb(records, way, parent);
-    let closes = way.contains(child);
-    way.clear();
-    closes
-}
-
-/// A link that would put the parent below itself.
-fn cycle(records: &Records, way: &mut Way, parent: u16, child: u16) -> Option<Fault>
-    requires way { way.old ≡ [] }
-    requires sound { IsSound records.now.slots }
-    requires low { AreLow (look_of records.now.slots) }
-    ensures fault { result ≡ cycle (nodes_of records.now.slots) parent child }
-    ensures way { way.new ≡ [] }
-{
-    if closes_cycle(records, way, parent, child) {
+    if way.contains(child) {
         Some(Fault::Cycle(parent, child))
     } else {
         None
@@ -125,12 +108,9 @@ fn fault_of_link(records: &Records, parent: u16, child: u16) -> Option<Fault>
 }
 
 /// A link that would put the parent below itself, or to a parent that has 256 children.
-fn cycle_or_full(records: &Records, way: &mut Way, parent: u16, child: u16) -> Option<Fault>
-    requires way { way.old ≡ [] }
-    requires sound { IsSound records.now.slots }
-    requires low { AreLow (look_of records.now.slots) }
-    ensures fault { result ≡ first (room_rules (nodes_of records.now.slots) parent child) }
-    ensures way { way.new ≡ [] }
+fn cycle_or_full(records: &Records, way: &Way, parent: u16, child: u16) -> Option<Fault>
+    requires { IsUpFrom (look_of records.now.slots) way.now parent }
+    ensures { result ≡ first (room_rules (nodes_of records.now.slots) parent child) }
 {
     if let Some(fault) = cycle(records, way, parent, child) {
         return Some(fault);
@@ -139,17 +119,9 @@ fn cycle_or_full(records: &Records, way: &mut Way, parent: u16, child: u16) -> O
 }
 
 /// The fault of an Add that does not speak of the graph after it.
-pub(crate) fn fault_of_add(
-    records: &Records,
-    way: &mut Way,
-    parent: u16,
-    child: u16,
-) -> Option<Fault>
-    requires way { way.old ≡ [] }
-    requires sound { IsSound records.now.slots }
-    requires low { AreLow (look_of records.now.slots) }
-    ensures fault { result ≡ first (add_rules (nodes_of records.now.slots) parent child) }
-    ensures way { way.new ≡ [] }
+pub(crate) fn fault_of_add(records: &Records, way: &Way, parent: u16, child: u16) -> Option<Fault>
+    requires { IsUpFrom (look_of records.now.slots) way.now parent }
+    ensures { result ≡ first (add_rules (nodes_of records.now.slots) parent child) }
 {
     if let Some(fault) = fault_of_link(records, parent, child) {
         return Some(fault);
@@ -160,16 +132,13 @@ pub(crate) fn fault_of_add(
 /// The fault of an Insert that does not speak of the graph after it.
 pub(crate) fn fault_of_insert(
     records: &Records,
-    way: &mut Way,
+    way: &Way,
     parent: u16,
     place: u16,
     child: u16,
 ) -> Option<Fault>
-    requires way { way.old ≡ [] }
-    requires sound { IsSound records.now.slots }
-    requires low { AreLow (look_of records.now.slots) }
-    ensures fault { result ≡ first (insert_rules (nodes_of records.now.slots) parent place child) }
-    ensures way { way.new ≡ [] }
+    requires { IsUpFrom (look_of records.now.slots) way.now parent }
+    ensures { result ≡ first (insert_rules (nodes_of records.now.slots) parent place child) }
 {
     if let Some(fault) = fault_of_link(records, parent, child) {
         return Some(fault);
@@ -215,16 +184,13 @@ fn fault_of_swap(records: &Records, parent: u16, child: u16, by: u16) -> Option<
 /// The fault of a Replace that does not speak of the graph after it.
 pub(crate) fn fault_of_replace(
     records: &Records,
-    way: &mut Way,
+    way: &Way,
     parent: u16,
     child: u16,
     by: u16,
 ) -> Option<Fault>
-    requires way { way.old ≡ [] }
-    requires sound { IsSound records.now.slots }
-    requires low { AreLow (look_of records.now.slots) }
-    ensures fault { result ≡ first (replace_rules (nodes_of records.now.slots) parent child by) }
-    ensures way { way.new ≡ [] }
+    requires { IsUpFrom (look_of records.now.slots) way.now parent }
+    ensures { result ≡ first (replace_rules (nodes_of records.now.slots) parent child by) }
 {
     if let Some(fault) = fault_of_swap(records, parent, child, by) {
         return Some(fault);

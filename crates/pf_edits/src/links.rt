@@ -18,7 +18,6 @@ use crate::records::Records;
 use crate::way::Way;
 use pf_io::NoMemory;
 use pf_model::{Fault, Ids};
-use std::mem;
 
 /// Puts other children into a node, and hands back those that stood there.
 fn swap_children(records: &mut Records, id: u16, children: Ids) -> Ids
@@ -30,12 +29,8 @@ fn swap_children(records: &mut Records, id: u16, children: Ids) -> Ids
     ensures parents { (b : ℕ) → parents_of records.new.slots b ≡ parents_of records.old.slots b }
     ensures extents { (b : ℕ) → extent_at records.new.slots b ≡ extent_at records.old.slots b }
 {
-    match records.take(id) {
-        Some(mut record) => {
-            let older = mem::replace(&mut record.node.children, children);
-            records.put(id, record);
-            older
-        }
+    match records.swap_children(id, children) {
+        Some(older) => older,
         None => unreachable!(),
     }
 }
@@ -95,7 +90,12 @@ pub(crate) fn relink_freely(
 /// The fault of depth or size that a graph would have where a node had other children, with which its extent is known,
 /// by the extents along a way up from it. All stays as it is. Where there is no room for sure, the extents are set as
 /// after the change, and then back.
-fn fault_along(records: &mut Records, way: &[u16], id: u16, extent: Extent) -> Option<Fault>
+pub(crate) fn fault_along(
+    records: &mut Records,
+    way: &[u16],
+    id: u16,
+    extent: Extent,
+) -> Option<Fault>
     requires sound { IsSound records.old.slots }
     requires low { AreLow (look_of records.old.slots) }
     requires small { (b : ℕ) → size_of (look_of records.old.slots) b ≤ 131072 }
@@ -118,33 +118,6 @@ fn fault_along(records: &mut Records, way: &[u16], id: u16, extent: Extent) -> O
     set_along(records, way, id, extent);
     let fault = excess(records, way);
     set_along(records, way, id, before);
-    fault
-}
-
-/// The fault of depth or size that a graph would have where a node had other children, with which its extent is known. All
-/// stays as it is.
-pub(crate) fn fault_with(
-    records: &mut Records,
-    way: &mut Way,
-    id: u16,
-    extent: Extent,
-) -> Option<Fault>
-    requires way { way.old ≡ [] }
-    requires sound { IsSound records.old.slots }
-    requires low { AreLow (look_of records.old.slots) }
-    requires small { (b : ℕ) → size_of (look_of records.old.slots) b ≤ 131072 }
-    requires there { is_some (look_of records.old.slots id) ≡ true }
-    ensures fault { (cs : List ℕ) → extent ≡ reckoned (extent_at records.old.slots) cs
-        → ((x : ℕ) → is_in x cs ≡ true → (x == id || is_below (look_of records.old.slots) x id) ≡ false)
-        → result ≡ first (size_rules (change id (with_children cs) (nodes_of records.old.slots))) }
-    ensures way { way.new ≡ [] }
-    ensures nodes { (b : ℕ) → look_of records.new.slots b ≡ look_of records.old.slots b }
-    ensures parents { (b : ℕ) → parents_of records.new.slots b ≡ parents_of records.old.slots b }
-    ensures sound { IsSound records.new.slots }
-{
-    climb(records, way, id);
-    let fault = fault_along(records, way.as_slice(), id, extent);
-    way.clear();
     fault
 }
 

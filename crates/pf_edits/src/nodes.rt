@@ -12,7 +12,6 @@ use crate::extents::LEAF;
 use crate::parents::Parents;
 use crate::records::{Record, Records};
 use pf_model::{Kind, Node};
-use std::mem;
 
 /// Puts a node under an id that has none and that is no node's child.
 pub(crate) fn insert(records: &mut Records, id: u16, node: Node, parents: Parents)
@@ -60,12 +59,8 @@ pub(crate) fn swap_kind(records: &mut Records, id: u16, kind: Kind) -> Kind
     ensures parents { (b : ℕ) → parents_of records.new.slots b ≡ parents_of records.old.slots b }
     ensures sound { IsSound records.new.slots }
 {
-    match records.take(id) {
-        Some(mut record) => {
-            let older = mem::replace(&mut record.node.kind, kind);
-            records.put(id, record);
-            older
-        }
+    match records.swap_kind(id, kind) {
+        Some(older) => older,
         None => unreachable!(),
     }
 }

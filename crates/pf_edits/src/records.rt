@@ -1,19 +1,20 @@
 //! The records of the working graph: a node a record, found by its id in one step.
-ghost use Rattle.std.specs.Prelude.{◌≡◌, ◌<◌, ◌≤◌, ◌==◌, if◌then◌else◌, Some, None, is_some, IsSome, OnSome, IfOk, slice_index_or, length, count_by, ℕ};
+ghost use Rattle.std.specs.Prelude.{◌≡◌, ◌<◌, ◌≤◌, ◌==◌, if◌then◌else◌, Some, None, is_some, IsSome, OnSome, IfOk, slice_index_or, length, count_by, ℕ, true};
 ghost use Rattle.std.specs.Option.{option_copied, option_map};
 ghost use Rattle.slab.specs.Slab.{get, slab_len, Updates};
 ghost use Rattle.pf_model.specs.Totals.{triangles_of};
 ghost use Rattle.pf_edits.specs.Tables.{record_at, triangles_in};
-ghost use Rattle.pf_edits.specs.Extents.{with_extent};
+ghost use Rattle.pf_edits.specs.Extents.{with_extent, children_in, with_child_list, kind_in, with_other_kind};
 
 use crate::extents::Extent;
 use crate::keys::Keys;
 use crate::parents::Parents;
 use pf_io::NoMemory;
-use pf_model::{Kind, Node};
+use pf_model::{Ids, Kind, Node};
 use slab::Slab;
 use std::alloc::Global;
 use std::marker::Model;
+use std::mem;
 
 /// A node with the nodes that have it as a child, and its extent.
 #[derive(Debug, Drop)]
@@ -124,6 +125,65 @@ impl Records {
         if let Some(key) = self.keys.get(id) {
             write_extent(&mut self.slab, key, extent);
         }
+    }
+
+    /// Puts other children into the node of an id. Returns those that stood there, or `None` if the id has no node.
+    pub(crate) fn swap_children(&mut self, id: u16, children: Ids) -> Option<Ids>
+        ensures back { result ≡ option_map children_in (record_at self.old.slots id) }
+        ensures after { (b : ℕ) → record_at self.new.slots b
+            ≡ (if b == id then option_map (with_child_list children) (record_at self.old.slots b)
+            else record_at self.old.slots b) }
+    {
+        match self.keys.get(id) {
+            Some(key) => write_children(&mut self.slab, key, children),
+            None => None,
+        }
+    }
+
+    /// Puts another kind into the node of an id. Returns the one that stood there, or `None` if the id has no node.
+    pub(crate) fn swap_kind(&mut self, id: u16, kind: Kind) -> Option<Kind>
+        ensures back { result ≡ option_map kind_in (record_at self.old.slots id) }
+        ensures after { (b : ℕ) → record_at self.new.slots b
+            ≡ (if b == id then option_map (with_other_kind kind) (record_at self.old.slots b)
+            else record_at self.old.slots b) }
+    {
+        let more = triangles(&kind);
+        match self.keys.get(id) {
+            Some(key) => {
+                let older = write_kind(&mut self.slab, key, kind);
+                self.tris -= triangles(&older);
+                self.tris += more;
+                Some(older)
+            }
+            None => None,
+        }
+    }
+}
+
+/// Puts other children into the node under a key. Returns those that stood there, or `None` if the key has no node.
+fn write_children(slab: &mut Slab<Record>, key: usize, children: Ids) -> Option<Ids>
+    ensures back { result ≡ option_map children_in (get slab.old key) }
+    ensures updates { Updates slab.old slab.new key (option_map (with_child_list children) (get slab.old key)) }
+    ensures len { slab_len slab.new ≡ slab_len slab.old }
+    ensures capacity { slab.new.capacity ≡ slab.old.capacity }
+{
+    match slab.get_mut(key) {
+        Some(record) => Some(mem::replace(&mut record.node.children, children)),
+        None => None,
+    }
+}
+
+/// Puts another kind into the node under a key. Returns the one that stood there.
+fn write_kind(slab: &mut Slab<Record>, key: usize, kind: Kind) -> Kind
+    requires { is_some (get slab.old key) ≡ true }
+    ensures back { option_map kind_in (get slab.old key) ≡ Some result }
+    ensures updates { Updates slab.old slab.new key (option_map (with_other_kind kind) (get slab.old key)) }
+    ensures len { slab_len slab.new ≡ slab_len slab.old }
+    ensures capacity { slab.new.capacity ≡ slab.old.capacity }
+{
+    match slab.get_mut(key) {
+        Some(record) => mem::replace(&mut record.node.kind, kind),
+        None => unreachable!(),
     }
 }
 

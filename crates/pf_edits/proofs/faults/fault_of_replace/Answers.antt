@@ -4,7 +4,7 @@ use Rattle.pf_model.proofs.Rules.{first_stops}
 use Rattle.pf_edits.specs.Listed.{nodes_of}
 use Rattle.pf_edits.proofs.faults.fault_of_replace.Goals as goal
 
-pub returns-in-Some-clause-fault : goal.returns-in-Some-clause-fault
-returns-in-Some-clause-fault c =
+pub returns-in-Some : goal.returns-in-Some
+returns-in-Some c =
     let a = c.args in
     sym (first_stops (swap_rules (nodes_of a.records.now.slots) a.parent a.child a.by) (cycle (nodes_of a.records.now.slots) a.parent a.by ∷ []) c.in-Some.fault c.in-Some.ensures)

@@ -1,39 +1,19 @@
-use Rattle.std.proofs.Common.{◌≡◌, ◌||◌, ◌==◌, None, false, refl, sym, ◌∙◌, rules}
-use Rattle.std.specs.List.{insert}
-use Rattle.pf_model.specs.declared.edits.Edit.TheVariants as edit
-use Rattle.pf_model.specs.declared.edits.Fault.TheVariants as fault
-use Rattle.pf_model.specs.Graphs.{SceneGraph, node_at, children_of, is_below}
-use Rattle.pf_model.specs.Edits.{first, insert_rules, size_rules, effect}
-use Rattle.pf_model.proofs.Rules.{first_stops, all_passed, when_not, there_from}
-use Rattle.pf_edits.specs.Working.{told}
-use Rattle.pf_edits.proofs.Works.{low_of, none_above_parent}
-use Rattle.pf_edits.proofs.Ends.{insert_is, fault_is, inserted_members}
-use Rattle.pf_edits.proofs.Trials.{lengthened_is}
+use Rattle.std.proofs.Common.{sym, subst}
+use Rattle.pf_model.specs.Limits.{IsGraphWithinLimits}
+use Rattle.pf_edits.specs.Extents.{look_of}
+use Rattle.pf_edits.proofs.Works.{low_of, way_up}
 use Rattle.pf_edits.proofs.work.Work.judge_insert.Goals as goal
 
-pub fault_of_insert-requires-clause-low : goal.fault_of_insert-requires-clause-low
-fault_of_insert-requires-clause-low c = low_of c.args.self.now c.requires.working
+pub climb-requires-clause-low : goal.climb-requires-clause-low
+climb-requires-clause-low c = low_of c.args.self.now c.requires.working
 
-pub returns-in-Some-clause-fault : goal.returns-in-Some-clause-fault
-returns-in-Some-clause-fault c =
-    let g : SceneGraph = told c.args.self.now in
-    sym (first_stops (insert_rules g.nodes c.args.parent c.args.place c.args.child) (size_rules (effect g (edit.Insert c.args.parent c.args.place c.args.child)).nodes) c.in-Some.fault (sym c.in-Some.is ∙ c.fault_of_insert.ensures.fault))
+pub judge_insert_along-fault-requires-clause-above : goal.judge_insert_along-fault-requires-clause-above
+judge_insert_along-fault-requires-clause-above c =
+    way_up (look_of c.args.self.now.records.slots) c.args.self.now.way c.climb.new.way c.args.parent c.requires.working.free c.climb.ensures.leads c.climb.ensures.member c.climb.ensures.above
 
-pub size_fault-requires-clause-there : goal.size_fault-requires-clause-there
-size_fault-requires-clause-there c =
-    let g : SceneGraph = told c.args.self.now in
-    let none : None ≡ first (insert_rules g.nodes c.args.parent c.args.place c.args.child) = search rules in
-    there_from g.nodes c.args.parent (all_passed (insert_rules g.nodes c.args.parent c.args.place c.args.child) none).0
-
-pub returns-clause-fault : goal.returns-clause-fault
-returns-clause-fault c =
-    let w = c.args.self.now in
-    let g : SceneGraph = told c.args.self.now in
-    let none : None ≡ first (insert_rules g.nodes c.args.parent c.args.place c.args.child) = search rules in
-    let apart : (c.args.child == c.args.parent || is_below (node_at g.nodes) c.args.child c.args.parent) ≡ false =
-    when_not (c.args.child == c.args.parent || is_below (node_at g.nodes) c.args.child c.args.parent) (fault.Cycle c.args.parent c.args.child) (all_passed (insert_rules g.nodes c.args.parent c.args.place c.args.child) none).1.1.1.1.1.0 in
-    c.size_fault.ensures.fault (insert (children_of (node_at g.nodes) c.args.parent) c.args.place c.args.child)
-    (c.lengthened_extent-extent.ensures ∙ lengthened_is w.records.slots c.requires.working.sound c.args.parent c.args.place c.args.child)
-    (none_above_parent w.records.slots w.records.slots c.args.parent c.args.child (insert (children_of (node_at g.nodes) c.args.parent) c.args.place c.args.child) (low_of w c.requires.working) (λ b. refl)
-    (inserted_members (children_of (node_at g.nodes) c.args.parent) c.args.place c.args.child (insert (children_of (node_at g.nodes) c.args.parent) c.args.place c.args.child) refl) apart)
-    ∙ sym (fault_is g (edit.Insert c.args.parent c.args.place c.args.child) (insert_rules g.nodes c.args.parent c.args.place c.args.child) c.args.parent (insert (children_of (node_at g.nodes) c.args.parent) c.args.place c.args.child) (insert_is g c.args.parent c.args.place c.args.child (insert (children_of (node_at g.nodes) c.args.parent) c.args.place c.args.child) none refl) none refl)
+pub returns-clause-working : goal.returns-clause-working
+returns-clause-working c = record {
+  sound = c.judge_insert_along-fault.ensures.sound;
+  free = c.clear.ensures;
+  within = subst IsGraphWithinLimits (sym c.judge_insert_along-fault.ensures.told) c.requires.working.within;
+}
