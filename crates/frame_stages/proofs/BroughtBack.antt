@@ -160,6 +160,7 @@ found_none k a f seen told taken taken' told_sent sink sink' ends same none stil
         told = refl;
         ends = ap (λ (t : List Packet). with_back t told_sent sink' ends) none ∙ ap (λ (s : SinkSide). with_back taken told_sent s ends) still;
       };
+      seen = refl;
       dry = dry;
     }
 

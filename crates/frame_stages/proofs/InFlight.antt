@@ -7,9 +7,7 @@ use Rattle.stage_parts.specs.declared.packets.Packet.TheVariants.{Frame, End}
 use Rattle.stage_parts.specs.Loads.{LoadState, Each}
 use Rattle.stage_parts.specs.Parts.{cut_short}
 use Rattle.stage_parts.proofs.Sizes.{each_push}
-use Rattle.draw_list.specs.declared.stats.Stats.{Stats}
-use Rattle.told_log.specs.Lists.{Entries, HasTold}
-use Rattle.frame_stages.specs.Flights.{FlightState, SinkSide, HaveFirst, IsInFlight, TellsNext, IsKeptOf, CameBack, CameShort}
+use Rattle.frame_stages.specs.Flights.{FlightState, SinkSide, HaveFirst, IsInFlight, IsKeptOf, CameBack, CameShort}
 
 module _ (frames written ahead : ℕ) (fault : Option ℕ) (spare : List LoadState) (hold lists stats room : ℕ) where
   -- one more picture was written
@@ -114,13 +112,3 @@ came_cut load old mid new n bytes sink sink' is kept same all wrote rose last =
       rose = rose;
       last = last;
     }
-
--- the next numbers are told
-pub told_next : (old new : Entries Stats) (r : Option Stats) → HasTold old new r → TellsNext old.entries old.told new.told r
-told_next old new (Some numbers) (all, told, rest) = (told, rest)
-told_next old new None (all, told, end) = (told, end)
-
--- and all numbers stay
-pub stay_told : (old new : Entries Stats) (r : Option Stats) → HasTold old new r → new.entries ≡ old.entries
-stay_told old new (Some numbers) (all, told, rest) = all
-stay_told old new None (all, told, end) = all

@@ -50,9 +50,10 @@ pub record BringsBack (k : ℕ) (result : Result Did StageError) (old new : AppW
   pub many : length after.ends.taken ≡ length before.ends.taken + 1
   pub says : SaysBack result old new before after
 
--- Nothing was taken back: nothing changed, and no frame is away or no packet came.
+-- Nothing was taken back: nothing changed, the log seen is as before, and no frame is away or no packet came.
 pub record FindsNone (k : ℕ) (old new : AppWork) (before after : Around) : Type 0 where
   pub idle : IsIdle k old new before after
+  pub seen : after.seen ≡ before.seen
   pub dry : old.state.written < old.state.frames → IsDry before.ends.told_sent before.ends.taken
 
 -- what taking a packet back answers

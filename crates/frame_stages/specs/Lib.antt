@@ -12,6 +12,7 @@ pub mod DbaseAnswers
 pub mod Scripts
 pub mod AppTurns
 pub mod Flights
+pub mod Numbers
 pub mod AppWorks
 pub mod Copies
 pub mod AppAnswers

@@ -97,16 +97,28 @@ impl AppStage {
         })
     }
 
-    /// The numbers of the frames that came back and were not told, in order: two slices, of which the second goes on where
-    /// the first ends. Where none were told, these are all.
-    pub fn untold_stats(&self) -> (&[Stats], &[Stats])
-        ensures { result.0.now ++ result.1.now ≡ drop self.now.told self.now.state.stats }
+    /// The numbers of the frames that came back and were not told, in order. Where none were told, these are all.
+    ///
+    /// Beside these, memory holds the numbers of at most as many frames that were told. Room once made for numbers
+    /// stays.
+    pub fn stats(&self) -> &[Stats]
+        ensures { result.now ≡ drop self.now.told self.now.state.stats }
     {
-        self.parts.flight.untold_stats()
+        self.parts.flight.stats()
     }
 
-    /// Tells the numbers of the oldest frame that came back and was not told: hands them out, and forgets them. Returns None
-    /// where all were told.
+    /// The number of frames that came back, whether their numbers were told or not. It is kept, and not counted anew.
+    pub fn frames_back(&self) -> usize
+        ensures { result ≡ length self.now.state.stats }
+    {
+        self.parts.flight.frames_back()
+    }
+
+    /// Tells the numbers of the oldest frame that came back and was not told: hands them out. Returns None where all
+    /// were told.
+    ///
+    /// Numbers that were told leave memory once they are more than half of those held. So a call takes constant time on
+    /// average.
     pub fn take_stats(&mut self) -> Option<Stats>
         ensures tells { TellsNext self.old.state.stats self.old.told self.new.told result }
         ensures same { self.new ≡ record self.old { told = self.new.told } }

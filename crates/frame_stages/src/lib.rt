@@ -18,6 +18,7 @@ mod next_line;
 mod painting;
 mod script;
 mod taking_back;
+mod told_stats;
 
 pub use app_stage::AppStage;
 pub use cull_stage::CullStage;

@@ -12,6 +12,7 @@ ghost use Rattle.pf_scene.specs.Acts.{MaySync};
 ghost use Rattle.frame_stages.specs.Flights.{HaveFirst, IsFitFor, begun, most_frames, IsTaken, TellsNext, IsKeptOf, CameBack, CameShort, Brings};
 
 use crate::app_turns::{Came, make_sync};
+use crate::told_stats::ToldStats;
 use draw_list::{DrawList, Stats};
 use frame_link::TakeEnd;
 use fx_math::Lens;
@@ -22,7 +23,6 @@ use seat_lock::Desk;
 use stage_parts::{Load, Packet};
 use std::alloc::Global;
 use std::marker::Model;
-use told_log::ToldLog;
 use update_lists::Updates;
 
 /// What came of bringing a packet back.
@@ -45,7 +45,7 @@ pub(crate) struct Flight {
     fault: Option<usize>,
     spare: Vec<Load>,
     home: Vec<Updates>,
-    stats: ToldLog<Stats>,
+    stats: ToldStats,
     ahead: u8,
 }
 
@@ -168,7 +168,7 @@ impl Flight {
             fault: None,
             spare,
             home,
-            stats: ToldLog::new(alloc),
+            stats: ToldStats::new(alloc),
             ahead,
         })
     }
@@ -215,15 +215,21 @@ impl Flight {
         self.fault.is_some()
     }
 
-    /// The numbers of the frames that came back and were not told, in order: two slices, of which the second goes on where
-    /// the first ends.
-    pub(crate) fn untold_stats(&self) -> (&[Stats], &[Stats])
-        ensures { result.0.now ++ result.1.now ≡ drop self.now.told self.now.stats }
+    /// The numbers of the frames that came back and were not told, in order.
+    pub(crate) fn stats(&self) -> &[Stats]
+        ensures { result.now ≡ drop self.now.told self.now.stats }
     {
         self.stats.untold()
     }
 
-    /// Tells the oldest numbers that were not told: hands them out, and forgets them. Returns None where all were told.
+    /// The number of frames that came back.
+    pub(crate) fn frames_back(&self) -> usize
+        ensures { result ≡ length self.now.stats }
+    {
+        self.stats.len()
+    }
+
+    /// Tells the oldest numbers that were not told: hands them out. Returns None where all were told.
     pub(crate) fn take_stats(&mut self) -> Option<Stats>
         ensures tells { TellsNext self.old.stats self.old.told self.new.told result }
         ensures same { self.new ≡ record self.old { told = self.new.told } }
