@@ -7,7 +7,7 @@ ghost use Rattle.depth_raster.specs.Slots.{AreNumbered, AreSlotted};
 use crate::faces::Face;
 use crate::goes::Go;
 use crate::piece_buffer::{PieceBuffer, ROOM};
-use crate::slots::{Slot, complete, sort};
+use crate::slots::{Slot, complete, reach_many_strips, sort};
 use crate::waiting::Waiting;
 use crate::work::{Processors, others_to_prepare, processors_to_make_ready};
 use draw_list::DrawList;
@@ -185,8 +185,8 @@ impl Batch {
         self.numbered = self.slots.len();
     }
 
-    /// Sorts the slots by the least depths of their pieces, where one processor draws the strips. Where there are several, who draws a
-    /// strip sorts its slots.
+    /// Sorts the slots by the least depths of their pieces, where one processor draws the strips and a slot reaches more than one of
+    /// them on average. Else the slots of each strip are sorted alone, which costs less where slots reach few strips.
     pub(crate) fn sort_slots(&mut self, processors: usize)
         ensures first { self.new.is_first ≡ self.old.is_first }
         ensures pieces { self.new.pieces ≡ self.old.pieces }
@@ -194,7 +194,7 @@ impl Batch {
         ensures slots { (lens : Lens) (ps : List Piece) → AreSlotsOf lens ps self.old.slots.items
             → AreSlotsOf lens ps self.new.slots.items }
     {
-        if processors < 2 {
+        if processors < 2 && reach_many_strips(&self.slots) {
             self.slotted = 0;
             self.numbered = 0;
             sort(&mut self.slots);

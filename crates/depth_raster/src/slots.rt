@@ -8,6 +8,7 @@ ghost use Rattle.depth_raster.specs.Slots.{AreNumbered, AreSlotsOf, AreSlotted};
 ghost use Rattle.depth_raster.specs.declared.pieces.Piece.{Piece};
 
 use crate::pieces::Piece;
+use crate::strips::ROWS;
 
 /// A piece by its place among those that are drawn together, with the columns and rows that it can reach and the least depth
 /// that a mark of it can have.
@@ -83,6 +84,15 @@ pub(crate) fn complete(slots: &mut Vec<Slot>, pieces: &[Piece])
         slot.take(&pieces[index]);
         slots.push_reserved(slot);
     }
+}
+
+/// Whether slots reach the rows of more strips than there are slots. Rows are counted, so that this is rough.
+pub(crate) fn reach_many_strips(slots: &[Slot]) -> bool {
+    let mut rows: u64 = 0;
+    for slot in slots {
+        rows = rows.wrapping_add(u64::from(slot.bottom.saturating_sub(slot.top)));
+    }
+    rows / u64::from(ROWS) > slots.len() as u64
 }
 
 /// Sorts the slots of pieces by the least depths of their marks, which changes nothing of what they draw. It takes little where
