@@ -7,12 +7,12 @@ use Rattle.pf_history.specs.Logs.{Log, is_by}
 use Rattle.pf_history.specs.Asks.{Turn, asked_app, asked_dbase, Follows, FollowsBase}
 use Rattle.pf_history.specs.Fits.{turns_at}
 use Rattle.pf_history.proofs.Turns.{seat_law}
-use Rattle.play_format.specs.Plays.{Script, IsPlay}
+use Rattle.play_format.specs.Plays.{Script}
 use Rattle.stage_parts.specs.States.{AppState, DbaseState, still_asked, still_asked_dbase}
 use Rattle.stage_parts.specs.Loads.{Each}
 use Rattle.stage_parts.specs.Laws.{HasEditsInRange}
 use Rattle.stage_parts.proofs.Places.{each_all}
-use Rattle.pipe_plays.specs.Plays.{setup_of}
+use Rattle.pipe_plays.specs.Plays.{setup_of, IsLivePlay}
 use Rattle.pipe_plays.proofs.Ranges.{asked_right, merges_right, log_right}
 
 -- Each entry of the application has the number of its seat, each merge that of DBASE's, and what was made of each section is
@@ -24,7 +24,7 @@ pub record FollowBoth (play : Script) (ahead app_seat base_seat : ℕ) (app : Ap
       (still_asked (setup_of play ahead) app)
   pub base_follows : FollowsBase (asked_dbase play.dbase) (turns_at play.channels base_seat Dbase log) (still_asked_dbase play.dbase base)
 
-pub edits_in_range : (play : Script) (ahead app_seat base_seat : ℕ) (app : AppState) (base : DbaseState) (log : Log) → IsPlay play →
+pub edits_in_range : (play : Script) (ahead app_seat base_seat : ℕ) (app : AppState) (base : DbaseState) (log : Log) → IsLivePlay play →
     FollowBoth play ahead app_seat base_seat app base log → HasEditsInRange log
 edits_in_range play ahead app_seat base_seat app base log is both =
     let all_app = (seat_law play.channels app_seat App log).all

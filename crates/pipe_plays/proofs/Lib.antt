@@ -1,3 +1,4 @@
+pub mod Plays
 pub mod Counts
 pub mod Ranges
 pub mod Shows

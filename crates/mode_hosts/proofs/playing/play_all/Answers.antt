@@ -4,6 +4,7 @@ use Rattle.pf_history.specs.Logs.{Log}
 use Rattle.pipe_plays.specs.declared.played.PlayEnd.TheVariants as ends
 use Rattle.pipe_plays.specs.Plays.{CanRun, setup_of}
 use Rattle.pipe_plays.specs.Played.{LeavesPipe, StaysWhole}
+use Rattle.pipe_plays.proofs.Plays.{may_grow}
 use Rattle.mode_hosts.specs.declared.seats.AppSeat.{AppSeat}
 use Rattle.mode_hosts.specs.Seats.{cull_site, draw_site, dbase_site, probe_site}
 use Rattle.mode_hosts.specs.Crews.{all_of}
@@ -38,7 +39,7 @@ returns-in-Ok g c =
     let play = c.args.play in
     let setup = c.args.setup.now in
     let ahead = setup.ahead in
-    let can : CanRun play ahead = record { is_play = c.in-Ok.ensures.play; few_ahead = (c.requires.some, c.requires.few) } in
+    let can : CanRun play ahead = record { is_play = may_grow play c.in-Ok.ensures.play; few_ahead = (c.requires.some, c.requires.few) } in
     let run = c.run_all-app.ensures in
     let ended = c.run_all-app.result in
     let seats = c.seats_of-seats.result in
@@ -81,7 +82,7 @@ pub returns-in-Err : goal.returns-in-Err
 returns-in-Err g c =
     let play = c.args.play in
     let ahead = c.args.setup.now.ahead in
-    let can : CanRun play ahead = record { is_play = c.in-Err.ensures.play; few_ahead = (c.requires.some, c.requires.few) } in
+    let can : CanRun play ahead = record { is_play = may_grow play c.in-Err.ensures.play; few_ahead = (c.requires.some, c.requires.few) } in
     let bytes = g.O.Sink.written c.args.frames.now in
     let pipe : LeavesPipe play ahead own_seats ends.NoMemory c.new.result.entries c.new-in-Err.result.items bytes bytes =
     subst (λ (stats : List Stats). LeavesPipe play ahead own_seats ends.NoMemory c.new.result.entries stats bytes bytes) (sym c.new-in-Err.ensures.items)
