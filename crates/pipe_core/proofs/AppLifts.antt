@@ -1,35 +1,26 @@
 -- The poll of APP keeps what the pipe keeps.
-use Rattle.std.proofs.Common.{◌≡◌, ◌⊎◌, ℕ, zero, suc, ◌+◌, ◌<◌, ◌≤◌, ◌==◌, Bool, true, false, cond, ◌&&◌, ◌||◌, List, [], ◌∷◌, ◌++◌, map, drop, length, is_some, slice_get, Option, Some, None, Result, Ok, Err, inl, inr, refl, sym, ap, ◌∙◌, subst, append_assoc, arith}
-use Rattle.std.proofs.lemmas.Bool.{and_from, or_parts}
-use Rattle.std.proofs.lemmas.List.{append-nil, append_cancel_left, length-append, length_push, nil_from_length}
+use Rattle.std.proofs.Common.{◌≡◌, ◌⊎◌, ℕ, zero, suc, ◌+◌, ◌<◌, ◌≤◌, ◌==◌, Bool, true, false, ◌&&◌, ◌||◌, List, [], ◌∷◌, ◌++◌, drop, length, is_some, slice_get, Option, Some, None, Result, Ok, Err, inl, inr, refl, sym, ap, ◌∙◌, subst, append_assoc, arith}
+use Rattle.std.proofs.lemmas.Bool.{or_parts}
+use Rattle.std.proofs.lemmas.List.{append-nil, append_cancel_left, length_push}
 use Rattle.std.proofs.lemmas.Option.{same_Some}
 use Rattle.std.specs.Option.{option_map, MatchOption}
 use Rattle.std.specs.List.{AllByRecursion}
 use Rattle.seat_lock.specs.Log.{of}
-use Rattle.pf_model.specs.declared.edits.Edit.{Edit}
 use Rattle.pf_model.specs.declared.lines.AppLine.{AppLine}
 use Rattle.pf_model.specs.declared.lines.AppStep.{AppStep}
 use Rattle.pf_model.specs.declared.lines.AppStep.TheVariants as app
-use Rattle.pf_model.specs.Angles.{Viewpoint}
 use Rattle.pf_history.specs.declared.commands.Caller.{Caller}
 use Rattle.pf_history.specs.declared.commands.Caller.TheVariants.{App, Dbase}
-use Rattle.pf_history.specs.declared.commands.Command.{Command}
-use Rattle.pf_history.specs.declared.commands.Command.TheVariants as command
 use Rattle.pf_history.specs.declared.commands.Entry.{Entry}
-use Rattle.pf_history.specs.Commands.{caller_of, is_frame}
-use Rattle.pf_history.specs.Objects.{FrameState, opening_state, next_state}
-use Rattle.pf_history.specs.Logs.{Log, state_of, IsLegal, IsLegalFrom, is_caller, is_by}
+use Rattle.pf_history.specs.Objects.{opening_state}
+use Rattle.pf_history.specs.Logs.{Log, state_of, IsLegal, is_caller}
 use Rattle.pf_history.specs.Asks.{asked_dbase, is_at}
 use Rattle.pf_history.proofs.Counting.{never_fall_law, counts_law}
 use Rattle.play_format.specs.Plays.{Script}
 use Rattle.pf_scene.specs.Scenes.{Shared, SceneState}
-use Rattle.pf_scene.specs.Acts.{MayEdit, MayView, MaySync, MayFrame}
 use Rattle.stage_parts.specs.declared.packets.Packet.{Packet}
-use Rattle.stage_parts.specs.Loads.{Each}
-use Rattle.stage_parts.specs.Packets.{bytes_in, LinkPart}
+use Rattle.stage_parts.specs.Packets.{LinkPart}
 use Rattle.stage_parts.specs.Frames.{RetiresJust}
-use Rattle.stage_parts.specs.Pictures.{streamed}
-use Rattle.stage_parts.specs.States.{AppState}
 use Rattle.stage_parts.specs.Parts.{AppKeeps, DbaseKeeps}
 use Rattle.stage_parts.proofs.Gathering.{gathering_law}
 use Rattle.stage_parts.proofs.DbaseSteps.{dbase_law}
@@ -49,8 +40,8 @@ use Rattle.frame_stages.specs.AppAnswers.{Around, around, AppAdds, AppAnswers, I
 use Rattle.frame_stages.specs.DbaseWorks.{dbase_state}
 use Rattle.frame_stages.proofs.Spares.{none_in_hand}
 use Rattle.pipe_core.specs.declared.events.Event.TheVariants as event
-use Rattle.pipe_plays.specs.Plays.{CanRun, setup_of}
-use Rattle.pipe_core.specs.Cores.{CoreState, CoreFits, one_seat}
+use Rattle.pipe_plays.specs.Plays.{setup_of}
+use Rattle.pipe_core.specs.Cores.{CoreFits, one_seat}
 use Rattle.pipe_core.specs.Waits.{SyncMustWait, FrameMustWait, CloseMustWait, StepMustWait, MustWait, IsLineFull, IsOver, shared_of}
 use Rattle.stage_parts.specs.Moves.{moved}
 use Rattle.pipe_core.specs.Pipes.{PipeWork, core_of, PipeKeeps, Answers, polled_caller, AddsAtMostOne, IsWritten, AppLifted}

@@ -1,12 +1,11 @@
 -- Taking a picture back keeps what the pipe keeps.
-use Rattle.std.proofs.Common.{◌≡◌, ℕ, ◌+◌, ◌<◌, ◌≤◌, Bool, true, false, List, length, Option, Some, None, Result, Ok, Err, refl, sym, ap, ◌∙◌, subst, arith}
+use Rattle.std.proofs.Common.{◌≡◌, ℕ, true, false, List, length, Option, Some, Result, Ok, Err, sym, ap, ◌∙◌, subst, arith}
 use Rattle.std.proofs.lemmas.Option.{same_Some}
 use Rattle.pf_history.specs.Logs.{Log, IsLegal}
 use Rattle.play_format.specs.Plays.{Script}
 use Rattle.pf_scene.specs.Scenes.{SceneState}
 use Rattle.stage_parts.specs.declared.packets.Packet.{Packet}
 use Rattle.stage_parts.specs.Packets.{LinkPart}
-use Rattle.stage_parts.specs.Moves.{moved}
 use Rattle.stage_parts.specs.declared.answers.Did.{Did}
 use Rattle.stage_parts.specs.declared.answers.Did.TheVariants as did
 use Rattle.stage_parts.specs.declared.answers.StageError.{StageError}
@@ -15,10 +14,9 @@ use Rattle.frame_stages.specs.Flights.{SinkSide}
 use Rattle.frame_stages.specs.AppTurns.{IsMarked}
 use Rattle.frame_stages.specs.AppWorks.{AppWork}
 use Rattle.frame_stages.specs.AppAnswers.{Ends, Around}
-use Rattle.frame_stages.specs.AppBacks.{BringsBack, FindsNone, TakesOnly}
+use Rattle.frame_stages.specs.AppBacks.{BringsBack, TakesOnly}
 use Rattle.pipe_plays.specs.Played.{Blames}
 use Rattle.pipe_core.specs.declared.events.Event.TheVariants as event
-use Rattle.pipe_core.specs.Cores.{CoreState}
 use Rattle.pipe_core.specs.Pipes.{LinkWork, PipeWork, core_of, PipeKeeps}
 use Rattle.pipe_core.specs.Settling.{done_of, NoneIsBack, TurnSays, TurnsGo}
 use Rattle.pipe_core.proofs.Lifting.{opened}

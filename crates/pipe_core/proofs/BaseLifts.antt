@@ -1,5 +1,5 @@
 -- The poll of DBASE keeps what the pipe keeps.
-use Rattle.std.proofs.Common.{◌≡◌, ◌⊎◌, ℕ, zero, suc, ◌+◌, ◌<◌, ◌≤◌, Bool, true, false, List, [], ◌∷◌, ◌++◌, map, drop, length, slice_get, Option, Some, None, Result, Ok, Err, inl, inr, refl, sym, ap, ◌∙◌, subst, arith}
+use Rattle.std.proofs.Common.{◌≡◌, ℕ, zero, suc, ◌+◌, ◌≤◌, Bool, true, false, List, [], ◌∷◌, ◌++◌, drop, length, slice_get, Option, Some, Result, Ok, Err, inl, inr, refl, sym, ap, ◌∙◌, subst, arith}
 use Rattle.std.proofs.lemmas.List.{append-nil, drop_all, length-drop, length_push}
 use Rattle.std.proofs.lemmas.Option.{same_Some, slice_get_within}
 use Rattle.std.specs.Option.{option_map}
@@ -43,9 +43,8 @@ use Rattle.frame_stages.specs.DbaseWorks.{DbaseWork, StandsIn, DbaseHolds, Holds
 use Rattle.frame_stages.specs.DbaseAnswers.{Known, HasToWaitBefore, HasToWait, AddsNone, EntersMerge, DoesAt, Passes, IsDbaseAnswer}
 use Rattle.pipe_core.specs.declared.events.Event.TheVariants as event
 use Rattle.pipe_plays.specs.Plays.{setup_of}
-use Rattle.pipe_core.specs.Cores.{CoreState, CoreFits, one_seat}
+use Rattle.pipe_core.specs.Cores.{CoreFits, one_seat}
 use Rattle.pipe_core.specs.Waits.{BaseStepMustWait, MustWait, IsOver, shared_of}
-use Rattle.pipe_core.specs.Runs.{HasMoved}
 use Rattle.pipe_core.specs.Pipes.{PipeWork, core_of, PipeKeeps, Answers, AddsAtMostOne, Lifted}
 use Rattle.pipe_core.proofs.Lifting.{opened, not_over}
 

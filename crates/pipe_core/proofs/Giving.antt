@@ -1,5 +1,5 @@
 -- A pipe of a play that is given more lines is a pipe of the longer play.
-use Rattle.std.proofs.Common.{◌≡◌, ℕ, ◌+◌, ◌≤◌, Bool, true, false, List, [], ◌∷◌, ◌++◌, map, length, Result, Ok, Err, OnOk, OnErr, refl, sym, ap, ◌∙◌, subst, arith}
+use Rattle.std.proofs.Common.{◌≡◌, ℕ, ◌+◌, ◌≤◌, List, [], ◌∷◌, ◌++◌, length, Result, Ok, Err, OnOk, OnErr, refl, sym, ap, ◌∙◌, subst, arith}
 use Rattle.std.proofs.lemmas.List.{map-append, length-append}
 use Rattle.pf_model.specs.declared.lines.AppLine.{AppLine}
 use Rattle.pf_model.specs.declared.lines.BaseLine.{BaseLine}
@@ -16,7 +16,7 @@ use Rattle.stage_parts.specs.Parts.{AppKeeps}
 use Rattle.stage_parts.proofs.Gathering.{gathering_law}
 use Rattle.frame_stages.specs.AppWorks.{AppWork, IsGiven, more_work}
 use Rattle.frame_stages.specs.DbaseWorks.{DbaseWork, DbaseHolds}
-use Rattle.pipe_plays.specs.Plays.{CanRun, setup_of}
+use Rattle.pipe_plays.specs.Plays.{most_steps, CanRun, setup_of}
 use Rattle.pipe_plays.proofs.Counts.{merges_given, total_append}
 use Rattle.pipe_core.specs.Cores.{one_seat}
 use Rattle.pipe_core.specs.Pipes.{PipeWork, core_of, PipeKeeps}
@@ -182,7 +182,7 @@ few_merges lines = let same = merges_given 0 [] lines in let few = few_marks lin
 
 -- so many merges does the application wait for, where it waited for those of its section, and those of the block were counted
 pub block_many : (play : Script) (ahead : ℕ) (more : List BaseLine) (own count merges : ℕ) → CanRun (with_dbase play more) ahead →
-    own ≡ length (asked_dbase play.dbase) → count ≡ length (asked_dbase more) → (own + count ≤ 262144 → merges ≡ own + count) →
+    own ≡ length (asked_dbase play.dbase) → count ≡ length (asked_dbase more) → (own + count ≤ most_steps → merges ≡ own + count) →
     merges ≡ length (asked_dbase (play.dbase ++ more))
 block_many play ahead more own count merges can all some added =
     let few = few_merges play.dbase in

@@ -12,7 +12,6 @@ use Rattle.stage_parts.specs.declared.answers.StageError.{StageError}
 use Rattle.stage_parts.specs.Moves.{moved}
 use Rattle.stage_parts.specs.Pictures.{pictures, streamed}
 use Rattle.pipe_plays.specs.declared.played.PlayEnd.{PlayEnd}
-use Rattle.pipe_plays.specs.declared.played.PlayEnd.TheVariants as ends
 use Rattle.pipe_plays.specs.Plays.{CanRun}
 use Rattle.pipe_plays.specs.Played.{end_of, StaysWhole, LeavesPipe}
 use Rattle.pipe_plays.specs.Laws.{ShownLaw}

@@ -18,3 +18,6 @@ mod Settling
 mod Giving
 mod Backs
 mod Making
+mod LiveRuns
+mod NoWaits
+mod Telling

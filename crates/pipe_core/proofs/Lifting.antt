@@ -1,5 +1,5 @@
 -- What a pipe keeps, opened into its parts and put together again; and what an answer says, whatever the stage.
-use Rattle.std.proofs.Common.{◌≡◌, ◌⊎◌, ℕ, ◌+◌, ◌<◌, ◌≤◌, Bool, true, false, List, [], ◌∷◌, ◌++◌, length, Option, Some, None, Result, Ok, Err, inl, inr, refl, sym, ap, ◌∙◌, subst, arith}
+use Rattle.std.proofs.Common.{◌≡◌, ◌⊎◌, ℕ, ◌+◌, ◌<◌, Bool, true, false, length, Some, Result, Ok, Err, inl, inr, refl, sym, ap, ◌∙◌}
 use Rattle.stage_parts.specs.Moves.{moved}
 use Rattle.stage_parts.specs.Gathering.{IsGathered}
 use Rattle.stage_parts.proofs.Gathering.{gathering_law}

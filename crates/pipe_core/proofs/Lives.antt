@@ -1,5 +1,5 @@
 -- A core whose play may still grow, and of which nothing can go on, is settled.
-use Rattle.std.proofs.Common.{◌≡◌, ◌⊎◌, ℕ, zero, suc, ◌+◌, ◌<◌, ◌≤◌, Bool, true, false, nat_lt, List, [], ◌∷◌, map, take, drop, length, slice_get, Option, Some, None, inl, inr, refl, sym, ap, ◌∙◌, subst, arith}
+use Rattle.std.proofs.Common.{◌≡◌, ◌⊎◌, ℕ, zero, suc, ◌<◌, ◌≤◌, Bool, true, false, nat_lt, List, [], ◌∷◌, drop, length, slice_get, Option, Some, None, inl, inr, refl, sym, ap, ◌∙◌, subst, arith}
 use Rattle.std.specs.Option.{option_map}
 use Rattle.std.proofs.lemmas.Bool.{ltb-true, ltb-false}
 use Rattle.std.proofs.lemmas.List.{drop_all, take_all}
@@ -19,7 +19,7 @@ use Rattle.pipe_core.specs.declared.events.Event.TheVariants as event
 use Rattle.pipe_plays.specs.Plays.{CanRun, setup_of}
 use Rattle.pipe_core.specs.Cores.{CoreState, CoreFits, HasEnded, one_seat}
 use Rattle.pipe_core.specs.Waits.{IsLineDry, StepMustWait, MustWait, shared_of}
-use Rattle.pipe_core.specs.Lives.{NextMustWait, IsIdleOpen, IsSettled, LiveLaw}
+use Rattle.pipe_core.specs.Lives.{NextMustWait, LiveLaw}
 use Rattle.pipe_core.proofs.Sides.{never_both, counted, unheld, PassersWait, passers_wait, whole}
 use Rattle.pipe_core.proofs.Progress.{base_stands, app_stands, frames_of_passed, MergesOfPassed, merges_of_passed, stuck_at}
 

@@ -1,7 +1,6 @@
 -- Commands that come one by one.
-use Rattle.std.proofs.Common.{◌≡◌, ◌⊎◌, ℕ, ◌+◌, ◌≤◌, Bool, true, false, List, [], ◌∷◌, ◌++◌, map, length, Option, Some, None, Result, Ok, Err, OnOk, OnErr, inl, inr, refl, sym, ap, ◌∙◌, subst, append_assoc, arith}
-use Rattle.std.proofs.lemmas.List.{append-nil, length-append, length-map, nil_from_length}
-use Rattle.std.specs.Option.{option_to_list}
+use Rattle.std.proofs.Common.{◌≡◌, ◌⊎◌, ℕ, ◌≤◌, Bool, false, List, [], ◌∷◌, ◌++◌, map, length, Option, Some, None, Result, Ok, Err, OnOk, OnErr, inl, inr, refl, sym, ap, ◌∙◌, subst, append_assoc, arith}
+use Rattle.std.proofs.lemmas.List.{append-nil, length-map, nil_from_length}
 use Rattle.pf_history.specs.declared.commands.Command.{Command}
 use Rattle.pf_history.specs.Cuts.{Cutting}
 use Rattle.pf_history.specs.Logs.{Log}
@@ -20,8 +19,9 @@ use Rattle.pipe_plays.specs.Orders.{IsMade, commands_of}
 use Rattle.pipe_plays.specs.CaughtUp.{CaughtUpLaw}
 use Rattle.pipe_core.specs.Cores.{one_seat}
 use Rattle.pipe_core.specs.Pipes.{PipeWork, core_of, PipeKeeps, IsWritten}
-use Rattle.pipe_core.specs.Settling.{IsSettledOpen, StopsAtError, Settles}
-use Rattle.pipe_core.specs.Makes.{IsReady, HasMade, HasFailed, LiveCommand, with_command, with_commands, command_makes, commands_make, EachMade, LiveRunsLaw}
+use Rattle.pipe_core.specs.Settling.{IsSettledOpen, Settles}
+use Rattle.pipe_core.specs.declared.commands.PipeCommand.{PipeCommand}
+use Rattle.pipe_core.specs.Makes.{IsReady, HasMade, HasFailed, with_command, with_commands, command_makes, commands_make, EachMade, LiveRunsLaw}
 use Rattle.pipe_core.proofs.Sides.{whole}
 use Rattle.pipe_core.proofs.StillOpen.{begins_open}
 use Rattle.pipe_core.proofs.Giving.{ok_as}
@@ -51,6 +51,19 @@ settled_ready law play ahead p can free keeps settled = by settled.settled.done
         }
     by (inr stuck) = absurd (free stuck)
 
+-- what was written behind the giving, which left the application's state and the pictures that came back, stands behind the
+-- stream before it
+wrote_behind : (play grown : Script) (p r q : PipeWork) (a b : Option (List ℕ)) → r.app.state ≡ p.app.state → r.c ≡ p.c →
+    IsWritten a b (core_of grown r) (core_of grown q) → IsWritten a b (core_of play p) (core_of grown q)
+wrote_behind play grown p r q a b app back wrote =
+    let stream : (core_of grown r).pipe.stream ≡ (core_of play p).pipe.stream =
+    λ i. streamed ((app i).written) ((app i).fault) (map bytes_in ((back i).line.taken)) in
+    record {
+      more = wrote.more;
+      stream = wrote.stream ∙ ap (λ (bytes : List ℕ). bytes ++ wrote.more) stream;
+      wrote = wrote.wrote;
+    }
+
 -- a pipe that was given more of its play, which left the scene, the application's state and the pictures that came back,
 -- and then settled
 pub made_more : {A : Type 0} → CaughtUpLaw → (play grown : Script) (ahead : ℕ) (commands : List Command) (result : Result A StageError)
@@ -66,28 +79,27 @@ made_more law play grown ahead commands result p r q a b can free ready scene ap
     let more = settles.grows.more in
     let log : q.scene.shared.log ≡ p.scene.shared.log ++ more =
     settles.grows.is ∙ ap (λ s. s.shared.log ++ more) scene in
-    let stream : (core_of grown r).pipe.stream ≡ (core_of play p).pipe.stream =
-    λ i. streamed ((app i).written) ((app i).fault) (map bytes_in ((back i).line.taken)) in
     record {
       ready = now;
       made = ap commands_of log ∙ order more (subst (IsMade grown.channels ahead grown.app grown.dbase) log now.caught_up.made);
-      wrote = record {
-        more = settles.wrote.more;
-        stream = settles.wrote.stream ∙ ap (λ (bytes : List ℕ). bytes ++ settles.wrote.more) stream;
-        wrote = settles.wrote.wrote;
-      };
+      wrote = wrote_behind play grown p r q a b app back settles.wrote;
     })
     (settles.settled (ap (λ s. s.closed) app ∙ ready.going) (ap (λ s. s.shared.stopped) scene ∙ ready.unset))
 
--- after an error behind the giving the stop mark is set
-pub failed_behind : {A : Type 0} (grown : Script) (ahead : ℕ) (result : Result A StageError) (p r q : PipeWork) (a b : Option (List ℕ)) →
-    Settles grown ahead result r q a b → OnErr result (HasFailed grown ahead p q)
-failed_behind grown ahead (Ok x) p r q a b settles = tt
-failed_behind grown ahead (Err error) p r q a b settles = inr (settles.keeps, settles.stops)
+-- after an error behind the giving the pipe has stopped
+pub failed_behind : {A : Type 0} (play grown : Script) (ahead : ℕ) (result : Result A StageError) (p r q : PipeWork) (a b : Option (List ℕ)) →
+    r.app.state ≡ p.app.state → r.c ≡ p.c → Settles grown ahead result r q a b → OnErr result (HasFailed play grown ahead p q a b)
+failed_behind play grown ahead (Ok x) p r q a b app back settles = tt
+failed_behind play grown ahead (Err error) p r q a b app back settles =
+    inr (record {
+      keeps = settles.keeps;
+      stopped = settles.stops;
+      wrote = wrote_behind play grown p r q a b app back settles.wrote;
+    })
 
 -- Runs
 
-none_made : (play : Script) (ahead : ℕ) (p : PipeWork) (bytes : Option (List ℕ)) → IsReady play ahead p → HasMade play play ahead [] p p bytes bytes
+pub none_made : (play : Script) (ahead : ℕ) (p : PipeWork) (bytes : Option (List ℕ)) → IsReady play ahead p → HasMade play play ahead [] p p bytes bytes
 none_made play ahead p bytes ready =
     record {
       ready = ready;
@@ -95,7 +107,7 @@ none_made play ahead p bytes ready =
       wrote = nothing_written bytes (core_of play p) (core_of play p) refl;
     }
 
-runs : (play : Script) (ahead : ℕ) (cs : List LiveCommand) (p q : PipeWork) (bytes bytes' : Option (List ℕ)) → IsReady play ahead p →
+runs : (play : Script) (ahead : ℕ) (cs : List PipeCommand) (p q : PipeWork) (bytes bytes' : Option (List ℕ)) → IsReady play ahead p →
     EachMade play ahead cs p q bytes bytes' → HasMade play (with_commands play cs) ahead (commands_make play cs) p q bytes bytes'
 runs play ahead [] p q bytes bytes' ready each =
     subst (λ (x : PipeWork). HasMade play play ahead [] p x bytes bytes') (sym each.0)

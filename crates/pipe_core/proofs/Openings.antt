@@ -1,5 +1,5 @@
 -- Runs of events, one event after the other, and the pipe before the first one.
-use Rattle.std.proofs.Common.{◌≡◌, ℕ, ◌+◌, ◌≤◌, true, false, List, [], ◌∷◌, ◌++◌, take, length, slice_get, Option, Some, None, Result, Ok, Err, IfOk, inl, inr, refl, sym, ap, ◌∙◌, subst, append_assoc, arith}
+use Rattle.std.proofs.Common.{◌≡◌, ℕ, true, false, List, [], ◌∷◌, ◌++◌, take, length, slice_get, Option, Some, None, Result, Ok, Err, IfOk, inl, inr, refl, sym, ap, ◌∙◌, subst, append_assoc, arith}
 use Rattle.std.proofs.lemmas.List.{append-nil}
 use Rattle.std.specs.Io.KnownBytes.{append_known}
 use Rattle.pf_io.proofs.Known.{append_known-nil, append_known-append}
@@ -16,7 +16,7 @@ use Rattle.frame_stages.specs.DbaseWorks.{DbaseHolds}
 use Rattle.frame_stages.specs.CullWorks.{CullWork, CullKeeps, cull_state}
 use Rattle.stage_parts.specs.Parts.{CullPart}
 use Rattle.pipe_core.specs.declared.events.Event.{Event}
-use Rattle.pipe_plays.specs.Plays.{CanRun, setup_of}
+use Rattle.pipe_plays.specs.Plays.{setup_of}
 use Rattle.pipe_core.specs.Cores.{CoreState, one_seat}
 use Rattle.pipe_core.specs.Runs.{Steps, Ran}
 use Rattle.pipe_core.specs.Pipes.{PipeWork, opening_link, opening_scene, core_of, PipeKeeps, Lifted, IsWritten, FailsAt, HasRun}

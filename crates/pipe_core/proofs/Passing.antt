@@ -1,22 +1,20 @@
 -- The polls of CULL and DRAW keep what the pipe keeps.
-use Rattle.std.proofs.Common.{◌≡◌, ◌⊎◌, ℕ, ◌+◌, ◌<◌, ◌≤◌, Bool, true, false, List, length, Option, Result, Ok, inl, refl, sym, ap, ◌∙◌, subst, arith}
+use Rattle.std.proofs.Common.{◌≡◌, ℕ, ◌+◌, ◌≤◌, true, false, List, length, Option, Result, Ok, inl, refl, sym, ap, ◌∙◌, subst, arith}
 use Rattle.std.specs.Option.{MatchOption}
 use Rattle.play_format.specs.Plays.{Script}
 use Rattle.stage_parts.specs.declared.packets.Packet.{Packet}
 use Rattle.stage_parts.specs.Packets.{LinkPart}
 use Rattle.stage_parts.specs.States.{DrawState}
 use Rattle.stage_parts.specs.Parts.{DrawPart, CullPart}
-use Rattle.stage_parts.specs.Moves.{moved}
 use Rattle.stage_parts.proofs.Gathering.{gathering_law}
 use Rattle.stage_parts.specs.declared.answers.Did.{Did}
 use Rattle.stage_parts.specs.declared.answers.Did.TheVariants as did
 use Rattle.stage_parts.specs.declared.answers.StageError.{StageError}
 use Rattle.stage_parts.specs.Answers.{is_over, Placed, PassesOn, WaitsToPass as has_to_wait}
 use Rattle.frame_stages.specs.CullWorks.{CullWork, CullKeeps, cull_state}
-use Rattle.pipe_core.specs.declared.events.Event.{Event}
 use Rattle.pipe_core.specs.declared.events.Event.TheVariants as event
 use Rattle.pipe_plays.specs.Plays.{setup_of}
-use Rattle.pipe_core.specs.Cores.{CoreState, CoreFits, one_seat}
+use Rattle.pipe_core.specs.Cores.{CoreFits, one_seat}
 use Rattle.pipe_core.specs.Pipes.{PipeWork, core_of, PipeKeeps, Lifted}
 use Rattle.pipe_core.proofs.Lifting.{opened, over_is, is_over_of, passes_answer}
 

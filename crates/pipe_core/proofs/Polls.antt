@@ -1,9 +1,8 @@
 -- Each event of a pipe, by what the poll of its stage says of the parts of the pipe before and after it.
-use Rattle.std.proofs.Common.{◌≡◌, ℕ, ◌+◌, ◌≤◌, Bool, true, false, List, [], ◌∷◌, ◌++◌, take, length, Option, Some, Result, Ok, refl, sym, ap, ◌∙◌, subst, arith}
+use Rattle.std.proofs.Common.{◌≡◌, ℕ, ◌+◌, ◌≤◌, Bool, true, false, List, ◌++◌, take, length, Some, Result, Ok, sym, ap, ◌∙◌, subst, arith}
 use Rattle.std.proofs.lemmas.List.{take-append-le, take_all}
 use Rattle.std.proofs.lemmas.Option.{same_Some}
-use Rattle.pf_model.specs.declared.lines.BaseLine.{BaseLine}
-use Rattle.pf_history.specs.Logs.{Log, IsLegal}
+use Rattle.pf_history.specs.Logs.{Log}
 use Rattle.play_format.specs.Plays.{Script}
 use Rattle.pf_scene.specs.Scenes.{SceneState}
 use Rattle.stage_parts.specs.declared.packets.Packet.{Packet}
@@ -17,7 +16,7 @@ use Rattle.frame_stages.specs.Looks.{SawMark}
 use Rattle.frame_stages.specs.CullWorks.{CullKeeps}
 use Rattle.frame_stages.specs.Works.{IsGivenAsBefore}
 use Rattle.pipe_core.specs.declared.events.Event.TheVariants as event
-use Rattle.pipe_core.specs.Pipes.{LinkWork, PipeWork, PipeKeeps, Lifted}
+use Rattle.pipe_core.specs.Pipes.{PipeWork, PipeKeeps, Lifted}
 use Rattle.pipe_core.proofs.Passing.{with_draw, draw_lifts, culled, cull_lifts}
 
 -- what was received is a front of what was sent, where the rest is in the link

@@ -1,11 +1,10 @@
 -- Settling a pipe whose play may still grow.
-use Rattle.std.proofs.Common.{◌≡◌, ◌⊎◌, ℕ, zero, suc, ◌+◌, ◌^◌, ◌<◌, ◌≤◌, Bool, true, false, ◌||◌, List, [], ◌∷◌, ◌++◌, drop, length, is_some, slice_get, Option, Some, None, Result, Ok, Err, OnOk, inl, inr, refl, sym, ap, ◌∙◌, subst, append_assoc, arith}
+use Rattle.std.proofs.Common.{◌≡◌, ℕ, zero, suc, ◌+◌, ◌^◌, ◌<◌, ◌≤◌, Bool, true, false, ◌||◌, List, [], ◌∷◌, ◌++◌, drop, length, is_some, slice_get, Option, Some, None, Result, Ok, Err, inl, inr, refl, sym, ap, ◌∙◌, subst, append_assoc, arith}
 use Rattle.std.proofs.lemmas.List.{append-nil}
 use Rattle.std.specs.List.{AllByRecursion}
 use Rattle.std.specs.Option.{option_map, MatchOption}
 use Rattle.pf_model.specs.declared.lines.AppLine.{AppLine}
 use Rattle.pf_model.specs.declared.lines.AppStep.{AppStep}
-use Rattle.pf_history.specs.declared.commands.Entry.{Entry}
 use Rattle.pf_history.specs.Asks.{asked_dbase}
 use Rattle.pf_history.specs.Logs.{Log}
 use Rattle.play_format.specs.Plays.{Script}
@@ -25,7 +24,7 @@ use Rattle.pipe_core.specs.Cores.{CoreState, CoreFits}
 use Rattle.pipe_core.specs.Waits.{IsLineFull, IsOver, StepMustWait, MustWait, IsIdleEvent, shared_of}
 use Rattle.pipe_core.specs.Lives.{NextMustWait, AppMustWait, IsIdleOpen}
 use Rattle.pipe_core.specs.Pipes.{PipeWork, core_of, PipeKeeps, Answers, AddsAtMostOne, Lifted, IsWritten, AppLifted}
-use Rattle.pipe_core.specs.Settling.{GoesOnFrom, done_of, NoneIsBack, IsIdleTurn, AreIdle, TurnSays, TurnsGo, HaveGone, IsSettledOpen, Settles, round_turns}
+use Rattle.pipe_core.specs.Settling.{GoesOnFrom, done_of, NoneIsBack, IsIdleTurn, AreIdle, TurnSays, TurnsGo, HaveGone, Settles, round_turns}
 use Rattle.pipe_core.proofs.Sides.{never_both, ended_or_waits, counted, unheld, whole}
 use Rattle.pipe_core.proofs.Lives.{not_ended, live_law}
 use Rattle.pipe_core.proofs.Running.{bound}

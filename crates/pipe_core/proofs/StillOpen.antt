@@ -1,10 +1,10 @@
 -- An application that adds no entry does not close.
-use Rattle.std.proofs.Common.{◌≡◌, ℕ, ◌+◌, max, ◌<◌, ◌≤◌, Bool, true, false, cond, List, [], ◌∷◌, map, drop, length, refl, sym, ap, ◌∙◌, arith}
+use Rattle.std.proofs.Common.{◌≡◌, ℕ, ◌+◌, max, ◌<◌, Bool, true, false, cond, List, [], ◌∷◌, map, drop, length, refl, ap, arith}
 use Rattle.pf_model.specs.declared.lines.AppLine.{AppLine}
 use Rattle.pf_model.specs.declared.lines.AppStep.{AppStep}
 use Rattle.pf_model.specs.declared.lines.AppStep.TheVariants as app
 use Rattle.pf_history.specs.declared.commands.Caller.TheVariants.{App}
-use Rattle.pf_history.specs.Asks.{Ask, Turn, asked_app, asked_dbase, asked_from, Follows}
+use Rattle.pf_history.specs.Asks.{Ask, Turn, asked_app, asked_from, Follows}
 use Rattle.pf_history.specs.Fits.{turns_of}
 use Rattle.pf_history.specs.Logs.{Log}
 use Rattle.play_format.specs.Plays.{Script}

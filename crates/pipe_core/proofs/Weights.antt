@@ -4,8 +4,6 @@ use Rattle.std.proofs.lemmas.List.{length-map, length_push}
 use Rattle.std.proofs.lemmas.List.Sums.{sum_by-cons}
 use Rattle.std.specs.List.{fold}
 use Rattle.pf_model.specs.declared.lines.AppLine.{AppLine}
-use Rattle.pf_model.specs.declared.lines.AppStep.{AppStep}
-use Rattle.pf_model.specs.declared.lines.AppStep.TheVariants as app
 use Rattle.pf_model.specs.declared.lines.BaseLine.{BaseLine}
 use Rattle.pf_model.specs.declared.lines.BaseStep.{BaseStep}
 use Rattle.pf_model.specs.declared.lines.BaseStep.TheVariants as base
@@ -18,7 +16,7 @@ use Rattle.pf_history.specs.declared.commands.Command.TheVariants as command
 use Rattle.pf_history.specs.declared.commands.Entry.{Entry}
 use Rattle.pf_history.specs.Objects.{FrameState, opening_state, next_state}
 use Rattle.pf_history.specs.Logs.{Log, is_caller, is_by}
-use Rattle.pf_history.specs.Asks.{Wanted, WantEdit, WantView, WantSync, WantFrame, WantClose, Ask, BaseAsk, Turn, asked_app, asked_dbase, asked_from, asked_base_from, turns_from, Meets, Follows, FollowsBase}
+use Rattle.pf_history.specs.Asks.{Wanted, WantEdit, WantView, WantSync, WantFrame, WantClose, Ask, BaseAsk, Turn, asked_app, asked_dbase, asked_base_from, turns_from, Meets, Follows, FollowsBase}
 use Rattle.pf_history.specs.Fits.{turns_of}
 use Rattle.pf_scene.specs.Scenes.{weight_of, weight_in}
 use Rattle.stage_parts.proofs.Moves.{asked_length}

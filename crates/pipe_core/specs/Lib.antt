@@ -7,3 +7,4 @@ pub mod Hosts
 pub mod Lives
 pub mod Settling
 pub mod Makes
+pub mod LiveRuns

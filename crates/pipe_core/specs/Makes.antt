@@ -8,6 +8,8 @@ use Rattle.frame_stages.specs.AppWorks.{more_work}
 use Rattle.pipe_plays.specs.Plays.{CanRun}
 use Rattle.pipe_plays.specs.Orders.{commands_of, line_commands, merges_behind}
 use Rattle.pipe_plays.specs.CaughtUp.{IsCaughtUp}
+use Rattle.pipe_core.specs.declared.commands.PipeCommand.{PipeCommand}
+use Rattle.pipe_core.specs.declared.commands.PipeCommand.TheVariants.{Line, Block}
 use Rattle.pipe_core.specs.Pipes.{PipeWork, core_of, PipeKeeps, IsWritten}
 
 -- the play with more lines of its application
@@ -45,38 +47,39 @@ pub record HasMade (play grown : Script) (ahead : ℕ) (commands : List Command)
   pub made : commands_of q.scene.shared.log ≡ commands_of p.scene.shared.log ++ commands
   pub wrote : IsWritten bytes bytes' (core_of play p) (core_of grown q)
 
--- After a command that failed nothing changed, or the pipe was given it, and the stop mark is set.
-abbrev pub HasFailed : Script → ℕ → (p q : PipeWork) → Type 0
-HasFailed grown ahead p q = (q ≡ p) ⊎ (PipeKeeps grown ahead q × (q.scene.shared.stopped ≡ true))
+-- A pipe that was given a command, and failed: it keeps what a pipe of the longer play keeps, the stop mark is set, and the
+-- frame sink was given what the stream grew by.
+pub record HasStopped (play grown : Script) (ahead : ℕ) (p q : PipeWork) (bytes bytes' : Option (List ℕ)) : Type 0 where
+  pub keeps : PipeKeeps grown ahead q
+  pub stopped : q.scene.shared.stopped ≡ true
+  pub wrote : IsWritten bytes bytes' (core_of play p) (core_of grown q)
+
+-- After a command that failed nothing changed, or the pipe was given it, and has stopped.
+abbrev pub HasFailed : (play grown : Script) → ℕ → (p q : PipeWork) → (bytes bytes' : Option (List ℕ)) → Type 0
+HasFailed play grown ahead p q bytes bytes' = ((q ≡ p) × (bytes' ≡ bytes)) ⊎ HasStopped play grown ahead p q bytes bytes'
 
 -- Runs of commands
 
--- a command of a live run: a line of the application, or a block of the database process
-pub data LiveCommand : Type 0 where
-  Line : AppLine → LiveCommand
-  Block : List BaseLine → LiveCommand
-  deriving IsSet as LiveCommand_set
-
 -- the play with one command more
-abbrev pub with_command : Script → LiveCommand → Script
+abbrev pub with_command : Script → PipeCommand → Script
 with_command play (Line l) = with_app play (l ∷ [])
 with_command play (Block ls) = with_dbase play ls
 
-abbrev pub with_commands : Script → List LiveCommand → Script
+abbrev pub with_commands : Script → List PipeCommand → Script
 with_commands play [] = play
 with_commands play (c ∷ cs) = with_commands (with_command play c) cs
 
 -- what a command makes behind a play: the command of a line, or the merges of a block
-abbrev pub command_makes : Script → LiveCommand → List Command
+abbrev pub command_makes : Script → PipeCommand → List Command
 command_makes play (Line l) = line_commands (l ∷ [])
 command_makes play (Block ls) = merges_behind play.dbase ls
 
-abbrev pub commands_make : Script → List LiveCommand → List Command
+abbrev pub commands_make : Script → List PipeCommand → List Command
 commands_make play [] = []
 commands_make play (c ∷ cs) = command_makes play c ++ commands_make (with_command play c) cs
 
 -- each command was made behind those before it
-abbrev pub EachMade : Script → ℕ → List LiveCommand → (p q : PipeWork) → (bytes bytes' : Option (List ℕ)) → Type 0
+abbrev pub EachMade : Script → ℕ → List PipeCommand → (p q : PipeWork) → (bytes bytes' : Option (List ℕ)) → Type 0
 EachMade play ahead [] p q bytes bytes' = (q ≡ p) × (bytes' ≡ bytes)
 EachMade play ahead (c ∷ cs) p q bytes bytes' =
     (r : PipeWork) × (mid : Option (List ℕ)) × HasMade play (with_command play c) ahead (command_makes play c) p r bytes mid
@@ -85,7 +88,7 @@ EachMade play ahead (c ∷ cs) p q bytes bytes' =
 -- Commands made one by one leave the history of all of them, in order, and all pictures; and a new pipe of a play without
 -- lines may be given the first one.
 pub record AreMadeInOrder (play : Script) (ahead : ℕ) : Type 0 where
-  pub runs : (cs : List LiveCommand) (p q : PipeWork) (bytes bytes' : Option (List ℕ)) → IsReady play ahead p →
+  pub runs : (cs : List PipeCommand) (p q : PipeWork) (bytes bytes' : Option (List ℕ)) → IsReady play ahead p →
       EachMade play ahead cs p q bytes bytes' →
       HasMade play (with_commands play cs) ahead (commands_make play cs) p q bytes bytes'
   pub begins : (p : PipeWork) → CanRun play ahead → PipeKeeps play ahead p → p.scene.shared.stopped ≡ false →

@@ -1,6 +1,7 @@
 //! Laws of the core, each the contract of a call that does nothing.
 ghost use Rattle.pipe_core.specs.Laws.{ProgressLaw, BoundLaw, RunLaw, CuttingLaw, PartsLaw, ShownLaw, FreedInPipeLaw};
 ghost use Rattle.pipe_core.specs.Lives.{LiveLaw};
+ghost use Rattle.pipe_core.specs.LiveRuns.{NoWaitLaw};
 ghost use Rattle.pipe_core.specs.Makes.{LiveRunsLaw};
 
 use pipe_plays::laws::{a_pipe_catches_up, a_pipe_shows_its_history, freed_serials_are_written};
@@ -64,3 +65,8 @@ pub fn a_live_run_tells_its_commands()
 {
     a_pipe_catches_up();
 }
+
+/// Where neither a play nor the commands behind it have a wait or an await, the play is stuck behind none of them.
+pub fn commands_without_waits_are_never_stuck()
+    ensures { NoWaitLaw }
+{}

@@ -2,14 +2,17 @@
 //! plays.
 #![tactic(auto)]
 
+mod commands;
 mod events;
 mod host;
 pub mod laws;
 mod legal;
 mod live;
+mod live_run;
 mod parts;
 mod pipe;
 
+pub use commands::{BaseBlock, LiveCause, LiveError, PipeCommand, Refusal};
 pub use events::Event;
 pub use host::play_all;
 pub use pipe::Pipe;

@@ -182,7 +182,8 @@ impl Pipe {
             → OnOk result (HasMade play (with_app play (line ∷ [])) ahead (line_commands (line ∷ [])) self.old self.new
             (O.written frames.old) (O.written frames.new)) }
         ensures failed { (play : Script) (ahead : ℕ) → CanRun (with_app play (line ∷ [])) ahead → PipeKeeps play ahead self.old
-            → OnErr result (HasFailed (with_app play (line ∷ [])) ahead self.old self.new) }
+            → OnErr result (HasFailed play (with_app play (line ∷ [])) ahead self.old self.new
+            (O.written frames.old) (O.written frames.new)) }
         ensures blames { Blames result (O.faults frames.old) (O.faults frames.new) (O.at_fault frames.new) (O.written frames.new) }
     {
         a_pipe_catches_up();
@@ -214,7 +215,8 @@ impl Pipe {
             → OnOk result (HasMade play (with_dbase play block.items) ahead (merges_behind play.dbase block.items) self.old self.new
             (O.written frames.old) (O.written frames.new)) }
         ensures failed { (play : Script) (ahead : ℕ) → CanRun (with_dbase play block.items) ahead → PipeKeeps play ahead self.old
-            → OnErr result (HasFailed (with_dbase play block.items) ahead self.old self.new) }
+            → OnErr result (HasFailed play (with_dbase play block.items) ahead self.old self.new
+            (O.written frames.old) (O.written frames.new)) }
         ensures blames { Blames result (O.faults frames.old) (O.faults frames.new) (O.at_fault frames.new) (O.written frames.new) }
     {
         a_pipe_catches_up();

@@ -3,7 +3,7 @@ ghost use Rattle.std.specs.Prelude.{◌≡◌, ℕ, ◌+◌, ◌<◌, ◌≤◌,
 ghost use Rattle.std.specs.List.{list_all};
 ghost use Rattle.pf_io.specs.Causes.{Rose, Calm};
 ghost use Rattle.play_format.specs.Plays.{Script, base_fits, open_after};
-ghost use Rattle.pf_scene.specs.Scenes.{IsSmall};
+ghost use Rattle.pf_scene.specs.Scenes.{IsSmall, TellsOne};
 ghost use Rattle.stage_parts.specs.declared.answers.StageError.TheVariants as error;
 ghost use Rattle.pipe_plays.specs.Plays.{CanRun};
 ghost use Rattle.pipe_plays.specs.Played.{StaysWhole, Blames};
@@ -11,8 +11,10 @@ ghost use Rattle.pipe_core.specs.Runs.{Ran};
 ghost use Rattle.pipe_core.specs.Pipes.{core_of, PipeKeeps, Lifted, IsWritten, AppLifted, FailsAt, link_work, opening_link, opening_scene};
 ghost use Rattle.pipe_core.specs.declared.events.Event.TheVariants as polled;
 ghost use Rattle.pipe_core.specs.Settling.{NoneIsBack, TurnsGo};
+ghost use Rattle.pipe_core.specs.LiveRuns.{takes_line, takes_block};
 ghost use Rattle.pipe_core.specs.Makes.{with_app, with_dbase, given_line, IsGivenBlock};
 ghost use Rattle.frame_stages.specs.AppWorks.{is_done};
+ghost use Rattle.frame_stages.specs.Flights.{TellsNext};
 ghost use Rattle.frame_stages.specs.Scripts.{most_lines};
 
 use crate::events::Event;
@@ -22,10 +24,10 @@ use crate::parts::all_made;
 use draw_list::Stats;
 use frame_link::ListLink;
 use frame_stages::{AppStage, CullStage, DbaseStage, Did, DrawStage, Packet, StageError};
-use pf_history::History;
+use pf_history::{Entry, History};
 use pf_io::{FreeGate, Gate, NoMemory, Sink};
 use pf_model::{AppLine, BaseLine};
-use pf_scene::Scene;
+use pf_scene::{Scene, TellAct};
 use pipe_plays::count_merges;
 use play_format::Play;
 use seat_lock::{Desk, PlainDesk};
@@ -98,6 +100,14 @@ fn new_desk(alloc: Global, ahead: u8, channels: u8) -> Result<PlainDesk<Scene>, 
     Ok(PlainDesk::new(scene))
 }
 
+/// Tells the oldest entry that was not told.
+fn take_oldest(desk: &mut PlainDesk<Scene>) -> Option<(u32, Entry)>
+    ensures { TellsOne desk.old desk.new result }
+{
+    let told = desk.value().told();
+    desk.turn(TellAct { told })
+}
+
 impl Pipe {
     /// Returns the pipe of a play before its first event, where `ahead` frames may be in flight, 1 to 4. The stop mark
     /// is not set. Returns `Err(NoMemory)` if memory runs out.
@@ -138,6 +148,7 @@ impl Pipe {
 
     /// Whether a line may be given: the application has not closed, and its section has room.
     pub fn takes_line(&self) -> bool
+        ensures value { result ≡ takes_line self.now }
         ensures room { result ≡ true → self.now.app.state.at + length self.now.app.rest < most_lines }
         ensures going { result ≡ true → self.now.app.state.closed ≡ false }
         ensures none { result ≡ false → self.now.app.state.closed ≡ false
@@ -151,6 +162,7 @@ impl Pipe {
 
     /// Whether a block of so many lines may be given: the application has not closed, and DBASE's section has room.
     pub fn takes_block(&self, lines: usize) -> bool
+        ensures value { result ≡ takes_block self.now lines }
         ensures room { result ≡ true → self.now.dbase.at + (length self.now.dbase.rest + lines) ≤ most_lines }
         ensures going { result ≡ true → self.now.app.state.closed ≡ false }
         ensures none { result ≡ false → self.now.app.state.closed ≡ false
@@ -226,6 +238,13 @@ impl Pipe {
         }
         let came = self.app.take_back(&mut self.desk, &mut self.back, frames);
         has_done(came)
+    }
+
+    /// The number of channels, 1 to 4.
+    pub(crate) fn channels(&self) -> u8
+        ensures { result ≡ self.now.scene.shared.channels }
+    {
+        self.desk.value().channels()
     }
 
     /// The greatest number of copies that a geode's cycle has had, and 0 before the first cycle was made.
@@ -388,6 +407,26 @@ impl Pipe {
         }
         Ok(())
     }
+    /// Tells the oldest entry of the history that was not told: hands it out, beside the number of its seat, and forgets
+    /// it, so that it leaves memory. Returns None where all were told. Nothing else changes.
+    pub fn take_entry(&mut self) -> Option<(u32, Entry)>
+        ensures tells { TellsOne self.old.scene self.new.scene result }
+        ensures scene_alone { self.new ≡ record self.old { scene = self.new.scene } }
+        ensures keeps { (play : Script) (ahead : ℕ) → PipeKeeps play ahead self.old → PipeKeeps play ahead self.new }
+    {
+        take_oldest(&mut self.desk)
+    }
+
+    /// Tells the numbers of the oldest frame whose picture came back and was not told: hands them out, and forgets them.
+    /// Returns None where all were told. Nothing else changes.
+    pub fn take_stats(&mut self) -> Option<Stats>
+        ensures tells { TellsNext self.old.app.state.stats self.old.app.told self.new.app.told result }
+        ensures count_alone { self.new ≡ record self.old { app = record self.old.app { told = self.new.app.told } } }
+        ensures keeps { (play : Script) (ahead : ℕ) → PipeKeeps play ahead self.old → PipeKeeps play ahead self.new }
+    {
+        self.app.take_stats()
+    }
+
     /// The history, and the numbers of the frames that came back and were not told.
     pub(crate) fn into_parts(self) -> (History, Vec<Stats>)
         ensures history { result.0.entries ≡ self.scene.shared.log }

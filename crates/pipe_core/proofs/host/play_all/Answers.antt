@@ -4,6 +4,7 @@ use Rattle.pf_history.specs.Logs.{Log}
 use Rattle.pipe_plays.specs.declared.played.PlayEnd.TheVariants as ends
 use Rattle.pipe_plays.specs.Plays.{CanRun}
 use Rattle.pipe_plays.specs.Played.{LeavesPipe}
+use Rattle.pipe_plays.proofs.Plays.{may_grow}
 use Rattle.pipe_plays.proofs.Ended.{done_only, faulted, unfaulted}
 use Rattle.pipe_core.specs.Cores.{one_seat}
 use Rattle.pipe_core.proofs.Hosting.{leaves_pipe}
@@ -13,7 +14,7 @@ pub returns-in-Ok : goal.returns-in-Ok
 returns-in-Ok g c =
     let play = c.args.play in
     let ahead = c.args.ahead in
-    let can : CanRun play ahead = record { is_play = c.most_rounds-most.ensures.is_play; few_ahead = (c.requires.some, c.requires.few) } in
+    let can : CanRun play ahead = record { is_play = may_grow play c.most_rounds-most.ensures.is_play; few_ahead = (c.requires.some, c.requires.few) } in
     let run = c.run-came.ensures in
     let made = c.in-Ok.ensures in
     let before = g.O.Sink.written c.args.frames.now in
@@ -48,7 +49,7 @@ pub returns-in-Err : goal.returns-in-Err
 returns-in-Err g c =
     let play = c.args.play in
     let ahead = c.args.ahead in
-    let can : CanRun play ahead = record { is_play = c.most_rounds-most.ensures.is_play; few_ahead = (c.requires.some, c.requires.few) } in
+    let can : CanRun play ahead = record { is_play = may_grow play c.most_rounds-most.ensures.is_play; few_ahead = (c.requires.some, c.requires.few) } in
     let bytes = g.O.Sink.written c.args.frames.now in
     let log = c.new-in-Err.result.entries in
     let stats = c.new-in-Err-2.result.items in

@@ -1,4 +1,4 @@
-use Rattle.std.proofs.Common.{[], ◌∷◌, ap, inl}
+use Rattle.std.proofs.Common.{[], ◌∷◌, ap, inl, refl}
 use Rattle.pipe_core.specs.Makes.{with_app}
 use Rattle.pipe_plays.specs.Orders.{line_commands}
 use Rattle.pipe_core.specs.Pipes.{PipeWork}
@@ -20,9 +20,10 @@ returns-in-Ok-clause-made g c = λ play ahead can free ready.
 pub returns-in-Ok-clause-failed : goal.returns-in-Ok-clause-failed
 returns-in-Ok-clause-failed g c = λ play ahead can keeps.
     let grown = with_app play (c.args.line ∷ []) in
-    failed_behind grown ahead c.settle.result c.args.self.now c.give.new.self c.settle.new.self
+    failed_behind play grown ahead c.settle.result c.args.self.now c.give.new.self c.settle.new.self
     (g.O.Sink.written c.args.frames.now) (g.O.Sink.written c.settle.new.frames)
+    (ap (λ (x : PipeWork). x.app.state) c.in-Ok.ensures.state) (ap (λ (x : PipeWork). x.c) c.in-Ok.ensures.state)
     (c.settle.ensures.settles grown ahead can (c.in-Ok.ensures.keeps play ahead keeps))
 
 pub returns-in-Err-clause-failed : goal.returns-in-Err-clause-failed
-returns-in-Err-clause-failed g c = λ play ahead can keeps. inl c.in-Err.ensures.unchanged
+returns-in-Err-clause-failed g c = λ play ahead can keeps. inl (c.in-Err.ensures.unchanged, refl)

@@ -1,4 +1,4 @@
-use Rattle.std.proofs.Common.{inl}
+use Rattle.std.proofs.Common.{inl, refl}
 use Rattle.pipe_core.specs.Makes.{with_dbase}
 use Rattle.pipe_plays.specs.Orders.{merges_behind}
 use Rattle.pipe_core.proofs.Making.{made_more, failed_behind}
@@ -18,9 +18,10 @@ returns-in-Ok-clause-made g c = λ play ahead can free ready.
 pub returns-in-Ok-clause-failed : goal.returns-in-Ok-clause-failed
 returns-in-Ok-clause-failed g c = λ play ahead can keeps.
     let grown = with_dbase play c.args.block.items in
-    failed_behind grown ahead c.settle.result c.args.self.now c.give_base.new.self c.settle.new.self
+    failed_behind play grown ahead c.settle.result c.args.self.now c.give_base.new.self c.settle.new.self
     (g.O.Sink.written c.args.frames.now) (g.O.Sink.written c.settle.new.frames)
+    c.in-Ok.ensures.state.app c.in-Ok.ensures.state.back
     (c.settle.ensures.settles grown ahead can (c.in-Ok.ensures.keeps play ahead can keeps))
 
 pub returns-in-Err-clause-failed : goal.returns-in-Err-clause-failed
-returns-in-Err-clause-failed g c = λ play ahead can keeps. inl c.in-Err.ensures.unchanged
+returns-in-Err-clause-failed g c = λ play ahead can keeps. inl (c.in-Err.ensures.unchanged, refl)
