@@ -7,11 +7,13 @@ ghost use Rattle.play_format.specs.Plays.{base_fits, open_after};
 use frame_stages::StageError;
 use pf_io::{MemSink, NoMemory, Sink};
 use pf_model::{AppLine, BaseLine};
-use pipe_core::Pipe;
+use pipe_core::{Event, LiveError, Pipe, PipeCommand};
 use play_format::{Play, parse};
 use std::alloc::Global;
 use std::test::Fail;
 use std::thread::Threads;
+
+const ROUND: [Event; 4] = [Event::App, Event::Cull, Event::Draw, Event::Dbase];
 
 const NO_LINES: &str = "perfly 1\nsize 2 2\nlens 1 1 1073741823\nback 10 20 30\napp\n";
 
@@ -50,6 +52,21 @@ trait Live {
         requires short { length block.items ≤ 262144 }
         requires fit { list_all (λ l. base_fits l.step) block.items ≡ true }
         requires order { open_after false block.items ≡ Some false };
+
+    fn tell_all<R: Threads + Sync, O: Sink>(
+        &mut self,
+        rt: &R,
+        commands: Vec<PipeCommand>,
+        frames: &mut O,
+    ) -> Result<(), LiveError>
+        requires { IsSync R.row };
+
+    fn go_round<R: Threads + Sync, O: Sink>(
+        &mut self,
+        rt: &R,
+        frames: &mut O,
+    ) -> Result<(), StageError>
+        requires { IsSync R.row };
 }
 
 impl Live for Pipe {
@@ -77,6 +94,23 @@ impl Live for Pipe {
         } else {
             Err(StageError::NoMemory)
         }
+    }
+
+    fn tell_all<R: Threads + Sync, O: Sink>(
+        &mut self,
+        rt: &R,
+        commands: Vec<PipeCommand>,
+        frames: &mut O,
+    ) -> Result<(), LiveError> {
+        self.play_live(rt, commands, frames)
+    }
+
+    fn go_round<R: Threads + Sync, O: Sink>(
+        &mut self,
+        rt: &R,
+        frames: &mut O,
+    ) -> Result<(), StageError> {
+        self.run_events(rt, &ROUND, frames)
     }
 }
 
@@ -148,5 +182,182 @@ fn a_block_between_two_frames(rt: HostRuntime) -> Result<(), Fail> {
             "ahead {ahead}"
         );
     }
+    Ok(())
+}
+
+/// Every tenth of so many commands is a frame, those before it give a geode's triangle another colour.
+const COMMANDS: u32 = 2_000;
+
+/// The red, green and blue that the command of this number gives.
+fn colour_of(number: u32) -> (u8, u8, u8) {
+    (
+        (number % 256) as u8,
+        (number / 10 % 256) as u8,
+        (number / 7 % 256) as u8,
+    )
+}
+
+/// Appends the command of this number to a text.
+fn push_command(alloc: Global, text: &mut String, number: u32) -> Result<(), Fail> {
+    if number % 10 == 9 {
+        text.push_str("frame\n")?;
+        return Ok(());
+    }
+    let (red, green, blue) = colour_of(number);
+    let corner = format!(in alloc; "{red} {green} {blue}")?;
+    let line = format!(in alloc;
+        "verts 1 1\nt -40960 4096 -40960 {corner} 40960 4096 -40960 {corner} 0 4096 81920 {corner}\n"
+    )?;
+    text.push_str(line.as_str())?;
+    Ok(())
+}
+
+/// The lines that make a geode of one triangle, which covers all pixels.
+const A_GEODE: &str =
+    "geode 1 0 1\nt -40960 4096 -40960 0 0 0 40960 4096 -40960 0 0 0 0 4096 81920 0 0 0\nadd 0 1\n";
+
+/// A play of so many commands behind those that make a geode.
+fn long_play(alloc: Global) -> Result<Play, Fail> {
+    let mut text = String::new(alloc);
+    text.push_str(NO_LINES)?;
+    text.push_str(A_GEODE)?;
+    for number in 0..COMMANDS {
+        push_command(alloc, &mut text, number)?;
+    }
+    Ok(parse(alloc, text.as_bytes())?)
+}
+
+/// The lines of the application in a play, as commands.
+fn commands_of(alloc: Global, play: Play) -> Result<Vec<PipeCommand>, Fail> {
+    let (lines, _) = play.into_lists();
+    let mut commands = Vec::new(alloc);
+    for line in lines {
+        commands.push(PipeCommand::Line(line))?;
+    }
+    Ok(commands)
+}
+
+/// The pictures of a play whose lines a pipe was given at once, after so many rounds of events.
+fn played<R: Threads + Sync, L: Live + Drop>(
+    alloc: Global,
+    rt: &R,
+    made: Result<L, NoMemory>,
+    rounds: u32,
+) -> Result<Vec<u8>, Fail> {
+    let mut pipe = made?;
+    let mut frames = MemSink::new(alloc, 10_000, Vec::new(alloc))?;
+    for _ in 0..rounds {
+        pipe.go_round(rt, &mut frames)?;
+    }
+    Ok(Vec::from_slice(alloc, frames.bytes())?)
+}
+
+/// The pictures of commands that a pipe was told one by one.
+fn told<R: Threads + Sync, L: Live + Drop>(
+    alloc: Global,
+    rt: &R,
+    made: Result<L, NoMemory>,
+    commands: Vec<PipeCommand>,
+) -> Result<Vec<u8>, Fail> {
+    let mut pipe = made?;
+    let mut frames = MemSink::new(alloc, 10_000, Vec::new(alloc))?;
+    pipe.tell_all(rt, commands, &mut frames)?;
+    Ok(Vec::from_slice(alloc, frames.bytes())?)
+}
+
+// The same pictures, 200 of 23 bytes, as the play has whose lines are read at once.
+#[test]
+fn two_thousand_commands(rt: HostRuntime) -> Result<(), Fail> {
+    let made = Pipe::new(rt.alloc(), long_play(rt.alloc())?, 1);
+    let all = played(rt.alloc(), &rt, made, 20 * COMMANDS)?;
+    assert_eq!(rt; all.len(), 200 * 23);
+    for ahead in 1..5u8 {
+        let commands = commands_of(rt.alloc(), long_play(rt.alloc())?)?;
+        let play = parse(rt.alloc(), NO_LINES.as_bytes())?;
+        let live = told(
+            rt.alloc(),
+            &rt,
+            Pipe::new(rt.alloc(), play, ahead),
+            commands,
+        )?;
+        assert_eq!(rt; live.as_slice(), all.as_slice(), "ahead {ahead}");
+    }
+    Ok(())
+}
+
+/// So many commands are told in one list; a play has room for no more than 65,536 triangles.
+const LIST: u32 = 1_000;
+
+/// So many lists are told.
+const LISTS: u32 = 100;
+
+/// The commands of a list, from this number on.
+fn list_from(alloc: Global, first: u32) -> Result<Vec<PipeCommand>, Fail> {
+    let mut text = String::new(alloc);
+    text.push_str(NO_LINES)?;
+    for number in 0..LIST {
+        push_command(alloc, &mut text, first.saturating_add(number))?;
+    }
+    commands_of(alloc, parse(alloc, text.as_bytes())?)
+}
+
+/// The pictures of a list's frames: each shows the colour that the command before its frame gave.
+fn pictures_from(alloc: Global, first: u32) -> Result<Vec<u8>, Fail> {
+    let mut pictures = Vec::new(alloc);
+    for frame in 0..LIST / 10 {
+        let (red, green, blue) = colour_of(first.saturating_add(10 * frame + 8));
+        pictures.extend_from_slice(b"P6\n2 2\n255\n")?;
+        for _ in 0..4u8 {
+            pictures.push(red)?;
+            pictures.push(green)?;
+            pictures.push(blue)?;
+        }
+    }
+    Ok(pictures)
+}
+
+/// The pictures of a list of commands that a pipe was told.
+fn pictures_of<R: Threads + Sync, L: Live>(
+    alloc: Global,
+    rt: &R,
+    pipe: &mut L,
+    commands: Vec<PipeCommand>,
+) -> Result<Vec<u8>, Fail> {
+    let mut frames = MemSink::new(alloc, 10_000, Vec::new(alloc))?;
+    pipe.tell_all(rt, commands, &mut frames)?;
+    Ok(Vec::from_slice(alloc, frames.bytes())?)
+}
+
+/// Tells a pipe a geode, and all lists behind it. Returns the number of lists whose pictures were as they are due.
+fn right_lists<R: Threads + Sync, L: Live + Drop>(
+    alloc: Global,
+    rt: &R,
+    made: Result<L, NoMemory>,
+) -> Result<u32, Fail> {
+    let mut pipe = made?;
+    let mut geode = String::new(alloc);
+    geode.push_str(NO_LINES)?;
+    geode.push_str(A_GEODE)?;
+    let commands = commands_of(alloc, parse(alloc, geode.as_bytes())?)?;
+    if !pictures_of(alloc, rt, &mut pipe, commands)?.is_empty() {
+        return Ok(0);
+    }
+    let mut right = 0u32;
+    for list in 0..LISTS {
+        let first = list * LIST;
+        let shown = pictures_of(alloc, rt, &mut pipe, list_from(alloc, first)?)?;
+        if shown.as_slice() == pictures_from(alloc, first)?.as_slice() {
+            right = right.saturating_add(1);
+        }
+    }
+    Ok(right)
+}
+
+// A pipe is told 100,000 commands, and shows 10,000 frames.
+#[test]
+fn a_hundred_thousand_commands(rt: HostRuntime) -> Result<(), Fail> {
+    let play = parse(rt.alloc(), NO_LINES.as_bytes())?;
+    let right = right_lists(rt.alloc(), &rt, Pipe::new(rt.alloc(), play, 1))?;
+    assert_eq!(rt; right, LISTS);
     Ok(())
 }
