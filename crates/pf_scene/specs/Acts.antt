@@ -155,12 +155,13 @@ abbrev pub free_in : Told → ℕ
 free_in block = vec_capacity block.entries - length block.entries.items
 
 -- Where so many entries were told, the next ones are told now, as many as the block has room for, and stand in order behind
--- those in it; nothing else changes. None is told where another number was told.
+-- those in it; nothing else changes. None is told where another number was told. The block says how many were told before.
 pub record TellsBlock (told : ℕ) (block : Told) (found left : SceneState) (reply : Told) : Type 0 where
   pub next : found.told ≡ told → TellsNext (free_in block) found left
   pub entries : found.told ≡ told → reply.entries.items ≡ block.entries.items ++ next_told (free_in block) found
   pub other : (found.told ≡ told → ⊥) → (left ≡ found) × (reply.entries.items ≡ block.entries.items)
   pub room : vec_capacity reply.entries ≡ vec_capacity block.entries
+  pub before : reply.before ≡ found.told
 
 -- What a glance shows: the stop mark, the counts of the state after the log, the weight and the copies.
 pub record Shows (found : SceneState) (sight : Sight) : Type 0 where

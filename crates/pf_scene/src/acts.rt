@@ -275,7 +275,8 @@ impl Act<Scene> for TellAct {
 }
 
 /// Tells the next entries behind so many, as many as a block has room for, and puts them behind those in it, each beside the
-/// number of its seat. It adds no entry. Where room is left, all were told.
+/// number of its seat. It adds no entry. None is told if another number was told before; the block says which. Where room is
+/// left else, all were told.
 #[derive(Debug, Drop)]
 pub struct TellBlockAct {
     /// The number of entries that were told before.
@@ -293,7 +294,8 @@ impl Act<Scene> for TellBlockAct {
     fn act(self, value: &mut Scene, seat: u32) -> Told {
         let _ = seat;
         let mut block = self.block;
-        if value.told() == self.told {
+        block.before = value.told();
+        if block.before == self.told {
             value.tell_into(&mut block.entries);
         }
         block

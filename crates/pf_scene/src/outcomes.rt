@@ -44,6 +44,8 @@ pub struct Framed {
 #[derive(Debug, Drop)]
 pub struct Told {
     pub entries: Vec<(u32, Entry)>,
+    /// How many entries of the history had been told when the last of these were asked for.
+    pub before: u64,
 }
 
 /// What a glance shows: whether the stop mark is set, and the counts.
