@@ -12,6 +12,7 @@ pub mod Uses
 pub mod Climbs
 pub mod Trials
 pub mod Spares
+pub mod Growths
 pub mod Settles
 pub mod Sounds
 pub mod Works

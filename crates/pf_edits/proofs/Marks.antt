@@ -8,7 +8,7 @@ use Rattle.std.proofs.lemmas.List.Folds.{list_any-append, list_any_at}
 use Rattle.std.proofs.lemmas.Bool.{cases_lt}
 use Rattle.std.proofs.lemmas.Bool.Decides.{eqb_tells, nat_tests}
 use Rattle.pf_model.proofs.Written.{length_written, same_read, count_longer}
-use Rattle.pf_edits.specs.Ways.{is_in, IsMarked}
+use Rattle.pf_edits.specs.Ways.{is_in, IsEachOnce, IsMarked}
 
 -- one more listed
 pub listed_more : (ids : List ℕ) (id : ℕ) → reverse (ids ++ id ∷ []) ≡ id ∷ reverse ids
@@ -37,6 +37,7 @@ marked_longer marks longer place written ids capacity other room marked within r
   told = λ b. same_read false marks longer place written b ∙ marked.told b;
   counted = ap (λ (ms : List Bool). count_by (λ m. m) ms) written ∙ count_longer (λ m. m) false marks (place + 1 - length marks) refl ∙ marked.counted;
   roomy = marked.roomy;
+  once = marked.once;
 }
 
 -- One more mark
@@ -62,6 +63,7 @@ module _ (marks : List Bool) (ids : List ℕ) (capacity room id : ℕ) (marked :
     told = λ b. told b (eqb_tells b id) ∙ sym (ap (is_in b) (listed_more ids id));
     counted = counted ∙ sym (length-append ids (id ∷ []));
     roomy = roomy;
+    once = subst IsEachOnce (sym (listed_more ids id)) (free, marked.once);
   }
     where
       told : (b : ℕ) → (((b == id) ≡ true) × (b ≡ id)) ⊎ (((b == id) ≡ false) × (b ≢ id)) → get_or (set marks id true) b false ≡ is_in b (id ∷ reverse ids)
@@ -81,7 +83,7 @@ module _ (marks : List Bool) (ids : List ℕ) (capacity room id : ℕ) (marked :
 -- No marks
 
 pub unmarked : (marks : List Bool) (capacity room : ℕ) → length marks ≤ 65536 → ((b : ℕ) → get_or marks b false ≡ false) → 65536 ≤ capacity → 65536 ≤ room → IsMarked marks [] capacity room
-unmarked marks capacity room few none reserved roomy = record { few = few; reserved = reserved; told = none; counted = no_count marks none; roomy = roomy }
+unmarked marks capacity room few none reserved roomy = record { few = few; reserved = reserved; told = none; counted = no_count marks none; roomy = roomy; once = tt }
 
 -- what is listed is listed in any order
 pub in_reverse : (b : ℕ) (ids : List ℕ) → is_in b (reverse ids) ≡ is_in b ids

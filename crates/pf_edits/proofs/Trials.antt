@@ -1,7 +1,7 @@
 -- Extents reckoned for a trial: as if a node had other children.
 use Rattle.std.proofs.Common.{◌≡◌, ℕ, zero, suc, ◌+◌, ◌-◌, ◌<◌, ◌≤◌, min, max, Bool, true, false, cond, ◌||◌, ◌==◌, List, [], ◌∷◌, length, get_or, set, take, drop, reverse, Option, Some, None, is_some, refl, sym, ◌∙◌, ap, subst, arith}
 use Rattle.std.specs.List.{fold, insert}
-use Rattle.std.specs.Option.{option_map}
+use Rattle.std.specs.Option.{option_map, option_map_or}
 use Rattle.std.proofs.lemmas.Bool.{eqb-true, eq-eqb}
 use Rattle.std.proofs.lemmas.List.{take-append-drop, take_more, set_split, take_all}
 use Rattle.std.proofs.lemmas.List.Sums.{fold-append}
@@ -18,10 +18,10 @@ use Rattle.pf_edits.specs.declared.records.Record.{Record}
 use Rattle.pf_edits.specs.declared.extents.Extent.{Extent}
 use Rattle.pf_edits.specs.Tables.{Slots, record_at}
 use Rattle.pf_edits.specs.Ways.{is_in, LeadUp}
-use Rattle.pf_edits.specs.Extents.{look_of, parents_of, leaf, joined, reckoned, extent_at, with_extent, Meets, MeetBut, IsSound, IsWithin}
+use Rattle.pf_edits.specs.Extents.{look_of, parents_of, leaf, joined, reckoned, extent_at, before_at, with_extent, Meets, MeetBut, IsSound, IsWithin}
 use Rattle.pf_edits.specs.Listed.{nodes_of}
 use Rattle.pf_edits.proofs.Marks.{in_reverse}
-use Rattle.pf_edits.proofs.Ups.{behind, ahead, not_true, no_true, meets_by, rest_of, up_closed, reckoned_same}
+use Rattle.pf_edits.proofs.Ups.{behind, ahead, not_true, no_true, meets_by, rest_of}
 use Rattle.pf_edits.proofs.Relinks.{children_changed, all_within}
 use Rattle.pf_edits.proofs.Rewrites.{look_kept, extents_set}
 use Rattle.pf_edits.proofs.Listed.{found, looks}
@@ -37,10 +37,6 @@ swapped false false r = refl
 twice : (p r : Bool) → (p || (p || r)) ≡ (p || r)
 twice true r = refl
 twice false r = refl
-
-second : (p q : Bool) → (p || q) ≡ false → q ≡ false
-second true q h = absurd (cc)
-second false q h = h
 
 only_first : (p : Bool) → p ≡ false → (p || false) ≡ false
 only_first true h = h
@@ -92,7 +88,7 @@ rest_whole (suc n) (c ∷ cs) = ap (λ m. take m (drop n cs)) (less (length cs) 
     less a b = omega arith
 
 -- extents that agree on the children
-reckoned_on : (f g : ℕ → Extent) (cs : List ℕ) → ((c : ℕ) → is_in c cs ≡ true → f c ≡ g c) → (e : Extent) → fold (λ e d. joined e (f d)) e cs ≡ fold (λ e d. joined e (g d)) e cs
+pub reckoned_on : (f g : ℕ → Extent) (cs : List ℕ) → ((c : ℕ) → is_in c cs ≡ true → f c ≡ g c) → (e : Extent) → fold (λ e d. joined e (f d)) e cs ≡ fold (λ e d. joined e (g d)) e cs
 reckoned_on f g [] same e = refl
 reckoned_on f g (c ∷ cs) same e =
     ap (λ x. fold (λ e d. joined e (f d)) (joined e x) cs) (same c (ahead (c == c) (is_in c cs) (eq-eqb c c refl)))
@@ -187,15 +183,25 @@ module _ (s m : Slots) (id : ℕ) (e : Extent) (way : List ℕ) (there : is_some
   pub wrote_off : (b : ℕ) → is_in b way ≡ false → extent_at m b ≡ extent_at s b
   wrote_off b off = wrote_other b (away b off)
 
-  pub wrote_meets : MeetBut (look_of m) (extent_at m) (id ∷ way)
-  wrote_meets b off =
-      wrote_other b (away b out) ∙ meets b (only_first (id == b) (turned_eq id b ∙ away b out))
-      ∙ sym (reckoned_same (extent_at s) (extent_at m) id (children_of (look_of s) b) wrote_other
-      (no_true (is_in id (children_of (look_of s) b)) (λ h. not_true (up_closed (look_of s) way leads b id on h) out)) leaf)
-      ∙ ap (λ (f : Look). reckoned (extent_at m) (children_of f b)) (sym (funext (look_of m) (look_of s) wrote_looks))
+  -- what its record has as the extent of before
+  was_of : (o : Option Record) → option_map_or (λ (r : Record). r.before) (option_map (with_extent e) o) leaf ≡ option_map_or (λ (r : Record). r.extent) o leaf
+  was_of None = refl
+  was_of (Some r) = refl
+
+  wrote_first : (b : ℕ) → cond (b == id) (before_at m b) (extent_at m b) ≡ extent_at s b
+  wrote_first b = by (b == id) refl
     where
-      out : is_in b way ≡ false
-      out = second (id == b) (is_in b way) off
+      by : (u : Bool) → (b == id) ≡ u → cond u (before_at m b) (extent_at m b) ≡ extent_at s b
+      by true f =
+          ap (λ (o : Option Record). option_map_or (λ r. r.before) o leaf) (wrote b ∙ ap (λ u. cond u (option_map (with_extent e) (record_at s b)) (record_at s b)) f)
+          ∙ was_of (record_at s b)
+      by false f = wrote_other b f
+
+  -- with the node as it was, extents meet the recursion as before
+  pub wrote_meets : MeetBut (look_of m) (λ b. cond (b == id) (before_at m b) (extent_at m b)) (id ∷ [])
+  wrote_meets =
+      subst (λ (f : Look). MeetBut f (λ b. cond (b == id) (before_at m b) (extent_at m b)) (id ∷ [])) (sym (funext (look_of m) (look_of s) wrote_looks))
+      (subst (λ (g : ℕ → Extent). MeetBut (look_of s) g (id ∷ [])) (sym (funext (λ b. cond (b == id) (before_at m b) (extent_at m b)) (extent_at s) wrote_first)) meets)
 
 -- extents that meet the recursion but at one node, which has that of its children as they were
 pub all_meet : (look : Look) (f g : ℕ → Extent) (id : ℕ) (way : List ℕ) → MeetBut look g (id ∷ []) → g id ≡ reckoned f (children_of look id)

@@ -1,5 +1,5 @@
 -- Nodes, parents and extents of records.
-use Rattle.std.specs.Prelude.{◌≡◌, ℕ, ◌+◌, ◌≤◌, min, max, true, false, List, []}
+use Rattle.std.specs.Prelude.{◌≡◌, ℕ, ◌+◌, ◌≤◌, min, max, true, false, if◌then◌else◌, List, []}
 use Rattle.std.specs.List.{fold}
 use Rattle.std.specs.Option.{option_map, option_map_or}
 use Rattle.pf_model.specs.declared.nodes.Kind.{Kind}
@@ -49,9 +49,17 @@ pub record IsSound (slots : Slots) : Type 0 where
   pub meets : Meets (look_of slots) (extent_at slots)
   pub noted : (y x : ℕ) → has_child (look_of slots) y x ≡ true → is_in y (parents_of slots x) ≡ true
 
--- a record with this extent
+-- a record with this extent, and with the one that it had as that of before
 abbrev pub with_extent : Extent → Record → Record
-with_extent e r = record r { extent = e }
+with_extent e r = record r { extent = e; before = r.extent }
+
+-- the extent that an id had until it was last set, that of a leaf where it has no node
+abbrev pub before_at : Slots → ℕ → Extent
+before_at slots id = option_map_or (λ r. r.before) (record_at slots id) leaf
+
+-- the extent with which an id was counted: that of before on a way, and else its own
+abbrev pub counted_at : Slots → List ℕ → ℕ → Extent
+counted_at slots way id = if is_in id way then before_at slots id else extent_at slots id
 
 -- the children of a record's node, and the record with other ones
 abbrev pub children_in : Record → List ℕ

@@ -7,6 +7,11 @@ use Rattle.pf_model.specs.Limits.{has_child}
 abbrev pub is_in : ℕ → List ℕ → Bool
 is_in id ids = list_any (λ other. other == id) ids
 
+-- no id stands twice
+abbrev pub IsEachOnce : List ℕ → Type 0
+IsEachOnce [] = ⊤
+IsEachOnce (x ∷ xs) = (is_in x xs ≡ false) × IsEachOnce xs
+
 -- The marks tell which ids are listed, each once: no more are written than there are ids, and there is memory for all
 -- marks and room for all ids.
 pub record IsMarked (marks : List Bool) (ids : List ℕ) (capacity room : ℕ) : Type 0 where
@@ -15,6 +20,7 @@ pub record IsMarked (marks : List Bool) (ids : List ℕ) (capacity room : ℕ) :
   pub told : (b : ℕ) → slice_index_or marks b false ≡ is_in b (reverse ids)
   pub counted : count_by (λ m. m) marks ≡ length ids
   pub roomy : 65536 ≤ room
+  pub once : IsEachOnce (reverse ids)
 
 -- every node that has one of these as a child stands after it
 abbrev pub LeadUp : Look → List ℕ → Type 0

@@ -1,13 +1,13 @@
 //! Going up from a node, and extents reckoned anew along the way.
-ghost use Rattle.std.specs.Prelude.{◌≡◌, ◌+◌, ◌-◌, ◌*◌, ◌≤◌, ◌<◌, ◌==◌, ◌||◌, ◌∷◌, [], length, slice_set, ℕ, true, false, if◌then◌else◌, reverse, map, max, Some, None, is_some, OnSome};
-ghost use Rattle.std.specs.List.{fold};
+ghost use Rattle.std.specs.Prelude.{◌≡◌, ◌+◌, ◌-◌, ◌*◌, ◌^◌, ◌≤◌, ◌<◌, ◌==◌, ◌||◌, ◌∷◌, [], length, slice_set, ℕ, true, false, if◌then◌else◌, reverse, map, max, Some, None, is_some, OnSome};
+ghost use Rattle.std.specs.List.{fold, sum_by};
 ghost use Rattle.std.specs.Option.{option_copied, option_map};
 ghost use Rattle.pf_model.specs.Graphs.{children_of, greatest, is_below};
 ghost use Rattle.pf_model.specs.Limits.{has_child};
 ghost use Rattle.pf_model.specs.Laws.{AreLow};
 ghost use Rattle.pf_edits.specs.Tables.{record_at};
 ghost use Rattle.pf_edits.specs.Ways.{is_in, LeadUp};
-ghost use Rattle.pf_edits.specs.Extents.{look_of, parents_of, extent_at, with_extent, joined, reckoned, MeetBut, IsSound};
+ghost use Rattle.pf_edits.specs.Extents.{look_of, parents_of, extent_at, before_at, counted_at, with_extent, joined, reckoned, MeetBut, IsSound};
 
 use crate::extents::{Extent, LEAF};
 use crate::records::Records;
@@ -57,6 +57,16 @@ pub(crate) fn extent_at(records: &Records, id: u16) -> Extent
 {
     match records.find(id) {
         Some(record) => record.extent,
+        None => LEAF,
+    }
+}
+
+/// The extent that an id had until it was last set, that of a leaf where it has no node.
+fn before_at(records: &Records, id: u16) -> Extent
+    ensures { result ≡ before_at records.now.slots id }
+{
+    match records.find(id) {
+        Some(record) => record.before,
         None => LEAF,
     }
 }
@@ -147,53 +157,174 @@ pub(crate) fn reckon(records: &mut Records, id: u16)
     records.set_extent(id, extent);
 }
 
-/// Reckons the extent of a node anew, but for one node.
-fn reckon_other(records: &mut Records, at: u16, id: u16)
+/// What the sizes of children on a way add up to now and did before, and whether all their heights are as before.
+#[derive(Clone, Copy)]
+struct Change {
+    gain: u64,
+    loss: u64,
+    level: bool,
+}
+
+impl Change {
+    /// Whether all heights are as before, also that of one more child.
+    fn stays_level(self, before: Extent, now: Extent) -> bool
+        ensures level { result ≡ true → self.level ≡ true }
+        ensures height { result ≡ true → before.height ≡ now.height }
+    {
+        self.level && before.height == now.height
+    }
+}
+
+/// A change with that of one more child, if it is on a way.
+fn changed_by(records: &Records, way: &Way, child: u16, change: Change) -> Change
+    requires gain { change.gain ≤ 2 ^ 42 }
+    requires loss { change.loss ≤ 2 ^ 42 }
+    ensures gain { result.gain
+        ≡ change.gain + (if is_in child way.now then (extent_at records.now.slots child).size else 0) }
+    ensures loss { result.loss
+        ≡ change.loss + (if is_in child way.now then (before_at records.now.slots child).size else 0) }
+    ensures level { result.level ≡ true
+        → (counted_at records.now.slots way.now child).height ≡ (extent_at records.now.slots child).height }
+    ensures before { result.level ≡ true → change.level ≡ true }
+    ensures gain_bound { result.gain ≤ change.gain + 2 ^ 32 }
+    ensures loss_bound { result.loss ≤ change.loss + 2 ^ 32 }
+{
+    if !way.contains(child) {
+        return change;
+    }
+    let now = extent_at(records, child);
+    let before = before_at(records, child);
+    Change {
+        gain: change.gain + u64::from(now.size),
+        loss: change.loss + u64::from(before.size),
+        level: change.stays_level(before, now),
+    }
+}
+
+/// What changed of the extents of these children along a way.
+fn change_along(records: &Records, way: &Way, children: &[u16]) -> Change
+    requires { length children.now ≤ 256 }
+    ensures gain { result.gain
+        ≡ sum_by (λ c. if is_in c way.now then (extent_at records.now.slots c).size else 0) children.now }
+    ensures loss { result.loss
+        ≡ sum_by (λ c. if is_in c way.now then (before_at records.now.slots c).size else 0) children.now }
+    ensures level { result.level ≡ true → (c : ℕ) → is_in c children.now ≡ true
+        → (counted_at records.now.slots way.now c).height ≡ (extent_at records.now.slots c).height }
+    ensures bound { result.gain ≤ 2 ^ 40 }
+{
+    let mut change = Change {
+        gain: 0,
+        loss: 0,
+        level: true,
+    };
+    for child in children {
+        change = changed_by(records, way, *child, change);
+    }
+    change
+}
+
+/// The extent of a node with these children, from the one that it had before those of them on a way changed. Sizes on
+/// the way are added and taken off. All children are gone through only where that does not tell the extent: if a height
+/// changed, or if the size of before stands at its cap.
+fn changed_extent(records: &Records, way: &Way, before: Extent, children: &[u16]) -> Extent
+    requires bound { length children.now ≤ 256 }
+    requires before { before ≡ reckoned (counted_at records.now.slots way.now) children.now }
+    ensures { result ≡ reckoned (extent_at records.now.slots) children.now }
+{
+    let change = change_along(records, way, children);
+    if change.level && before.size <= 131_072 {
+        before.resized(change.gain, change.loss)
+    } else {
+        over_children(records, children)
+    }
+}
+
+/// The extent of a node whose children on a way have changed since it was computed.
+fn extent_along(records: &Records, way: &Way, id: u16) -> Extent
+    requires { extent_at records.now.slots id
+        ≡ reckoned (counted_at records.now.slots way.now) (children_of (look_of records.now.slots) id) }
+    ensures { result ≡ reckoned (extent_at records.now.slots) (children_of (look_of records.now.slots) id) }
+{
+    match records.find(id) {
+        Some(record) => changed_extent(
+            records,
+            way,
+            record.extent,
+            record.node.children.as_slice(),
+        ),
+        None => LEAF,
+    }
+}
+
+/// Brings the extent of a node up to date, whose children on a way have changed since it was computed.
+fn update_along(records: &mut Records, way: &Way, id: u16)
+    requires { extent_at records.old.slots id
+        ≡ reckoned (counted_at records.old.slots way.now) (children_of (look_of records.old.slots) id) }
     ensures nodes { (b : ℕ) → look_of records.new.slots b ≡ look_of records.old.slots b }
     ensures parents { (b : ℕ) → parents_of records.new.slots b ≡ parents_of records.old.slots b }
-    ensures same { (at == id) ≡ true → (b : ℕ) → extent_at records.new.slots b ≡ extent_at records.old.slots b }
+    ensures extents { (b : ℕ) → extent_at records.new.slots b
+        ≡ (if b == id then reckoned (extent_at records.old.slots) (children_of (look_of records.old.slots) id)
+        else extent_at records.old.slots b) }
+    ensures before { (b : ℕ) → before_at records.new.slots b
+        ≡ (if b == id then extent_at records.old.slots id else before_at records.old.slots b) }
+{
+    let extent = extent_along(records, way, id);
+    records.set_extent(id, extent);
+}
+
+/// Brings the extent of a node up to date along a way, but for one node.
+fn update_other(records: &mut Records, way: &Way, at: u16, id: u16)
+    requires { (at == id) ≡ false → extent_at records.old.slots at
+        ≡ reckoned (counted_at records.old.slots way.now) (children_of (look_of records.old.slots) at) }
+    ensures nodes { (b : ℕ) → look_of records.new.slots b ≡ look_of records.old.slots b }
+    ensures parents { (b : ℕ) → parents_of records.new.slots b ≡ parents_of records.old.slots b }
+    ensures same { (at == id) ≡ true → records.new ≡ records.old }
     ensures extents { (at == id) ≡ false → (b : ℕ) → extent_at records.new.slots b
         ≡ (if b == at then reckoned (extent_at records.old.slots) (children_of (look_of records.old.slots) at)
         else extent_at records.old.slots b) }
+    ensures before { (at == id) ≡ false → (b : ℕ) → before_at records.new.slots b
+        ≡ (if b == at then extent_at records.old.slots at else before_at records.old.slots b) }
 {
     if at != id {
-        reckon(records, at);
+        update_along(records, way, at);
     }
 }
 
-/// Reckons extents anew along a way, from its end to its start, but for one node.
-pub(crate) fn reckon_others(records: &mut Records, way: &[u16], id: u16)
-    requires leads { LeadUp (look_of records.old.slots) (reverse way.now) }
-    requires meets { MeetBut (look_of records.old.slots) (extent_at records.old.slots) (id ∷ reverse way.now) }
+/// Brings extents up to date along a way, from its end to its start, but for one node, whose extent was set before.
+pub(crate) fn update_others(records: &mut Records, way: &Way, id: u16)
+    requires leads { LeadUp (look_of records.old.slots) way.now }
+    requires member { is_in id way.now ≡ true }
+    requires meets { MeetBut (look_of records.old.slots) (λ b. if b == id then before_at records.old.slots b
+        else extent_at records.old.slots b) (id ∷ []) }
     ensures meets { MeetBut (look_of records.new.slots) (extent_at records.new.slots) (id ∷ []) }
     ensures nodes { (b : ℕ) → look_of records.new.slots b ≡ look_of records.old.slots b }
     ensures parents { (b : ℕ) → parents_of records.new.slots b ≡ parents_of records.old.slots b }
-    ensures others { (b : ℕ) → is_in b (reverse way.now) ≡ false
-        → extent_at records.new.slots b ≡ extent_at records.old.slots b }
+    ensures others { (b : ℕ) → is_in b way.now ≡ false → extent_at records.new.slots b ≡ extent_at records.old.slots b }
     ensures kept { extent_at records.new.slots id ≡ extent_at records.old.slots id }
 {
-    let mut left = way.len();
+    let ids = way.as_slice();
+    let mut left = ids.len();
     while left > 0 {
         left -= 1;
-        reckon_other(records, way[left], id);
+        update_other(records, way, ids[left], id);
     }
 }
 
-/// Sets the extent of a node on a way, and reckons those of the other nodes along it anew, from its end to its start.
-pub(crate) fn set_along(records: &mut Records, way: &[u16], id: u16, extent: Extent)
+/// Sets the extent of a node on a way, and brings those of the other nodes along it up to date, from its end to its
+/// start.
+pub(crate) fn set_along(records: &mut Records, way: &Way, id: u16, extent: Extent)
     requires there { is_some (look_of records.old.slots id) ≡ true }
-    requires leads { LeadUp (look_of records.old.slots) (reverse way.now) }
-    requires member { is_in id (reverse way.now) ≡ true }
+    requires leads { LeadUp (look_of records.old.slots) way.now }
+    requires member { is_in id way.now ≡ true }
     requires meets { MeetBut (look_of records.old.slots) (extent_at records.old.slots) (id ∷ []) }
     ensures meets { MeetBut (look_of records.new.slots) (extent_at records.new.slots) (id ∷ []) }
     ensures extent { extent_at records.new.slots id ≡ extent }
     ensures nodes { (b : ℕ) → look_of records.new.slots b ≡ look_of records.old.slots b }
     ensures parents { (b : ℕ) → parents_of records.new.slots b ≡ parents_of records.old.slots b }
-    ensures others { (b : ℕ) → is_in b (reverse way.now) ≡ false
-        → extent_at records.new.slots b ≡ extent_at records.old.slots b }
+    ensures others { (b : ℕ) → is_in b way.now ≡ false → extent_at records.new.slots b ≡ extent_at records.old.slots b }
 {
     records.set_extent(id, extent);
-    reckon_others(records, way, id);
+    update_others(records, way, id);
 }
 
 /// The greatest height and the greatest size along a way.

@@ -1,5 +1,5 @@
 //! How far the unfolding of a node goes.
-ghost use Rattle.std.specs.Prelude.{◌≡◌, ◌+◌, max, min};
+ghost use Rattle.std.specs.Prelude.{◌≡◌, ◌+◌, ◌-◌, ◌^◌, ◌≤◌, max, min};
 ghost use Rattle.pf_edits.specs.Extents.{joined};
 
 /// Heights are reckoned up to here: more nodes than a chain can have.
@@ -55,6 +55,23 @@ impl Extent {
         Extent {
             height: height_over(self.height, child.height),
             size: size_over(self.size, child.size),
+        }
+    }
+
+    /// The extent of a node whose children gained and lost so much in size, and nothing in height.
+    pub(crate) fn resized(self, gain: u64, loss: u64) -> Extent
+        requires loss { loss ≤ self.size + gain }
+        requires gain { gain ≤ 2 ^ 40 }
+        ensures { result ≡ record { height = self.height; size = min 131073 (self.size + gain - loss) } }
+    {
+        let size = u64::from(self.size) + gain - loss;
+        Extent {
+            height: self.height,
+            size: if size < u64::from(MAX_SIZE) {
+                size as u32
+            } else {
+                MAX_SIZE
+            },
         }
     }
 

@@ -69,7 +69,7 @@ impl Work {
         ensures kept { KeepsParents self.old self.new }
         ensures fewer { KeepsParents self.new self.old }
     {
-        fault_along(&mut self.records, self.way.as_slice(), parent, extent)
+        fault_along(&mut self.records, &self.way, parent, extent)
     }
 
     /// The fault of an Add, by the way up from its parent.

@@ -36,12 +36,12 @@ fn swap_children(records: &mut Records, id: u16, children: Ids) -> Ids
 }
 
 /// Gives a node other children, with which its extent is known, and reckons those above it anew along a way up.
-fn relink_along(records: &mut Records, way: &[u16], id: u16, children: Ids, extent: Extent) -> Ids
+fn relink_along(records: &mut Records, way: &Way, id: u16, children: Ids, extent: Extent) -> Ids
     requires there { is_some (look_of records.old.slots id) ≡ true }
     requires meets { Meets (look_of records.old.slots) (extent_at records.old.slots) }
-    requires leads { LeadUp (look_of records.old.slots) (reverse way.now) }
-    requires member { is_in id (reverse way.now) ≡ true }
-    requires apart { (x : ℕ) → is_in x (reverse way.now) ≡ true → is_in x children ≡ false }
+    requires leads { LeadUp (look_of records.old.slots) way.now }
+    requires member { is_in id way.now ≡ true }
+    requires apart { (x : ℕ) → is_in x way.now ≡ true → is_in x children ≡ false }
     requires extent { extent ≡ reckoned (extent_at records.old.slots) children }
     ensures back { option_map child_list (look_of records.old.slots id) ≡ Some result }
     ensures nodes { (b : ℕ) → look_of records.new.slots b
@@ -49,7 +49,7 @@ fn relink_along(records: &mut Records, way: &[u16], id: u16, children: Ids, exte
         else look_of records.old.slots b) }
     ensures parents { (b : ℕ) → parents_of records.new.slots b ≡ parents_of records.old.slots b }
     ensures meets { Meets (look_of records.new.slots) (extent_at records.new.slots) }
-    ensures others { (b : ℕ) → is_in b (reverse way.now) ≡ false
+    ensures others { (b : ℕ) → is_in b way.now ≡ false
         → extent_at records.new.slots b ≡ extent_at records.old.slots b }
 {
     let older = swap_children(records, id, children);
@@ -82,7 +82,7 @@ pub(crate) fn relink_freely(
     ensures sound { IsSound records.new.slots }
 {
     climb(records, way, id);
-    let older = relink_along(records, way.as_slice(), id, children, extent);
+    let older = relink_along(records, way, id, children, extent);
     way.clear();
     older
 }
@@ -92,7 +92,7 @@ pub(crate) fn relink_freely(
 /// after the change, and then back.
 pub(crate) fn fault_along(
     records: &mut Records,
-    way: &[u16],
+    way: &Way,
     id: u16,
     extent: Extent,
 ) -> Option<Fault>
@@ -100,9 +100,9 @@ pub(crate) fn fault_along(
     requires low { AreLow (look_of records.old.slots) }
     requires small { (b : ℕ) → size_of (look_of records.old.slots) b ≤ 131072 }
     requires there { is_some (look_of records.old.slots id) ≡ true }
-    requires leads { LeadUp (look_of records.old.slots) (reverse way.now) }
-    requires member { is_in id (reverse way.now) ≡ true }
-    requires above { (b : ℕ) → is_in b (reverse way.now) ≡ true
+    requires leads { LeadUp (look_of records.old.slots) way.now }
+    requires member { is_in id way.now ≡ true }
+    requires above { (b : ℕ) → is_in b way.now ≡ true
         → (b == id || is_below (look_of records.old.slots) b id) ≡ true }
     ensures fault { (cs : List ℕ) → extent ≡ reckoned (extent_at records.old.slots) cs
         → ((x : ℕ) → is_in x cs ≡ true → (x == id || is_below (look_of records.old.slots) x id) ≡ false)
@@ -112,11 +112,11 @@ pub(crate) fn fault_along(
     ensures sound { IsSound records.new.slots }
 {
     let before = extent_at(records, id);
-    if has_room(records, way, before, extent) {
+    if has_room(records, way.as_slice(), before, extent) {
         return None;
     }
     set_along(records, way, id, extent);
-    let fault = excess(records, way);
+    let fault = excess(records, way.as_slice());
     set_along(records, way, id, before);
     fault
 }

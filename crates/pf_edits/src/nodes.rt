@@ -31,6 +31,7 @@ pub(crate) fn insert(records: &mut Records, id: u16, node: Node, parents: Parent
         node,
         parents,
         extent: LEAF,
+        before: LEAF,
     };
     records.put(id, entry);
     reckon(records, id);

@@ -16,12 +16,13 @@ use std::alloc::Global;
 use std::marker::Model;
 use std::mem;
 
-/// A node with the nodes that have it as a child, and its extent.
+/// A node with the nodes that have it as a child, its extent, and the one that it had until that was last set.
 #[derive(Debug, Drop)]
 pub(crate) struct Record {
     pub(crate) node: Node,
     pub(crate) parents: Parents,
     pub(crate) extent: Extent,
+    pub(crate) before: Extent,
 }
 
 /// Records by their ids, with room for as many as a graph has nodes, and the number of all their triangles.
@@ -194,6 +195,7 @@ fn write_extent(slab: &mut Slab<Record>, key: usize, extent: Extent)
     ensures capacity { slab.new.capacity ≡ slab.old.capacity }
 {
     if let Some(record) = slab.get_mut(key) {
+        record.before = record.extent;
         record.extent = extent;
     }
 }

@@ -56,6 +56,7 @@ impl Work {
             node,
             parents,
             extent: _,
+            before: _,
         } = older;
         let count = self.records.len();
         prove!(count < 4_097);

@@ -1,7 +1,7 @@
 //! The way up from a node: the nodes that were met, each after all that are above it. No more marks are written than the
 //! ids that were noted ask, so that a new way is quickly made.
 ghost use Rattle.std.specs.Prelude.{◌≡◌, ◌<◌, ℕ, false, true, [], ◌∷◌, if◌then◌else◌, reverse, length, slice_index_or, IfOk};
-ghost use Rattle.pf_edits.specs.Ways.{is_in};
+ghost use Rattle.pf_edits.specs.Ways.{is_in, IsEachOnce};
 
 use pf_io::NoMemory;
 use pf_model::write_to;
@@ -54,9 +54,10 @@ impl Way {
         }
     }
 
-    /// The nodes as they were met.
+    /// The nodes as they were met, each once.
     pub(crate) fn as_slice(&self) -> &[u16]
-        ensures { reverse result.now ≡ self.now }
+        ensures nodes { reverse result.now ≡ self.now }
+        ensures once { IsEachOnce self.now }
     {
         self.ids.as_slice()
     }

@@ -1,10 +1,10 @@
-use Rattle.std.proofs.Common.{◌≡◌, ℕ, ◌+◌, ◌-◌, ◌*◌, ◌≤◌, max, Option, [], is_some, map, reverse, refl, sym, ◌∙◌, ap, subst}
+use Rattle.std.proofs.Common.{◌≡◌, ℕ, ◌+◌, ◌-◌, ◌*◌, ◌≤◌, max, Option, List, [], is_some, map, reverse, refl, sym, ◌∙◌, ap, subst}
 use Rattle.pf_model.specs.declared.nodes.Node.{Node}
 use Rattle.pf_model.specs.Graphs.{Look, children_of, greatest, change}
 use Rattle.pf_model.specs.NodeEdits.{with_children}
 use Rattle.pf_model.proofs.Places.{funext}
 use Rattle.pf_edits.specs.declared.extents.Extent.{Extent}
-use Rattle.pf_edits.specs.Ways.{LeadUp}
+use Rattle.pf_edits.specs.Ways.{is_in, LeadUp}
 use Rattle.pf_edits.specs.Extents.{look_of, extent_at}
 use Rattle.pf_edits.specs.Listed.{nodes_of}
 use Rattle.pf_edits.proofs.Marks.{in_reverse}
@@ -24,19 +24,21 @@ pub set_along-requires-2-clause-leads : goal.set_along-requires-2-clause-leads
 set_along-requires-2-clause-leads c =
     let s = c.args.records.now.slots in
     let t = c.set_along.new.records.slots in
-    subst (λ (f : Look). LeadUp f (reverse c.args.way.now)) (sym (funext (look_of t) (look_of s) c.set_along.ensures.nodes)) c.requires.leads
+    subst (λ (f : Look). LeadUp f c.args.way.now) (sym (funext (look_of t) (look_of s) c.set_along.ensures.nodes)) c.requires.leads
 
 pub returns-then-has_room-clause-fault : goal.returns-then-has_room-clause-fault
 returns-then-has_room-clause-fault c =
     let s = c.args.records.now.slots in
-    let way = reverse c.args.way.now in
-    λ cs is apart.
-    sym (spared s c.args.id c.args.extent c.args.way.now c.requires.there c.requires.sound.meets c.requires.low c.requires.small c.requires.leads c.requires.member
-    (subst (λ (x : Extent). greatest (map (λ b. (extent_at s b).height) c.args.way.now) + (c.args.extent.height - x.height) ≤ 32) c.extent_at-before.ensures
+    let ids : List ℕ = c.as_slice.result.now in
+    let is : reverse ids ≡ c.args.way.now = c.as_slice.ensures.nodes in
+    λ cs kids apart.
+    sym (spared s c.args.id c.args.extent ids c.requires.there c.requires.sound.meets c.requires.low c.requires.small
+    (subst (LeadUp (look_of s)) (sym is) c.requires.leads) (ap (is_in c.args.id) is ∙ c.requires.member)
+    (subst (λ (x : Extent). greatest (map (λ b. (extent_at s b).height) ids) + (c.args.extent.height - x.height) ≤ 32) c.extent_at-before.ensures
     (c.has_room.ensures.low c.if-has_room.true))
-    (subst (λ (x : Extent). greatest (map (λ b. (extent_at s b).size) c.args.way.now) * max x.size c.args.extent.size ≤ 131072 * x.size) c.extent_at-before.ensures
+    (subst (λ (x : Extent). greatest (map (λ b. (extent_at s b).size) ids) * max x.size c.args.extent.size ≤ 131072 * x.size) c.extent_at-before.ensures
     (c.has_room.ensures.small c.if-has_room.true))
-    cs is (apart_from (look_of s) c.args.id cs [] way refl c.requires.above apart))
+    cs kids (λ x h. apart_from (look_of s) c.args.id cs [] c.args.way.now refl c.requires.above apart x (sym (ap (is_in x) is) ∙ h)))
 
 pub returns-clause-nodes : goal.returns-clause-nodes
 returns-clause-nodes c = λ b. c.set_along-2.ensures.nodes b ∙ c.set_along.ensures.nodes b
@@ -48,19 +50,19 @@ pub returns-clause-fault : goal.returns-clause-fault
 returns-clause-fault c =
     let s = c.args.records.now.slots in
     let t = c.set_along.new.records.slots in
-    let way = reverse c.args.way.now in
+    let way = c.args.way.now in
     λ cs is apart.
     c.excess-fault.ensures (change c.args.id (with_children cs) (nodes_of s)) (changed_rising s c.args.id (with_children cs))
     (trial_meets s t c.args.id c.args.extent way c.requires.there c.set_along.ensures.extent c.set_along.ensures.nodes c.set_along.ensures.meets c.set_along.ensures.others cs is
     (apart_from (look_of s) c.args.id cs [] way refl c.requires.above apart))
     (λ b off. trial_outside s t c.args.id c.args.extent way c.requires.there c.set_along.ensures.extent c.set_along.ensures.nodes c.set_along.ensures.meets c.set_along.ensures.others
-    c.requires.sound.meets c.requires.low c.requires.small b (in_reverse b c.args.way.now ∙ off))
+    c.requires.sound.meets c.requires.low c.requires.small b (sym (ap (is_in b) c.as_slice-2.ensures.nodes) ∙ in_reverse b c.as_slice-2.result.now ∙ off))
 
 pub returns-clause-sound : goal.returns-clause-sound
 returns-clause-sound c =
     let s = c.args.records.now.slots in
     let u = c.set_along-2.new.records.slots in
-    let way = reverse c.args.way.now in
+    let way = c.args.way.now in
     let nodes : (b : ℕ) → look_of u b ≡ look_of s b = λ b. c.set_along-2.ensures.nodes b ∙ c.set_along.ensures.nodes b in
     sound_again s u (funext (look_of u) (look_of s) nodes)
     (λ b. c.set_along-2.ensures.parents b ∙ c.set_along.ensures.parents b)

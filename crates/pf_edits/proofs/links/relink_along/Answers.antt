@@ -1,4 +1,4 @@
-use Rattle.std.proofs.Common.{◌≡◌, ◌==◌, ℕ, cond, List, [], ◌∷◌, reverse, Option, is_some, refl, sym, ◌∙◌, ap}
+use Rattle.std.proofs.Common.{◌≡◌, ◌==◌, ℕ, cond, List, [], ◌∷◌, Option, is_some, refl, sym, ◌∙◌, ap}
 use Rattle.std.specs.Option.{option_map_or}
 use Rattle.std.proofs.lemmas.Bool.{eq-eqb}
 use Rattle.pf_model.specs.declared.nodes.Node.{Node}
@@ -22,7 +22,7 @@ set_along-requires-clause-there c =
 pub set_along-requires-clause-leads : goal.set_along-requires-clause-leads
 set_along-requires-clause-leads c =
     leads_still (look_of c.args.records.now.slots) (look_of c.swap_children-older.new.records.slots) c.args.id c.args.children c.requires.there c.swap_children-older.ensures.nodes
-    (reverse c.args.way.now) c.requires.apart c.requires.leads
+    c.args.way.now c.requires.apart c.requires.leads
 
 pub set_along-requires-clause-meets : goal.set_along-requires-clause-meets
 set_along-requires-clause-meets c =
@@ -39,7 +39,7 @@ returns-clause-meets c =
     ap (λ (o : Option Node). option_map_or (λ (n : Node). n.children) o []) (c.set_along.ensures.nodes c.args.id)
     ∙ children_changed (look_of s) (look_of m) c.args.id c.args.children c.requires.there c.swap_children-older.ensures.nodes c.args.id
     ∙ ap (λ t. cond t c.args.children (children_of (look_of s) c.args.id)) (eq-eqb c.args.id c.args.id refl) in
-    all_meet (look_of u) (extent_at s) (extent_at u) c.args.id (reverse c.args.way.now) c.set_along.ensures.meets
+    all_meet (look_of u) (extent_at s) (extent_at u) c.args.id c.args.way.now c.set_along.ensures.meets
     (c.set_along.ensures.extent ∙ c.requires.extent ∙ ap (λ (cs : List ℕ). reckoned (extent_at s) cs) (sym kids))
     (λ x on. ap (is_in x) kids ∙ c.requires.apart x on)
     (λ b off. c.set_along.ensures.others b off ∙ c.swap_children-older.ensures.extents b)
