@@ -1,9 +1,10 @@
 //! A play: what a scene file asks of the application and of the database process.
-ghost use Rattle.std.specs.Prelude.{◌≡◌};
+ghost use Rattle.std.specs.Prelude.{◌≡◌, ◌≤◌, []};
 ghost use Rattle.play_format.specs.Plays.{IsPlay};
 
 use fx_math::Lens;
 use pf_model::{AppLine, BaseLine};
+use std::alloc::Global;
 use std::marker::Model;
 
 /// A play. Its sections have together at most 262,144 steps, each edit is in its ranges, and each view's channel is
@@ -84,6 +85,15 @@ impl Play {
             app,
             dbase,
         }
+    }
+
+    /// The play of these that has no steps.
+    pub fn without_steps(alloc: Global, lens: Lens, back: [u8; 3], channels: u8) -> Play
+        requires some_channel { 1 ≤ channels }
+        requires most_channels { channels ≤ 4 }
+        ensures { result ≡ record { lens = lens; back = back; channels = channels; app = []; dbase = [] } }
+    {
+        Play::new(lens, back, channels, Vec::new(alloc), Vec::new(alloc))
     }
 
     /// The size of the pictures, the focal length and the depths.

@@ -148,7 +148,7 @@ fn append_entry(alloc: Global, out: &mut Vec<u8>, entry: &Entry) -> Result<(), N
 }
 
 /// Appends the lines of entries, each of which stands beside the number of its seat.
-fn append_entries(
+pub(crate) fn append_each(
     alloc: Global,
     out: &mut Vec<u8>,
     entries: &[(u32, Entry)],
@@ -171,6 +171,6 @@ pub(crate) fn append_both(
 ) -> Result<(), NoMemory>
     ensures { OnOk result (out.new.items ≡ out.old.items ++ entry_texts (first.now ++ rest.now)) }
 {
-    append_entries(alloc, out, first)?;
-    append_entries(alloc, out, rest)
+    append_each(alloc, out, first)?;
+    append_each(alloc, out, rest)
 }

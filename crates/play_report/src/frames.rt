@@ -8,7 +8,7 @@ use draw_list::Stats;
 use pf_io::NoMemory;
 
 /// Appends the line of the frame of this number.
-fn append_frame(out: &mut Vec<u8>, frame: usize, stats: Stats) -> Result<(), NoMemory>
+pub(crate) fn append_line(out: &mut Vec<u8>, frame: usize, stats: Stats) -> Result<(), NoMemory>
     ensures { OnOk result (out.new.items ≡ out.old.items ++ frame_text frame stats) }
 {
     append_labelled(out, b"frame ", frame)?;
@@ -24,7 +24,7 @@ pub(crate) fn append_frames(out: &mut Vec<u8>, stats: &[Stats]) -> Result<(), No
     ensures { OnOk result (out.new.items ≡ out.old.items ++ frame_texts 1 stats.now) }
 {
     for (i, numbers) in stats.iter().enumerate() {
-        append_frame(out, i + 1, *numbers)?;
+        append_line(out, i + 1, *numbers)?;
     }
     Ok(())
 }

@@ -5,8 +5,10 @@
 mod entries;
 mod frames;
 mod numbers;
+mod pieces;
 mod probes;
 mod reports;
 
+pub use pieces::{append_entries, append_frame, append_probe};
 pub use probes::append_probes;
 pub use reports::{append_report, append_stats, append_summary};

@@ -23,7 +23,11 @@ fn append_answer(out: &mut Vec<u8>, answer: Option<Near>) -> Result<(), NoMemory
 }
 
 /// Appends the line of the answer for the frame of this number.
-fn append_probe(out: &mut Vec<u8>, frame: usize, answer: Option<Near>) -> Result<(), NoMemory>
+pub(crate) fn append_line(
+    out: &mut Vec<u8>,
+    frame: usize,
+    answer: Option<Near>,
+) -> Result<(), NoMemory>
     ensures { OnOk result (out.new.items ≡ out.old.items ++ probe_line frame answer) }
 {
     append_labelled(out, b"probe ", frame)?;
@@ -38,7 +42,7 @@ fn append_lines(out: &mut Vec<u8>, probes: &[Option<Near>]) -> Result<(), NoMemo
     ensures { OnOk result (out.new.items ≡ out.old.items ++ probe_lines 1 probes.now) }
 {
     for (i, answer) in probes.iter().enumerate() {
-        append_probe(out, i + 1, *answer)?;
+        append_line(out, i + 1, *answer)?;
     }
     Ok(())
 }

@@ -1,6 +1,6 @@
 use Rattle.std.proofs.Common.{◌≡◌, ◌++◌, drop}
 use Rattle.play_report.specs.Entries.{entry_texts}
-use Rattle.play_report.proofs.entries.append_entries.Given as goal
+use Rattle.play_report.proofs.entries.append_each.Given as goal
 
 abbrev pub invariant-loop-numbered : goal.invariant-loop-numbered
 invariant-loop-numbered l =
