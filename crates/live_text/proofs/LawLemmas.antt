@@ -17,11 +17,11 @@ use Rattle.live_text.specs.Laws.{behind_entries, unread, ReadsByLines}
 not_zero : (n : ℕ) → 0 < n → eqb n 0 ≡ false
 not_zero n h = grind (arith, nat_tests)
 
-behind_nil : (r : Result (List Entry) Refusal) → behind_entries [] r ≡ r
+pub behind_nil : (r : Result (List Entry) Refusal) → behind_entries [] r ≡ r
 behind_nil (Ok es) = refl
 behind_nil (Err e) = refl
 
-behind_behind : (xs ys : List Entry) (r : Result (List Entry) Refusal) → behind_entries xs (behind_entries ys r) ≡ behind_entries (xs ++ ys) r
+pub behind_behind : (xs ys : List Entry) (r : Result (List Entry) Refusal) → behind_entries xs (behind_entries ys r) ≡ behind_entries (xs ++ ys) r
 behind_behind xs ys (Ok es) = ap (λ (zs : List Entry). Ok zs) (sym (append_assoc xs ys es))
 behind_behind xs ys (Err e) = refl
 

@@ -13,7 +13,7 @@ use Rattle.play_format.specs.Plays.{app_fits, base_fits, opened, open_after}
 use Rattle.play_format.proofs.SpellLemmas.{both_true}
 use Rattle.play_format.proofs.OneLemmas.{AllWithin, front_within}
 use Rattle.live_text.specs.LiveCommands.{LiveCommand, Line, Block, LiveHeader, SpellsHeader, SpellCommands, app_steps, dbase_steps}
-use Rattle.live_text.specs.Laws.{MakesPlay}
+use Rattle.live_text.specs.Laws.{MakesSections, MakesPlay}
 use Rattle.live_text.proofs.OneReading.{text_within}
 
 channels_told : (says : Bool) (lens : Lens) (back : List ℕ) (n : ℕ) → (says ≡ false → n ≡ 1) → AllWithin (header_entries says lens back n) → (1 ≤ n) × (n ≤ 4)
@@ -50,16 +50,27 @@ closed_dbase channels n [] es h = refl
 closed_dbase channels n (Line l ∷ cs) es h = closed_dbase channels (n + length h.0) cs h.1 h.4
 closed_dbase channels n (Block ls ∷ cs) es h = open_more false false ls (dbase_steps cs) h.3.closed ∙ closed_dbase channels (n + length h.0) cs h.1 h.4
 
-pub makes_play : MakesPlay
-makes_play text h cs p few =
+pub makes_sections : MakesSections
+makes_sections text h cs p =
     let n = 2 + length p.header_lines in
     let w = front_within p.header_lines p.lines (text_within text (p.header_lines ++ p.lines) p.read) in
     let c = channels_told p.header.says h.lens h.back h.channels p.header.one_channel (subst AllWithin p.header.lines w) in
     record {
-      steps = few;
       some_channel = c.0;
       most_channels = c.1;
       app_steps = fits_app h.channels n 0 cs p.lines p.commands;
       base_steps = fits_dbase h.channels n cs p.lines p.commands;
       buffers = closed_dbase h.channels n cs p.lines p.commands;
+    }
+
+pub makes_play : MakesPlay
+makes_play text h cs p few =
+    let k = makes_sections text h cs p in
+    record {
+      steps = few;
+      some_channel = k.some_channel;
+      most_channels = k.most_channels;
+      app_steps = k.app_steps;
+      base_steps = k.base_steps;
+      buffers = k.buffers;
     }

@@ -1,5 +1,8 @@
 -- What the definitions of live texts imply.
-use Rattle.std.specs.Prelude.{◌≡◌, ℕ, ◌+◌, ◌<◌, ◌≤◌, true, List, [], ◌∷◌, ◌++◌, length, Option, Some, Result, Ok, Err}
+use Rattle.std.specs.Prelude.{◌≡◌, ℕ, ◌+◌, ◌<◌, ◌≤◌, true, false, List, [], ◌∷◌, ◌++◌, length, Option, Some, Result, Ok, Err}
+use Rattle.std.specs.List.{list_all}
+use Rattle.pf_model.specs.declared.lines.AppLine.{AppLine}
+use Rattle.pf_model.specs.declared.lines.BaseLine.{BaseLine}
 use Rattle.play_format.specs.declared.refusal.Why.{Why}
 use Rattle.play_format.specs.declared.refusal.Refusal.{Refusal}
 use Rattle.play_format.specs.Words.{pieces}
@@ -7,7 +10,7 @@ use Rattle.play_format.specs.Commands.{Entry}
 use Rattle.play_format.specs.Places.{may_end}
 use Rattle.play_format.specs.Grammar.{◌>>=◌}
 use Rattle.play_format.specs.Spelling.{text_of_lines}
-use Rattle.play_format.specs.Plays.{IsPlay}
+use Rattle.play_format.specs.Plays.{IsPlay, app_fits, base_fits, open_after}
 use Rattle.live_text.specs.declared.given.Given.{Given}
 use Rattle.live_text.specs.LiveGrammar.{live_from, end_refusal, unless, live_reading}
 use Rattle.live_text.specs.LiveCommands.{LiveCommand, LiveHeader, SpellsLive, app_steps, dbase_steps, play_of}
@@ -60,6 +63,20 @@ pub record GivenIsSpelled : Type 0 where
       → (h : LiveHeader) × (headers_in given ≡ h ∷ []) × SpellsLive (text_of_lines lines) h (commands_in given)
 
 -- Plays
+
+-- the steps of both sections are in their ranges, and each buffer is closed, however many steps there are
+pub record FitsSections (channels : ℕ) (app : List AppLine) (dbase : List BaseLine) : Type 0 where
+  pub some_channel : 1 ≤ channels
+  pub most_channels : channels ≤ 4
+  pub app_steps : list_all (λ l. app_fits channels l.step) app ≡ true
+  pub base_steps : list_all (λ l. base_fits l.step) dbase ≡ true
+  pub buffers : open_after false dbase ≡ Some false
+
+-- the sections of the play of a live text fit
+abbrev pub MakesSections : Type 0
+MakesSections =
+    (text : List ℕ) (h : LiveHeader) (cs : List LiveCommand) → SpellsLive text h cs
+    → FitsSections (play_of h cs).channels (play_of h cs).app (play_of h cs).dbase
 
 -- the play of a live text is one, where it has few enough steps
 abbrev pub MakesPlay : Type 0

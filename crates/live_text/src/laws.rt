@@ -1,5 +1,5 @@
 //! What the definitions imply.
-ghost use Rattle.live_text.specs.Laws.{GivenIsSpelled, HasOneLiveReading, MakesPlay, OnlyAddsCommands, ReadsByLines};
+ghost use Rattle.live_text.specs.Laws.{GivenIsSpelled, HasOneLiveReading, MakesPlay, MakesSections, OnlyAddsCommands, ReadsByLines};
 
 /// Does nothing. Its contract is a law: to read a live text line by line is to read its text.
 pub fn live_reading_by_lines()
@@ -16,6 +16,11 @@ pub fn one_live_reading()
 /// Does nothing. Its contract is a law: lines that are read one after the other spell what was given at them.
 pub fn what_is_given_is_spelled()
     ensures { GivenIsSpelled }
+{}
+
+/// Does nothing. Its contract is a law: the sections of the play of a live text fit, however many steps they have.
+pub fn live_text_makes_sections()
+    ensures { MakesSections }
 {}
 
 /// Does nothing. Its contract is a law: the play of a live text is a play, where it has few enough steps.

@@ -11,6 +11,7 @@ mod state;
 
 pub use given::Given;
 pub use laws::{
-    live_reading_by_lines, live_text_makes_play, one_live_reading, what_is_given_is_spelled,
+    live_reading_by_lines, live_text_makes_play, live_text_makes_sections, one_live_reading,
+    what_is_given_is_spelled,
 };
 pub use reader::LiveReader;

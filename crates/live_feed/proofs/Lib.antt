@@ -1,0 +1,5 @@
+pub mod Pieces
+pub mod Reading
+pub mod Given
+pub mod Plays
+pub mod Feeding
