@@ -5,7 +5,8 @@ use Rattle.std.specs.Option.{option_to_list}
 use Rattle.pf_history.specs.Logs.{Log}
 use Rattle.pipe_plays.specs.declared.played.PlayEnd.{PlayEnd}
 use Rattle.program_words.specs.declared.words.Words.{Words}
-use Rattle.perfly_top.specs.Calls.{Bytes, IsUntouched}
+use Rattle.program_ends.specs.Told.{Bytes}
+use Rattle.perfly_top.specs.Calls.{IsUntouched}
 use Rattle.perfly_top.specs.Endings.{IsBegun}
 
 -- what is left behind a `next`

@@ -7,10 +7,11 @@ use Rattle.play_format.specs.Reads.{Reads, HasReading, first_refusal}
 use Rattle.play_format.proofs.OneLemmas.{one_play}
 use Rattle.play_check.specs.Stuck.{IsStuck}
 use Rattle.program_words.specs.declared.words.Words.{Words}
-use Rattle.perfly_top.specs.declared.stop.Stop.{Stop}
-use Rattle.perfly_top.specs.declared.stop.Stop.TheVariants as stop
+use Rattle.program_ends.specs.declared.stop.Stop.{Stop}
+use Rattle.program_ends.specs.declared.stop.Stop.TheVariants as stop
+use Rattle.program_ends.specs.Statuses.{status_of}
 use Rattle.perfly_top.specs.Calls.{given_text, IsGiven}
-use Rattle.perfly_top.specs.Endings.{status_of, IsWhy, IsDue}
+use Rattle.perfly_top.specs.Endings.{IsWhy, IsDue}
 
 -- what holds of the text by one meaning of the words holds of it by the other
 of_text : (P : List ℕ → Type 0) (meant : Option Words) (left : Option (List ℕ)) (v w : Words) (text : List ℕ) →

@@ -8,11 +8,12 @@ use Rattle.play_format.specs.declared.refusal.Refusal.{Refusal}
 use Rattle.play_format.specs.Plays.{Script}
 use Rattle.play_format.specs.Reads.{Reads}
 use Rattle.program_words.specs.declared.words.Words.{Words}
-use Rattle.perfly_top.specs.declared.stop.Stop.{Stop}
-use Rattle.perfly_top.specs.declared.stop.Stop.TheVariants as stop
-use Rattle.perfly_top.specs.Calls.{Bytes}
+use Rattle.program_ends.specs.declared.stop.Stop.{Stop}
+use Rattle.program_ends.specs.declared.stop.Stop.TheVariants as stop
+use Rattle.program_ends.specs.Statuses.{status_of}
+use Rattle.program_ends.specs.Told.{Bytes}
 use Rattle.perfly_top.specs.Readings.{Gave, ends_for, EndsOrFills, EndsOnce, EndsFor}
-use Rattle.perfly_top.specs.Endings.{status_of, FindsEnd}
+use Rattle.perfly_top.specs.Endings.{FindsEnd}
 
 -- a text that is a play was read to its end
 pub one_end_of : (r : Result Script Stop) (v : List ℕ) (ends ends' : ℕ) → (length v < 16777217 → ends' ≡ counted ends) →

@@ -1,4 +1,3 @@
-mod Telling
 mod ByteSums
 mod Readings
 mod Ends

@@ -10,8 +10,8 @@ use Rattle.pf_history.specs.Logs.{IsLegal}
 use Rattle.pf_history.specs.Fits.{FitsWholly}
 use Rattle.play_fences.specs.Laws.{IsWhole, FencedLaw}
 use Rattle.program_words.specs.declared.words.Words.{Words}
+use Rattle.program_ends.specs.Played.{stream_of}
 use Rattle.perfly_top.specs.Calls.{given_text}
-use Rattle.perfly_top.specs.Program.{stream_of}
 use Rattle.perfly_top.specs.Pairs.{Run, EndsDone, IsGivenText, FencedRunsLaw}
 
 -- a text spells one play

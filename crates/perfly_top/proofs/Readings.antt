@@ -9,8 +9,8 @@ use Rattle.play_format.specs.declared.refusal.Why.TheVariants as whys
 use Rattle.play_format.specs.Plays.{Script}
 use Rattle.play_format.specs.Reads.{Reads, HasReading, first_refusal}
 use Rattle.play_format.specs.Grammar.{reading}
-use Rattle.perfly_top.specs.declared.stop.Stop.{Stop}
-use Rattle.perfly_top.specs.declared.stop.Stop.TheVariants as stop
+use Rattle.program_ends.specs.declared.stop.Stop.{Stop}
+use Rattle.program_ends.specs.declared.stop.Stop.TheVariants as stop
 use Rattle.perfly_top.specs.Readings.{Gave, HasNoPlay}
 
 -- two texts spell the same play, or have the same first wrong line

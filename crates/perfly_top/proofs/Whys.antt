@@ -8,10 +8,11 @@ use Rattle.play_format.specs.Reads.{Reads}
 use Rattle.play_check.specs.Stuck.{IsStuck, AreStuckLines}
 use Rattle.play_gen.proofs.EndLemmas.{can_end}
 use Rattle.program_words.specs.declared.words.Words.{Words}
-use Rattle.perfly_top.specs.declared.stop.Stop.{Stop}
-use Rattle.perfly_top.specs.declared.stop.Stop.TheVariants as stop
+use Rattle.program_ends.specs.declared.stop.Stop.{Stop}
+use Rattle.program_ends.specs.declared.stop.Stop.TheVariants as stop
+use Rattle.program_ends.specs.Statuses.{status_of}
 use Rattle.perfly_top.specs.Calls.{given_text, IsGiven, IsBarred, IsReadFor}
-use Rattle.perfly_top.specs.Endings.{status_of, IsWhy}
+use Rattle.perfly_top.specs.Endings.{IsWhy}
 
 -- a play that is stuck was not made
 unmade_by : (make : Option ℕ) (left : Option (List ℕ)) (play : Script) → IfSome make (λ n. n ≤ 256) →

@@ -1,7 +1,6 @@
--- What a call of the program is given, and what it may leave of its source, its frame sink and its report sink.
-use Rattle.std.specs.Prelude.{◌≡◌, ℕ, ◌≤◌, ◌⊎◌, List, [], length, take, Option, Some, None, IfSome}
-use Rattle.std.specs.Io.KnownBytes.{append_known, prepend_known, IsAtEnd}
-use Rattle.pf_io.specs.Causes.{Calm, Rose}
+-- What a call of the program is given, and what it may leave of its source and its frame sink.
+use Rattle.std.specs.Prelude.{◌≡◌, ℕ, ◌⊎◌, List, [], length, Option, Some, None, IfSome}
+use Rattle.std.specs.Io.KnownBytes.{prepend_known, IsAtEnd}
 use Rattle.pf_io.specs.Streams.{TakesFront}
 use Rattle.play_format.specs.declared.refusal.Refusal.{Refusal}
 use Rattle.play_format.specs.Plays.{Script}
@@ -10,10 +9,7 @@ use Rattle.play_check.specs.Stuck.{IsStuck, AreStuckLines}
 use Rattle.play_gen.specs.Lines.{generated_text}
 use Rattle.pf_history.specs.Logs.{Log}
 use Rattle.program_words.specs.declared.words.Words.{Words}
-
--- the bytes of a stream, where it tells them
-abbrev pub Bytes : Type 0
-Bytes = Option (List ℕ)
+use Rattle.program_ends.specs.Told.{Bytes}
 
 -- The text that is to be played: with a number to make, the generated one, and else what the source has left, where it
 -- tells that.
@@ -57,13 +53,3 @@ pub record IsBarred (meant : Option Words) (left left' : Bytes) (app dbase : ℕ
 -- no entry was made, and nothing was drawn
 abbrev pub IsUntouched : Log → (frames frames' : Bytes) → Type 0
 IsUntouched log frames frames' = (log ≡ []) × (frames' ≡ frames)
-
--- a text was added to a sink, all of it without a fault, or a front of it up to a fault
-abbrev pub IsTold : (old new : Bytes) → (before now : ℕ) → List ℕ → Type 0
-IsTold old new before now text =
-    ((new ≡ append_known old text) × Calm before now)
-    ⊎ ((k : ℕ) × (k ≤ length text) × (new ≡ append_known old (take k text)) × Rose before now)
-
--- a front of a text was added to a sink, or all of it
-abbrev pub AddsSome : (old new : Bytes) → List ℕ → Type 0
-AddsSome old new text = (k : ℕ) × (k ≤ length text) × (new ≡ append_known old (take k text))

@@ -10,29 +10,15 @@ use Rattle.pipe_plays.specs.declared.played.PlayEnd.{PlayEnd}
 use Rattle.play_check.specs.Stuck.{IsStuck}
 use Rattle.pf_history.specs.Logs.{Log}
 use Rattle.program_words.specs.declared.words.Words.{Words}
-use Rattle.perfly_top.specs.declared.stop.Stop.{Stop}
-use Rattle.perfly_top.specs.declared.stop.Stop.TheVariants as stop
-use Rattle.perfly_top.specs.Messages.{message_of}
-use Rattle.perfly_top.specs.Calls.{Bytes, given_text, IsGiven, IsRefused, IsBarred, IsTold, AddsSome}
+use Rattle.program_ends.specs.declared.stop.Stop.{Stop}
+use Rattle.program_ends.specs.declared.stop.Stop.TheVariants as stop
+use Rattle.program_ends.specs.Messages.{message_of}
+use Rattle.program_ends.specs.Statuses.{status_of, refusal_of, stuck_of}
+use Rattle.program_ends.specs.Told.{Bytes, IsTold, AddsSome}
+use Rattle.program_ends.specs.Played.{IsPart, IsPlayed}
+use Rattle.perfly_top.specs.Calls.{given_text, IsGiven, IsRefused, IsBarred}
 use Rattle.perfly_top.specs.Readings.{EndsOnce, EndsOrFills}
-use Rattle.perfly_top.specs.Program.{told, IsSummed, IsPart, IsPlayed}
-
--- the status that a call ends with where it doesn't come to its end
-abbrev pub status_of : Stop → ℕ
-status_of stop.Words = 1
-status_of (stop.Refused r) = 2
-status_of (stop.Stuck app dbase) = 3
-status_of stop.ReadFault = 4
-status_of stop.FrameFault = 5
-status_of stop.NoMemory = 7
-
-abbrev pub refusal_of : Stop → Option Refusal
-refusal_of (stop.Refused r) = Some r
-refusal_of _ = None
-
-abbrev pub stuck_of : Stop → Option (ℕ × ℕ)
-stuck_of (stop.Stuck app dbase) = Some (app, dbase)
-stuck_of _ = None
+use Rattle.perfly_top.specs.Program.{told, IsSummed}
 
 -- why a call stops before it plays, and what it has read of its source by then
 abbrev pub IsWhy : Option Words → (left left' : Bytes) → Stop → Type 0
@@ -58,14 +44,14 @@ pub record IsBegun (meant : Option Words) (left left' : Bytes) (ended : PlayEnd)
   pub play : Script
   pub given : IsGiven meant left left' words play
   pub can_end : ¬ IsStuck play.app play.dbase
-  pub part : IsPart words play ended log frames frames'
+  pub part : IsPart words.ahead play ended log frames frames'
 
 -- The play that was given was played to its end, and told: the headline.
 pub record IsDone (meant : Option Words) (left left' : Bytes) (log : Log) (frames frames' report report' : Bytes) : Type 0 where
   pub words : Words
   pub play : Script
   pub given : IsGiven meant left left' words play
-  pub played : IsPlayed words play log frames frames'
+  pub played : IsPlayed words.ahead play log frames frames'
   pub sum : ℕ
   pub summed : IsSummed words play log frames sum
   pub told : report' ≡ append_known report (told words play log sum)
@@ -75,7 +61,7 @@ pub record IsDoneUntold (meant : Option Words) (left left' : Bytes) (log : Log) 
   pub words : Words
   pub play : Script
   pub given : IsGiven meant left left' words play
-  pub played : IsPlayed words play log frames frames'
+  pub played : IsPlayed words.ahead play log frames frames'
   pub sum : ℕ
   pub summed : IsSummed words play log frames sum
   pub told : AddsSome report report' (told words play log sum)

@@ -1,5 +1,3 @@
-pub mod Stops
-pub mod Messages
 pub mod Sums
 pub mod Arguments
 pub mod Calls

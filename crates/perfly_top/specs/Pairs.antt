@@ -7,7 +7,8 @@ use Rattle.pf_history.specs.Logs.{Log}
 use Rattle.play_fences.specs.Fences.{IsFenced}
 use Rattle.play_fences.specs.Laws.{ShowsSame}
 use Rattle.program_words.specs.declared.words.Words.{Words}
-use Rattle.perfly_top.specs.Calls.{Bytes, given_text}
+use Rattle.program_ends.specs.Told.{Bytes}
+use Rattle.perfly_top.specs.Calls.{given_text}
 use Rattle.perfly_top.specs.Endings.{IsDone}
 
 -- A run of the program: what its words mean, its history, and what its source, its frame sink and its report sink have

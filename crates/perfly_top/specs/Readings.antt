@@ -4,9 +4,10 @@ use Rattle.std.specs.Io.KnownBytes.{prepend_known, IsAtEnd}
 use Rattle.pf_io.specs.Causes.{counted}
 use Rattle.pf_io.specs.Streams.{TakesFront}
 use Rattle.play_format.specs.Reads.{HasReading, first_refusal}
-use Rattle.perfly_top.specs.declared.stop.Stop.{Stop}
-use Rattle.perfly_top.specs.declared.stop.Stop.TheVariants as stop
-use Rattle.perfly_top.specs.Calls.{Bytes, given_text, IsReadOut}
+use Rattle.program_ends.specs.declared.stop.Stop.{Stop}
+use Rattle.program_ends.specs.declared.stop.Stop.TheVariants as stop
+use Rattle.program_ends.specs.Told.{Bytes}
+use Rattle.perfly_top.specs.Calls.{given_text, IsReadOut}
 
 -- The source gave these bytes, all that it had or as many as are read at most.
 pub record Gave (left left' : Bytes) (bytes : List ℕ) : Type 0 where

@@ -1,18 +1,15 @@
--- What a run of a play leaves.
+-- What a run of a play leaves beside its history and its stream.
 use Rattle.std.specs.Prelude.{◌≡◌, ◌≢◌, ℕ, List, Option}
-use Rattle.std.specs.Io.KnownBytes.{append_known}
 use Rattle.pf_io.specs.Causes.{Calm, Rose}
 use Rattle.draw_list.specs.declared.stats.Stats.{Stats}
 use Rattle.nearest_hit.specs.declared.found.Near.{Near}
 use Rattle.play_format.specs.Plays.{Script}
-use Rattle.pf_history.specs.Logs.{Log, IsLegal}
-use Rattle.pf_history.specs.Fits.{FitsPlay, FitsWholly}
+use Rattle.pf_history.specs.Logs.{Log}
 use Rattle.stage_parts.specs.Pictures.{frame_numbers}
-use Rattle.pipe_plays.specs.Played.{AddsFront}
 use Rattle.pipe_plays.specs.declared.played.PlayEnd.{PlayEnd}
 use Rattle.pipe_plays.specs.declared.played.PlayEnd.TheVariants as end
 use Rattle.program_words.specs.declared.words.Words.{Words}
-use Rattle.perfly_top.specs.Program.{stream_of, answers}
+use Rattle.perfly_top.specs.Program.{answers}
 
 -- the numbers are those of the frames of a history
 abbrev pub HasNumbers : Script → List Stats → Log → Type 0
@@ -21,16 +18,6 @@ HasNumbers play stats log = stats ≡ frame_numbers play.channels play.lens log
 -- the answers are those to the probe in a history
 abbrev pub HasAnswers : Words → Script → List (Option Near) → Log → Type 0
 HasAnswers words play probes log = probes ≡ answers words play log
-
--- The history is one of the play, and the stream is a prefix of its pictures, cut short only by a fault of the sink; where the
--- play came to its end, the history fits it wholly, the stream is all pictures, and the numbers are those of the frames.
-pub record IsRun (play : Script) (ahead : ℕ) (ended : PlayEnd) (log : Log) (stats : List Stats) (old new : Option (List ℕ)) : Type 0 where
-  pub legal : IsLegal play.channels log
-  pub fits : FitsPlay play.channels ahead play.app play.dbase log
-  pub wholly : ended ≡ end.Done → FitsWholly play.channels ahead play.app play.dbase log
-  pub front : AddsFront play ended log old new
-  pub whole : ended ≡ end.Done → new ≡ append_known old (stream_of play log)
-  pub numbers : ended ≡ end.Done → HasNumbers play stats log
 
 -- it ended by a fault of the sink exactly where the count of its faults rose, after which nothing was written
 pub record EndsByFault (ended : PlayEnd) (before now : ℕ) (at_fault written : Option (List ℕ)) : Type 0 where

@@ -11,21 +11,23 @@ ghost use Rattle.pipe_plays.specs.declared.played.PlayEnd.TheVariants as end;
 ghost use Rattle.play_format.specs.declared.refusal.Refusal.{Refusal};
 ghost use Rattle.program_words.specs.declared.words.Words.{Words};
 ghost use Rattle.program_words.specs.Meaning.{meaning_of_words};
+ghost use Rattle.program_ends.specs.Messages.{message_of};
+ghost use Rattle.program_ends.specs.Statuses.{status_of};
+ghost use Rattle.program_ends.specs.Stops.{stop_of_arguments};
+ghost use Rattle.program_ends.specs.Told.{IsTold};
+ghost use Rattle.program_ends.specs.declared.stop.Stop.{Stop};
+ghost use Rattle.program_ends.specs.declared.stop.Stop.TheVariants as stop;
 ghost use Rattle.perfly_top.specs.Arguments.{meaning_of_arguments};
-ghost use Rattle.perfly_top.specs.Calls.{IsRefused, IsBarred, IsTold};
-ghost use Rattle.perfly_top.specs.Endings.{status_of, IsBegun, IsDone, IsDoneUntold, FindsEnd, IsDue, IsDueMade};
-ghost use Rattle.perfly_top.specs.Messages.{message_of};
-ghost use Rattle.perfly_top.specs.Stops.{stop_of_arguments};
-ghost use Rattle.perfly_top.specs.declared.stop.Stop.{Stop};
-ghost use Rattle.perfly_top.specs.declared.stop.Stop.TheVariants as stop;
+ghost use Rattle.perfly_top.specs.Calls.{IsRefused, IsBarred};
+ghost use Rattle.perfly_top.specs.Endings.{IsBegun, IsDone, IsDoneUntold, FindsEnd, IsDue, IsDueMade};
 
-use crate::ending::{
-    DONE, FRAME_FAULT, NO_MEMORY, READ_FAULT, REFUSED, REPORT_FAULT, STUCK, WORDS, stopped,
-};
-use crate::stop::Stop;
+use crate::ending::stopped;
 use crate::top::perfly;
 use pf_history::History;
 use pf_io::{Gate, NoMemory, Sink, Source};
+use program_ends::{
+    DONE, FRAME_FAULT, NO_MEMORY, READ_FAULT, REFUSED, REPORT_FAULT, STUCK, Stop, WORDS,
+};
 use std::alloc::Global;
 use std::env::Args;
 use std::io;

@@ -5,22 +5,24 @@ ghost use Rattle.std.specs.Io.KnownBytes.{append_known};
 ghost use Rattle.pf_io.specs.Causes.{Calm, Rose};
 ghost use Rattle.pf_io.specs.Streams.{TakesFront};
 ghost use Rattle.play_check.specs.Stuck.{IsStuck};
-ghost use Rattle.perfly_top.specs.Calls.{IsRefused, IsBarred, IsUntouched, AddsSome};
-ghost use Rattle.perfly_top.specs.Program.{told, IsSummed, IsPart, IsPlayed};
+ghost use Rattle.program_ends.specs.Played.{IsPart, IsPlayed};
+ghost use Rattle.program_ends.specs.Told.{AddsSome};
+ghost use Rattle.perfly_top.specs.Calls.{IsRefused, IsBarred, IsUntouched};
+ghost use Rattle.perfly_top.specs.Program.{told, IsSummed};
 ghost use Rattle.perfly_top.specs.Endings.{IsStopped, IsBegun, IsDone, IsDoneUntold, FindsEnd, IsDue, IsDueMade};
 ghost use Rattle.perfly_top.specs.Setups.{is_on_one_thread};
 
-use crate::ending::{
-    DONE, Ended, FRAME_FAULT, NO_MEMORY, READ_FAULT, REFUSED, REPORT_FAULT, STUCK, WORDS, stopped,
-    tell,
-};
+use crate::ending::{Ended, stopped, tell};
 use crate::playing::run_of;
 use crate::preparing::prepared;
-use crate::stop::Stop;
 use pf_history::History;
 use pf_io::{Gate, Sink, Source};
 use pipe_core::PlayEnd;
 use play_format::Play;
+use program_ends::laws::what_is_left_is_part;
+use program_ends::{
+    DONE, FRAME_FAULT, NO_MEMORY, READ_FAULT, REFUSED, REPORT_FAULT, STUCK, Stop, WORDS,
+};
 use program_words::Words;
 use std::alloc::Global;
 use std::sync::Wait;
@@ -41,11 +43,11 @@ fn played<
     ensures one_of { (result.status ≡ DONE) ⊎ (result.status ≡ FRAME_FAULT) ⊎ (result.status ≡ REPORT_FAULT)
         ⊎ (result.status ≡ NO_MEMORY) }
     ensures begun { result.status ≡ FRAME_FAULT
-        → IsPart words play PlayEnd.FrameFault result.history.entries (O.written frames.old) (O.written frames.new) }
+        → IsPart words.ahead play PlayEnd.FrameFault result.history.entries (O.written frames.old) (O.written frames.new) }
     ensures part { result.status ≡ NO_MEMORY
-        → IsPart words play PlayEnd.NoMemory result.history.entries (O.written frames.old) (O.written frames.new) }
+        → IsPart words.ahead play PlayEnd.NoMemory result.history.entries (O.written frames.old) (O.written frames.new) }
     ensures played { (result.status ≡ DONE) ⊎ (result.status ≡ REPORT_FAULT)
-        → IsPlayed words play result.history.entries (O.written frames.old) (O.written frames.new) }
+        → IsPlayed words.ahead play result.history.entries (O.written frames.old) (O.written frames.new) }
     ensures whole { result.status ≡ DONE → (sum : ℕ)
         × IsSummed words play result.history.entries (O.written frames.old) sum
         × (P.written report.new ≡ append_known (P.written report.old) (told words play result.history.entries sum)) }
@@ -65,6 +67,7 @@ fn played<
     ensures no_refusal { result.refusal ≡ None }
     ensures not_stuck { result.stuck ≡ None }
 {
+    what_is_left_is_part();
     let run = run_of(alloc, rt, play, words, frames, gate);
     match run.played.end {
         PlayEnd::Done => tell(alloc, words, run, report),

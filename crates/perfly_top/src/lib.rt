@@ -7,19 +7,18 @@ mod exit;
 mod hosted;
 pub mod laws;
 mod loading;
-mod messages;
 mod playing;
 mod playing_alone;
 mod preparing;
 mod setup;
-mod stop;
 mod summing;
 mod top;
 
 pub use alone::perfly_alone;
-pub use ending::{
-    DONE, Ended, FRAME_FAULT, NO_MEMORY, READ_FAULT, REFUSED, REPORT_FAULT, STUCK, WORDS,
-};
+pub use ending::Ended;
 pub use exit::run;
+pub use program_ends::{
+    DONE, FRAME_FAULT, NO_MEMORY, READ_FAULT, REFUSED, REPORT_FAULT, STUCK, WORDS,
+};
 pub use setup::AloneWords;
 pub use top::perfly;

@@ -5,13 +5,13 @@ ghost use Rattle.play_format.specs.declared.refusal.Refusal.{Refusal};
 ghost use Rattle.play_format.specs.Reads.{Reads, HasReading, first_refusal};
 ghost use Rattle.perfly_top.specs.Calls.{given_text, IsReadFor};
 ghost use Rattle.perfly_top.specs.Readings.{Gave, HasNoPlay, ends_for, EndsFor};
-ghost use Rattle.perfly_top.specs.declared.stop.Stop.{Stop};
-ghost use Rattle.perfly_top.specs.declared.stop.Stop.TheVariants as stop;
+ghost use Rattle.program_ends.specs.declared.stop.Stop.{Stop};
+ghost use Rattle.program_ends.specs.declared.stop.Stop.TheVariants as stop;
 
-use crate::stop::Stop;
 use pf_io::{Source, read_all};
 use play_format::{Play, parse_beside};
 use play_gen::make_play;
+use program_ends::Stop;
 use std::alloc::Global;
 use std::thread::Threads;
 

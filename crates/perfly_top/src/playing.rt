@@ -1,9 +1,11 @@
 //! A play that is played by hosts, and the report of a play.
 ghost use Rattle.std.specs.Prelude.{◌≡◌, ◌≤◌, ◌++◌, true, false, Some, IfOk, OnOk, IsSome, IfSome};
 ghost use Rattle.play_check.specs.Stuck.{IsStuck};
-ghost use Rattle.perfly_top.specs.Program.{stream_of, account, told, IsSummed};
+ghost use Rattle.pipe_plays.specs.Laws.{IsLeft};
+ghost use Rattle.program_ends.specs.Played.{stream_of};
+ghost use Rattle.perfly_top.specs.Program.{account, told, IsSummed};
 ghost use Rattle.perfly_top.specs.Sums.{sum_of_bytes};
-ghost use Rattle.perfly_top.specs.Runs.{IsRun, EndsByFault, HasNumbers, HasAnswers};
+ghost use Rattle.perfly_top.specs.Runs.{EndsByFault, HasNumbers, HasAnswers};
 ghost use Rattle.perfly_top.specs.Setups.{is_on_one_thread, players_of};
 ghost use Rattle.play_format.specs.Plays.{Script};
 ghost use Rattle.program_words.specs.declared.words.Words.{Words};
@@ -40,7 +42,7 @@ fn play_by<
     requires few { words.ahead ≤ 4 }
     requires stream { IfSome words.stream (λ n. (1 ≤ n) × (n ≤ 4096)) }
     ensures players { result.players ≡ players_of words }
-    ensures run { IsRun play words.ahead result.played.end result.played.history.entries result.played.stats.items
+    ensures run { IsLeft play words.ahead result.played.end result.played.history.entries result.played.stats.items
         (O.written frames.old) (O.written frames.new) }
     ensures answers { result.played.end ≡ PlayEnd.Done
         → HasAnswers words play result.played.probes.items result.played.history.entries }
@@ -72,7 +74,7 @@ fn held_run<
     requires stream { IfSome words.stream (λ n. (1 ≤ n) × (n ≤ 4096)) }
     ensures same { H.loan result.1 ≡ H.loan held }
     ensures players { result.0.players ≡ players_of words }
-    ensures run { IsRun play words.ahead result.0.played.end result.0.played.history.entries result.0.played.stats.items
+    ensures run { IsLeft play words.ahead result.0.played.end result.0.played.history.entries result.0.played.stats.items
         (H.bytes held) (H.bytes result.1) }
     ensures answers { result.0.played.end ≡ PlayEnd.Done
         → HasAnswers words play result.0.played.probes.items result.0.played.history.entries }
@@ -108,7 +110,7 @@ fn summed_run<
     requires few { words.ahead ≤ 4 }
     requires stream { IfSome words.stream (λ n. (1 ≤ n) × (n ≤ 4096)) }
     ensures players { result.players ≡ players_of words }
-    ensures run { IsRun play words.ahead result.played.end result.played.history.entries result.played.stats.items
+    ensures run { IsLeft play words.ahead result.played.end result.played.history.entries result.played.stats.items
         (O.written frames.old) (O.written frames.new) }
     ensures answers { result.played.end ≡ PlayEnd.Done
         → HasAnswers words play result.played.probes.items result.played.history.entries }
@@ -136,7 +138,7 @@ pub(crate) fn run_of<
     requires few { words.ahead ≤ 4 }
     requires stream { IfSome words.stream (λ n. (1 ≤ n) × (n ≤ 4096)) }
     ensures players { result.players ≡ players_of words }
-    ensures run { IsRun play words.ahead result.played.end result.played.history.entries result.played.stats.items
+    ensures run { IsLeft play words.ahead result.played.end result.played.history.entries result.played.stats.items
         (O.written frames.old) (O.written frames.new) }
     ensures answers { result.played.end ≡ PlayEnd.Done
         → HasAnswers words play result.played.probes.items result.played.history.entries }

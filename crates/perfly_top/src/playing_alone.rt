@@ -1,9 +1,11 @@
 //! A play that is played on one thread, which waits for nobody.
 ghost use Rattle.std.specs.Prelude.{◌≡◌, ◌≤◌, true, Some, IsSome, IfSome};
 ghost use Rattle.play_check.specs.Stuck.{IsStuck};
-ghost use Rattle.perfly_top.specs.Program.{stream_of, IsSummed};
+ghost use Rattle.pipe_plays.specs.Laws.{IsLeft};
+ghost use Rattle.program_ends.specs.Played.{stream_of};
+ghost use Rattle.perfly_top.specs.Program.{IsSummed};
 ghost use Rattle.perfly_top.specs.Sums.{sum_of_bytes};
-ghost use Rattle.perfly_top.specs.Runs.{IsRun, EndsByFault, HasAnswers};
+ghost use Rattle.perfly_top.specs.Runs.{EndsByFault, HasAnswers};
 ghost use Rattle.perfly_top.specs.Setups.{is_on_one_thread, players_of};
 
 use crate::playing::Run;
@@ -32,7 +34,7 @@ fn play_alone<R: Threads + Sync, O: Sink, G: Gate>(
     requires few { words.ahead ≤ 4 }
     requires stream { IfSome words.stream (λ n. (1 ≤ n) × (n ≤ 4096)) }
     ensures players { result.players ≡ players_of words }
-    ensures run { IsRun play words.ahead result.played.end result.played.history.entries result.played.stats.items
+    ensures run { IsLeft play words.ahead result.played.end result.played.history.entries result.played.stats.items
         (O.written frames.old) (O.written frames.new) }
     ensures answers { result.played.end ≡ PlayEnd.Done
         → HasAnswers words play result.played.probes.items result.played.history.entries }
@@ -65,7 +67,7 @@ fn held_alone<R: Threads + Sync, H: Held, G: Gate, S: Start>(
     requires stream { IfSome words.stream (λ n. (1 ≤ n) × (n ≤ 4096)) }
     ensures same { H.loan result.1 ≡ H.loan held }
     ensures players { result.0.players ≡ players_of words }
-    ensures run { IsRun play words.ahead result.0.played.end result.0.played.history.entries result.0.played.stats.items
+    ensures run { IsLeft play words.ahead result.0.played.end result.0.played.history.entries result.0.played.stats.items
         (H.bytes held) (H.bytes result.1) }
     ensures answers { result.0.played.end ≡ PlayEnd.Done
         → HasAnswers words play result.0.played.probes.items result.0.played.history.entries }
@@ -104,7 +106,7 @@ fn summed_alone<R: Threads + Sync, O: Sink, G: Gate>(
     requires few { words.ahead ≤ 4 }
     requires stream { IfSome words.stream (λ n. (1 ≤ n) × (n ≤ 4096)) }
     ensures players { result.players ≡ players_of words }
-    ensures run { IsRun play words.ahead result.played.end result.played.history.entries result.played.stats.items
+    ensures run { IsLeft play words.ahead result.played.end result.played.history.entries result.played.stats.items
         (O.written frames.old) (O.written frames.new) }
     ensures answers { result.played.end ≡ PlayEnd.Done
         → HasAnswers words play result.played.probes.items result.played.history.entries }
@@ -135,7 +137,7 @@ pub(crate) fn run_alone<R: Threads + Sync, O: Sink, G: Gate>(
     requires few { words.ahead ≤ 4 }
     requires stream { IfSome words.stream (λ n. (1 ≤ n) × (n ≤ 4096)) }
     ensures players { result.players ≡ players_of words }
-    ensures run { IsRun play words.ahead result.played.end result.played.history.entries result.played.stats.items
+    ensures run { IsLeft play words.ahead result.played.end result.played.history.entries result.played.stats.items
         (O.written frames.old) (O.written frames.new) }
     ensures answers { result.played.end ≡ PlayEnd.Done
         → HasAnswers words play result.played.probes.items result.played.history.entries }

@@ -8,13 +8,13 @@ ghost use Rattle.program_words.specs.Meaning.{meaning_of_words};
 ghost use Rattle.perfly_top.specs.Calls.{IsGiven};
 ghost use Rattle.perfly_top.specs.Endings.{IsWhy};
 ghost use Rattle.perfly_top.specs.Readings.{ends_for, EndsFor};
-ghost use Rattle.perfly_top.specs.declared.stop.Stop.TheVariants as stop;
+ghost use Rattle.program_ends.specs.declared.stop.Stop.TheVariants as stop;
 
 use crate::loading::given_play;
-use crate::stop::Stop;
 use pf_io::Source;
 use play_check::stuck;
 use play_format::Play;
+use program_ends::Stop;
 use program_words::{Words, read_words};
 use std::alloc::Global;
 use std::thread::Threads;

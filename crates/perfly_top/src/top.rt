@@ -9,15 +9,14 @@ ghost use Rattle.perfly_top.specs.Calls.{IsRefused, IsBarred, IsUntouched};
 ghost use Rattle.perfly_top.specs.Endings.{IsStopped, IsBegun, IsDone, IsDoneUntold, FindsEnd, IsDue, IsDueMade};
 
 use crate::alone::perfly_alone;
-use crate::ending::{
-    DONE, Ended, FRAME_FAULT, NO_MEMORY, READ_FAULT, REFUSED, REPORT_FAULT, STUCK, WORDS, stopped,
-};
+use crate::ending::{Ended, stopped};
 use crate::hosted::perfly_hosted;
 use crate::preparing::right_words;
 use crate::setup::AloneWords;
 use pf_history::History;
 use pf_io::{Gate, Sink, Source};
 use pipe_core::PlayEnd;
+use program_ends::{DONE, FRAME_FAULT, NO_MEMORY, READ_FAULT, REFUSED, REPORT_FAULT, STUCK, WORDS};
 use std::alloc::Global;
 use std::sync::Wait;
 use std::thread::Threads;

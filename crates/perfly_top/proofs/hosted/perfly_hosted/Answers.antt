@@ -1,5 +1,6 @@
 use Rattle.std.proofs.Common.{◌≡◌, ◌∙◌, ℕ, Some, refl, sym, ap, subst, inl, inr}
-use Rattle.perfly_top.specs.Endings.{status_of, FindsEnd, IsDue}
+use Rattle.program_ends.specs.Statuses.{status_of}
+use Rattle.perfly_top.specs.Endings.{FindsEnd, IsDue}
 use Rattle.perfly_top.proofs.Whys.{why_front, read_front, right_status}
 use Rattle.perfly_top.proofs.Dues.{stopped_due, played_is_due, made_why}
 use Rattle.perfly_top.proofs.Ends.{stopped_ends, played_ends, unasked_of}

@@ -1,7 +1,8 @@
 use Rattle.std.proofs.Common.{◌≡◌, ◌∙◌, ℕ, Some, map, sym, ap, subst, inr}
 use Rattle.std.specs.String.{string_bytes}
 use Rattle.program_words.specs.Meaning.{meaning_of_words}
-use Rattle.perfly_top.specs.Endings.{status_of, FindsEnd, IsDue}
+use Rattle.program_ends.specs.Statuses.{status_of}
+use Rattle.perfly_top.specs.Endings.{FindsEnd, IsDue}
 use Rattle.perfly_top.specs.Setups.{words_alone}
 use Rattle.perfly_top.proofs.Whys.{why_front, unread_why}
 use Rattle.perfly_top.proofs.Dues.{stopped_due, made_why}

@@ -1,8 +1,8 @@
 use Rattle.std.proofs.Common.{◌≡◌, ◌∙◌, ◌++◌, rules, ap₂}
 use Rattle.std.specs.Prelude.{codes, decimal}
 use Rattle.play_format.specs.Messages.{cause_text}
-use Rattle.perfly_top.proofs.Telling.{told_same, refusal_line}
-use Rattle.perfly_top.proofs.messages.say_refusal.Goals as goal
+use Rattle.program_ends.proofs.Telling.{told_same, refusal_line}
+use Rattle.program_ends.proofs.messages.say_refusal.Goals as goal
 
 pub returns : goal.returns
 returns g c =

@@ -1,8 +1,8 @@
 -- What the program says on its report sink where it doesn't come to an end.
 use Rattle.std.specs.Prelude.{ℕ, List, ◌++◌, codes, decimal}
 use Rattle.play_format.specs.Messages.{cause_text}
-use Rattle.perfly_top.specs.declared.stop.Stop.{Stop}
-use Rattle.perfly_top.specs.declared.stop.Stop.TheVariants as stop
+use Rattle.program_ends.specs.declared.stop.Stop.{Stop}
+use Rattle.program_ends.specs.declared.stop.Stop.TheVariants as stop
 
 -- `perfly: ` before a message, and a line feed behind it
 abbrev pub line_of : List ℕ → List ℕ

@@ -1,10 +1,10 @@
 //! The messages on the report sink.
-ghost use Rattle.std.specs.Prelude.{◌≡◌, List, ℕ, length, take, map, OnOk, OnErr};
-ghost use Rattle.std.specs.List.{concat, flat_map};
+ghost use Rattle.std.specs.Prelude.{◌≡◌};
+ghost use Rattle.std.specs.List.{flat_map};
 ghost use Rattle.play_format.specs.Messages.{cause_text};
-ghost use Rattle.perfly_top.specs.Messages.{message_of};
-ghost use Rattle.perfly_top.specs.Calls.{IsTold};
-ghost use Rattle.perfly_top.specs.declared.stop.Stop.TheVariants as stop;
+ghost use Rattle.program_ends.specs.Messages.{message_of};
+ghost use Rattle.program_ends.specs.Told.{IsTold};
+ghost use Rattle.program_ends.specs.declared.stop.Stop.TheVariants as stop;
 
 use crate::stop::Stop;
 use itoa::Buffer;
@@ -66,7 +66,7 @@ fn say_stuck<R: Sink>(report: &mut R, app: u32, dbase: u32)
 }
 
 /// Writes why a call ends. A fault cuts the message short.
-pub(crate) fn say_why<R: Sink>(report: &mut R, stop: Stop)
+pub fn say_why<R: Sink>(report: &mut R, stop: Stop)
     ensures { IsTold (R.written report.old) (R.written report.new) (R.faults report.old) (R.faults report.new)
         (message_of stop) }
 {

@@ -7,8 +7,8 @@ use Rattle.play_format.specs.declared.refusal.ParseError.{ParseError}
 use Rattle.play_format.specs.declared.refusal.ParseError.TheVariants as parse_error
 use Rattle.program_words.specs.declared.words.WordsError.{WordsError}
 use Rattle.program_words.specs.declared.words.WordsError.TheVariants as words_error
-use Rattle.perfly_top.specs.declared.stop.Stop.{Stop}
-use Rattle.perfly_top.specs.declared.stop.Stop.TheVariants as stop
+use Rattle.program_ends.specs.declared.stop.Stop.{Stop}
+use Rattle.program_ends.specs.declared.stop.Stop.TheVariants as stop
 
 abbrev pub stop_of_words : WordsError → Stop
 stop_of_words words_error.Wrong = stop.Words

@@ -1,8 +1,8 @@
 use Rattle.std.proofs.Common.{◌≡◌, rules, true, subst}
 use Rattle.std.specs.Prelude.{is_err}
 use Rattle.pf_io.specs.Causes.{Rose}
-use Rattle.perfly_top.proofs.Telling.{told_front, at_error}
-use Rattle.perfly_top.proofs.messages.say.Goals as goal
+use Rattle.program_ends.proofs.Telling.{told_front, at_error}
+use Rattle.program_ends.proofs.messages.say.Goals as goal
 
 pub returns-then-is_err : goal.returns-then-is_err
 returns-then-is_err g c =

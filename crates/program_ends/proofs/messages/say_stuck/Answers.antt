@@ -1,7 +1,7 @@
 use Rattle.std.proofs.Common.{◌≡◌, ◌∙◌, ◌++◌, rules, ap₂}
 use Rattle.std.specs.Prelude.{codes, decimal}
-use Rattle.perfly_top.proofs.Telling.{told_same, stuck_line}
-use Rattle.perfly_top.proofs.messages.say_stuck.Goals as goal
+use Rattle.program_ends.proofs.Telling.{told_same, stuck_line}
+use Rattle.program_ends.proofs.messages.say_stuck.Goals as goal
 
 pub returns : goal.returns
 returns g c =

@@ -8,7 +8,7 @@ use std::io::{self, ErrorKind};
 
 /// Why a call ends before its report is written.
 #[derive(Clone, Copy, Debug, PartialEq, Eq)]
-pub(crate) enum Stop {
+pub enum Stop {
     /// The arguments have no meaning.
     Words,
     /// What was read is no play.
@@ -24,7 +24,7 @@ pub(crate) enum Stop {
 }
 
 impl From<WordsError> for Stop {
-    ghost use Rattle.perfly_top.specs.Stops.{stop_of_words};
+    ghost use Rattle.program_ends.specs.Stops.{stop_of_words};
 
     ghost from_gives = { λ error s. s ≡ stop_of_words error };
 
@@ -37,7 +37,7 @@ impl From<WordsError> for Stop {
 }
 
 impl From<NoMemory> for Stop {
-    ghost use Rattle.perfly_top.specs.declared.stop.Stop.TheVariants as stop;
+    ghost use Rattle.program_ends.specs.declared.stop.Stop.TheVariants as stop;
 
     ghost from_gives = { λ _ s. s ≡ stop.NoMemory };
 
@@ -47,7 +47,7 @@ impl From<NoMemory> for Stop {
 }
 
 impl From<ReadError> for Stop {
-    ghost use Rattle.perfly_top.specs.Stops.{stop_of_read};
+    ghost use Rattle.program_ends.specs.Stops.{stop_of_read};
 
     ghost from_gives = { λ error s. s ≡ stop_of_read error };
 
@@ -60,7 +60,7 @@ impl From<ReadError> for Stop {
 }
 
 impl From<ParseError> for Stop {
-    ghost use Rattle.perfly_top.specs.Stops.{stop_of_parse};
+    ghost use Rattle.program_ends.specs.Stops.{stop_of_parse};
 
     ghost from_gives = { λ error s. s ≡ stop_of_parse error };
 
@@ -74,7 +74,7 @@ impl From<ParseError> for Stop {
 
 impl From<io::Error> for Stop {
     ghost use Rattle.std.specs.IoError.{error_kind};
-    ghost use Rattle.perfly_top.specs.Stops.{stop_of_arguments};
+    ghost use Rattle.program_ends.specs.Stops.{stop_of_arguments};
 
     ghost from_gives = { λ error s. s ≡ stop_of_arguments (error_kind error) };
 

@@ -9,8 +9,8 @@ use Rattle.std.proofs.Math.Seq.{take-append-add}
 use Rattle.pf_io.specs.Causes.{Rose}
 use Rattle.pf_io.specs.Streams.{AppendsFront}
 use Rattle.pf_io.proofs.Known.{front_behind}
-use Rattle.perfly_top.specs.Calls.{IsTold}
-use Rattle.perfly_top.specs.Messages.{line_of}
+use Rattle.program_ends.specs.Told.{IsTold}
+use Rattle.program_ends.specs.Messages.{line_of}
 
 abbrev pub text_of : List (Bor (List ℕ)) → List ℕ
 text_of pieces = flat_map (λ piece. piece.now) pieces

@@ -1,7 +1,7 @@
 use Rattle.std.proofs.Common.{◌≡◌, take}
 use Rattle.std.specs.Io.KnownBytes.{append_known}
-use Rattle.perfly_top.proofs.Telling.{text_of}
-use Rattle.perfly_top.proofs.messages.say.Given as goal
+use Rattle.program_ends.proofs.Telling.{text_of}
+use Rattle.program_ends.proofs.messages.say.Given as goal
 
 abbrev pub invariant-loop-piece : goal.invariant-loop-piece
 invariant-loop-piece g l =
