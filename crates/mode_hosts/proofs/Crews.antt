@@ -1,5 +1,5 @@
 -- Crews put together.
-use Rattle.std.proofs.Common.{◌≡◌, Bool, true, false, Option, None, Some, IsSome, refl, sym, subst}
+use Rattle.std.proofs.Common.{◌≡◌, Bool, true, false, Option, None, Some, IsSome, refl, subst}
 use Rattle.std.specs.Option.{option_map}
 use Rattle.mode_hosts.specs.declared.modes.Mode.{Mode}
 use Rattle.mode_hosts.specs.declared.modes.Mode.TheVariants as mode

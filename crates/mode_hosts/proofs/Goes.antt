@@ -70,11 +70,11 @@ draw_on x y z first second =
       keeps = λ k. second.keeps (first.keeps k);
     }
 
-dbase_self : (x : DbaseSite) → DbaseGoes x x
+pub dbase_self : (x : DbaseSite) → DbaseGoes x x
 dbase_self x =
     record { desk = desk_self x.place; front = prefix_self x.place.seen; own = λ o. o; holds = λ lines channels h. h }
 
-dbase_on : (x y z : DbaseSite) → DbaseGoes x y → DbaseGoes y z → DbaseGoes x z
+pub dbase_on : (x y z : DbaseSite) → DbaseGoes x y → DbaseGoes y z → DbaseGoes x z
 dbase_on x y z first second =
     record {
       desk = desk_on x.place y.place z.place first.desk second.desk;

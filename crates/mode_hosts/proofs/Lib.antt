@@ -8,6 +8,7 @@ pub mod Gathers
 pub mod Keeping
 pub mod Closed
 pub mod Opens
+pub mod Given
 pub mod Tells
 pub mod Passing
 pub mod Probes
@@ -19,3 +20,5 @@ pub mod Polling
 pub mod Answering
 pub mod Bells
 pub mod Sleepers
+pub mod Telling
+pub mod Lives

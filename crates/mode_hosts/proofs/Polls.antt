@@ -11,6 +11,7 @@ use Rattle.pf_history.specs.Logs.{Log}
 use Rattle.pf_scene.specs.Scenes.{SceneState}
 use Rattle.stage_parts.specs.declared.packets.Packet.{Packet}
 use Rattle.stage_parts.specs.declared.answers.Did.{Did}
+use Rattle.stage_parts.specs.declared.answers.Did.TheVariants as did
 use Rattle.stage_parts.specs.declared.answers.StageError.{StageError}
 use Rattle.stage_parts.specs.declared.answers.StageError.TheVariants as error
 use Rattle.stage_parts.specs.Frames.{AreOwnFrames, RetiresJust}
@@ -18,8 +19,8 @@ use Rattle.stage_parts.specs.Parts.{AppKeeps}
 use Rattle.frame_stages.specs.Flights.{SinkSide}
 use Rattle.frame_stages.specs.AppWorks.{AppWork}
 use Rattle.frame_stages.specs.AppAnswers.{around, AppAdds, KeepsOn, is_fault, Polled}
-use Rattle.frame_stages.specs.DbaseWorks.{DbaseHolds}
-use Rattle.frame_stages.specs.DbaseAnswers.{DbaseAdds}
+use Rattle.frame_stages.specs.DbaseWorks.{DbaseWork, DbaseHolds}
+use Rattle.frame_stages.specs.DbaseAnswers.{DbaseAdds, Known, IsDbaseAnswer, HasToWait}
 use Rattle.frame_stages.specs.Stays.{DeskPlace, EndPlace, desk_place, end_place}
 use Rattle.pipe_plays.specs.Played.{StaysWhole}
 use Rattle.mode_hosts.specs.Sites.{Place, Site, DbaseSite, IsSameDesk, AreSameLinks, AreApp, AreBase, AppGoes, DbaseGoes}
@@ -98,3 +99,10 @@ dbase_goes old new desk adds part =
       holds = λ lines channels holds.
           subst (λ (k : ℕ). DbaseHolds lines channels k new.work new.place.seen) (sym desk.number) (part lines channels holds);
     }
+
+-- one that answers NotYet has to wait, by the log that is then seen
+pub base_waits : (k : ℕ) (result : Result Did StageError) (old new : DbaseWork) (known knows : Known) → result ≡ Ok did.NotYet →
+    IsDbaseAnswer k result old new known knows → HasToWait new.rest new.hand knows.seen
+base_waits k result old new known knows is answer =
+    let stays = subst (λ (r : Result Did StageError). IsDbaseAnswer k r old new known knows) is answer in
+    subst (λ (w : DbaseWork). HasToWait w.rest w.hand knows.seen) (sym stays.0) stays.2

@@ -14,3 +14,4 @@ pub mod Waits
 pub mod Polls
 pub mod Bells
 pub mod Laws
+pub mod Lives

@@ -21,6 +21,10 @@ pub record AllSites : Type 0 where
   pub four : AnySites
   pub probe : ProbeSite
 
+-- the same seats, of an application that waits for so many merges before it closes
+abbrev pub with_merges : ℕ → AllSites → AllSites
+with_merges n s = record s { four = record s.four { app = record s.four.app { work = record s.four.app.work { merges = n } } } }
+
 -- the ends of the way from the application to the cull are those of a link, or of two with the probe between them
 abbrev pub AreLinked : Link → Option WaySite → Link → Type 0
 AreLinked send_at None take_at = take_at ≡ send_at

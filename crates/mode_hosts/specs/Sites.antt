@@ -1,5 +1,6 @@
 -- A stage at its desk between its links, and what its polls keep.
-use Rattle.std.specs.Prelude.{◌≡◌, ⊤, ℕ, List, ◌++◌, Option, None, Some}
+use Rattle.std.specs.Prelude.{◌≡◌, ⊤, ℕ, ◌+◌, ◌≤◌, List, ◌++◌, take, length, Option, None, Some}
+use Rattle.std.specs.Vec.{vec_capacity}
 use Rattle.std.specs.List.{AllByRecursion}
 use Rattle.std.specs.Io.KnownBytes.{append_known}
 use mathlib.Core.List.{IsPrefix}
@@ -10,6 +11,8 @@ use Rattle.pf_model.specs.declared.lines.BaseLine.{BaseLine}
 use Rattle.pf_history.specs.declared.commands.Caller.TheVariants.{App, Dbase}
 use Rattle.pf_history.specs.declared.commands.Entry.{Entry}
 use Rattle.pf_history.specs.Logs.{Log}
+use Rattle.pf_scene.specs.declared.outcomes.Told.{Told}
+use Rattle.pf_scene.specs.Acts.{free_in}
 use Rattle.stage_parts.specs.declared.packets.Packet.{Packet}
 use Rattle.stage_parts.specs.Frames.{AreOwnFrames}
 use Rattle.stage_parts.specs.States.{Setup}
@@ -144,6 +147,15 @@ pub record AppGoes (old new : Site AppWork) (bytes bytes' : Option (List ℕ)) :
   pub keeps : (g : Setup) (stream : List ℕ) → IsGiven g old.work → AreOwnFrames new.place.number new.place.seen →
       AppKeeps g old.place.number old.work.state old.place.seen old.taken old.sent stream →
       AppWrote g new bytes bytes' stream
+
+-- What a block gained of a log behind so many entries told before: the next ones, in order, no more than it has room for; or
+-- none.
+pub record Gains (told : ℕ) (block : Told) (seen : Log) (reply : Told) : Type 0 where
+  pub more : Log
+  pub entries : reply.entries.items ≡ block.entries.items ++ more
+  pub next : take (told + length more) seen ≡ take told seen ++ more
+  pub few : length more ≤ free_in block
+  pub room : vec_capacity reply.entries ≡ vec_capacity block.entries
 
 -- both are there and belong together so, or neither is there
 abbrev pub IfThere : {X Y : Type 0} → (X → Y → Type 0) → Option X → Option Y → Type 0

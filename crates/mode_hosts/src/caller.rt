@@ -23,7 +23,7 @@ use std::thread::Threads;
 const MORE: u32 = 1_023;
 
 /// A poll of the application. After an error, which has set the stop mark, it rings.
-fn poll_app<R: Wait, O: Sink, G: Gate>(
+pub(crate) fn poll_app<R: Wait, O: Sink, G: Gate>(
     common: &Common<G>,
     app: &mut AppSeat<R>,
     frames: &mut O,
@@ -67,7 +67,7 @@ fn go_on<R: Wait, O: Sink, G: Gate>(
 }
 
 /// Polls the application further, if its last poll did something and no other stage of the caller did.
-fn more_where_calm<R: Wait, O: Sink, G: Gate>(
+pub(crate) fn more_where_calm<R: Wait, O: Sink, G: Gate>(
     common: &Common<G>,
     app: &mut AppSeat<R>,
     frames: &mut O,
@@ -129,7 +129,7 @@ fn turn<R: Threads + Wait + Sync + Drop, O: Sink, G: Gate>(
 
 /// Polls the application and the stages that are with the caller until all of them are over, or up to the application's
 /// error.
-fn run_here<R: Threads + Wait + Sync + Drop, O: Sink, G: Gate>(
+pub(crate) fn run_here<R: Threads + Wait + Sync + Drop, O: Sink, G: Gate>(
     rt: &R,
     common: &Common<G>,
     app: &mut AppSeat<R>,

@@ -1,6 +1,7 @@
 //! The end of a play on hosts, and what the play leaves.
-ghost use Rattle.std.specs.Prelude.{◌≡◌, ◌≢◌, ℕ, true, false, List, [], Option, None, OnOk};
+ghost use Rattle.std.specs.Prelude.{◌≡◌, ◌≢◌, ℕ, true, false, List, [], drop, Option, None, OnOk};
 ghost use Rattle.std.specs.Option.{option_map};
+ghost use mathlib.Core.List.{IsPrefix};
 ghost use Rattle.seat_lock.specs.Tokens.{lock_id};
 ghost use Rattle.play_format.specs.Plays.{Script};
 ghost use Rattle.pipe_plays.specs.Plays.{CanRun, setup_of};
@@ -8,7 +9,7 @@ ghost use Rattle.pipe_plays.specs.Played.{Blames, StaysWhole, LeavesPipe};
 ghost use Rattle.nearest_hit.specs.declared.segment.Segment.{Segment};
 ghost use Rattle.mode_hosts.specs.Seats.{app_site, way_site};
 ghost use Rattle.mode_hosts.specs.Gathering.{own_seats};
-ghost use Rattle.mode_hosts.specs.Probes.{AreAllTogether, AllKeep, has_failed};
+ghost use Rattle.mode_hosts.specs.Probes.{AreAllTogether, AllKeep, has_failed, with_merges};
 ghost use Rattle.mode_hosts.specs.Homes.{all_sites};
 ghost use Rattle.mode_hosts.specs.Plays.{IsProbed, EndBlames};
 
@@ -80,7 +81,8 @@ fn answers_at(alloc: Global, end: PlayEnd, answers: Vec<Option<Near>>) -> Vec<Op
     }
 }
 
-/// Joins the seats and returns what the play leaves. The application's polls came to `came`.
+/// Joins the seats and returns what the play leaves. The application's polls came to `came`. What the seats keep may be of
+/// an application that waits for another number of merges before it closes: that is over.
 pub(crate) fn leave<R: Wait, D: Wait + Drop, O: Sink>(
     rt: &R,
     alloc: Global,
@@ -90,12 +92,15 @@ pub(crate) fn leave<R: Wait, D: Wait + Drop, O: Sink>(
     frames: &mut O,
 ) -> Played
     requires { AreAllTogether (lock_id lock.now) (all_sites seats) }
-    ensures leaves { (play : Script) (ahead : ℕ) (probe : Option Segment) (bytes : Option (List ℕ)) → CanRun play ahead
-        → AllKeep (setup_of play ahead) play.dbase probe (all_sites seats) bytes (O.written frames.old)
-        → StaysWhole came None (app_site seats.app).work.state.fault → (app_site seats.app).work.told ≡ 0
-        → LeavesPipe play ahead own_seats result.end result.history.entries result.stats.items bytes (O.written frames.new) }
-    ensures probes { (play : Script) (ahead : ℕ) (probe : Option Segment) (bytes : Option (List ℕ)) → CanRun play ahead
-        → AllKeep (setup_of play ahead) play.dbase probe (all_sites seats) bytes (O.written frames.old)
+    ensures leaves { (play : Script) (ahead merges : ℕ) (probe : Option Segment) (bytes : Option (List ℕ)) → CanRun play ahead
+        → AllKeep (setup_of play ahead) play.dbase probe (with_merges merges (all_sites seats)) bytes (O.written frames.old)
+        → StaysWhole came None (app_site seats.app).work.state.fault
+        → LeavesPipe play ahead own_seats result.end result.history.entries (app_site seats.app).work.state.stats bytes
+        (O.written frames.new) }
+    ensures stats { result.stats.items ≡ drop (app_site seats.app).work.told (app_site seats.app).work.state.stats }
+    ensures front { IsPrefix (app_site seats.app).place.seen result.history.entries }
+    ensures probes { (play : Script) (ahead merges : ℕ) (probe : Option Segment) (bytes : Option (List ℕ)) → CanRun play ahead
+        → AllKeep (setup_of play ahead) play.dbase probe (with_merges merges (all_sites seats)) bytes (O.written frames.old)
         → IsProbed play.channels probe result.end result.history.entries result.probes.items }
     ensures flushed { result.end ≡ PlayEnd.Done → O.flushed frames.new ≡ true }
     ensures blames { (before : ℕ)

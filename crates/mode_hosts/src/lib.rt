@@ -1,6 +1,7 @@
 //! Plays on threads: the stages of the pipe divided among hosts.
 #![tactic(auto)]
 
+mod awaits;
 mod beginning;
 mod bell;
 mod caller;
@@ -11,6 +12,7 @@ mod gathering;
 mod hosts;
 pub mod laws;
 mod leaving;
+mod live;
 mod modes;
 mod opening;
 mod parts;
@@ -18,9 +20,11 @@ mod playing;
 mod post;
 mod posts;
 mod seats;
+mod settling;
 mod words;
 mod works;
 
+pub use live::LivePipe;
 pub use modes::{Mode, Setup};
 pub use pipe_plays::{PlayEnd, Played};
 pub use playing::play_all;

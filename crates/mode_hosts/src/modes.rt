@@ -1,5 +1,5 @@
 //! How the stages are divided among hosts.
-ghost use Rattle.std.specs.Prelude.{◌≡◌, None, Some};
+ghost use Rattle.std.specs.Prelude.{◌≡◌, None, Some, IsSome};
 ghost use Rattle.std.specs.Option.{option_map};
 ghost use Rattle.mode_hosts.specs.Seats.{cull_site, draw_site, dbase_site, probe_site, crew_state};
 ghost use Rattle.mode_hosts.specs.Crews.{divided, unless, only_if, all_of, full_crew};
@@ -63,6 +63,44 @@ impl<R: Drop> Crews<R> {
             probe,
         } = self;
         caller.united(cull).united(draw.united(dbase.united(probe)))
+    }
+}
+
+/// The database process, and the crews without it.
+#[derive(Drop)]
+pub(crate) struct Apart<R> {
+    pub(crate) dbase: DbaseSeat<R>,
+    pub(crate) crews: Crews<R>,
+}
+
+/// Takes the database process out of the caller's crew, where it is.
+pub(crate) fn take_dbase<R: Drop>(crews: Crews<R>) -> Apart<R>
+    requires { IsSome (option_map dbase_site crews.caller.dbase) }
+    ensures dbase { option_map dbase_site crews.caller.dbase ≡ Some (dbase_site result.dbase) }
+    ensures crews { result.crews ≡ record crews { caller = record crews.caller { dbase = None } } }
+{
+    let Crews {
+        caller,
+        cull,
+        draw,
+        dbase,
+        probe,
+    } = crews;
+    let taken = caller.dbase.unwrap();
+    Apart {
+        dbase: taken,
+        crews: Crews {
+            caller: Crew {
+                cull: caller.cull,
+                draw: caller.draw,
+                dbase: None,
+                probe: caller.probe,
+            },
+            cull,
+            draw,
+            dbase,
+            probe,
+        },
     }
 }
 

@@ -1,5 +1,5 @@
 //! The seats of a play, before its first step.
-ghost use Rattle.std.specs.Prelude.{◌≡◌, ◌+◌, ◌≤◌, ℕ, [], IfOk, IfSome, List, Option, None};
+ghost use Rattle.std.specs.Prelude.{◌≡◌, ◌+◌, ◌≤◌, ℕ, false, [], IfOk, IfSome, List, Option, None};
 ghost use Rattle.std.specs.Option.{option_map};
 ghost use Rattle.std.specs.Arc.{arc_value};
 ghost use Rattle.seat_lock.specs.Tokens.{lock_id};
@@ -178,6 +178,7 @@ pub(crate) fn open<D: Wait + Copy + Drop>(
     ensures limit { IfOk result (λ o. limit_of (any_cull o.seats.cull.stage) ≡ setup.now.stream) }
     ensures uncut { IfOk result (λ o. (app_site o.seats.app).work.state.fault ≡ None) }
     ensures untold { IfOk result (λ o. (app_site o.seats.app).work.told ≡ 0) }
+    ensures going { IfOk result (λ o. (app_site o.seats.app).work.state.closed ≡ false) }
     ensures keeps { IfOk result (λ o. (bytes : Option (List ℕ))
         → AllKeep (setup_of play setup.now.ahead) play.dbase setup.now.probe (all_sites o.seats) bytes bytes) }
 {

@@ -1,5 +1,5 @@
 //! Whole plays on hosts.
-ghost use Rattle.std.specs.Prelude.{◌≡◌, ◌≢◌, ◌≤◌, ℕ, true, List, [], Option, None, IfOk, IfSome, IfNone};
+ghost use Rattle.std.specs.Prelude.{◌≡◌, ◌≢◌, ◌≤◌, ℕ, true, false, List, [], Option, None, IfOk, IfSome, IfNone};
 ghost use Rattle.std.specs.Arc.{arc_value};
 ghost use Rattle.std.specs.List.{concat};
 ghost use Rattle.std.specs.Io.KnownBytes.{append_known};
@@ -37,13 +37,13 @@ use std::thread::Threads;
 
 /// The seats of a play before its first step, and what its hosts share.
 #[derive(Drop)]
-struct Ready<R, G> {
-    opened: Opened<R>,
-    common: Arc<Common<G>, Global>,
+pub(crate) struct Ready<R, G> {
+    pub(crate) opened: Opened<R>,
+    pub(crate) common: Arc<Common<G>, Global>,
 }
 
 /// Opens a play as the setup asks for it, if there is memory for it.
-fn get_ready<R: Wait + Copy + Drop, G: Drop>(
+pub(crate) fn get_ready<R: Wait + Copy + Drop, G: Drop>(
     alloc: Global,
     rt: &R,
     play: Play,
@@ -57,6 +57,7 @@ fn get_ready<R: Wait + Copy + Drop, G: Drop>(
     ensures limit { IfOk result (λ r. limit_of (any_cull r.opened.seats.cull.stage) ≡ setup.now.stream) }
     ensures uncut { IfOk result (λ r. (app_site r.opened.seats.app).work.state.fault ≡ None) }
     ensures untold { IfOk result (λ r. (app_site r.opened.seats.app).work.told ≡ 0) }
+    ensures going { IfOk result (λ r. (app_site r.opened.seats.app).work.state.closed ≡ false) }
     ensures keeps { IfOk result (λ r. (bytes : Option (List ℕ))
         → AllKeep (setup_of play setup.now.ahead) play.dbase setup.now.probe (all_sites r.opened.seats) bytes bytes) }
 {

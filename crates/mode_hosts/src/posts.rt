@@ -1,4 +1,5 @@
 //! Where the crews of a play are: each with a host, or with the caller.
+ghost use Rattle.std.specs.Prelude.{◌≡◌, Some};
 ghost use Rattle.mode_hosts.specs.Crews.{CrewsGo};
 ghost use Rattle.mode_hosts.specs.Posts.{crews_state, ArePosts};
 
@@ -6,6 +7,7 @@ use crate::crew::{Crew, Polled};
 use crate::hosts::Common;
 use crate::modes::Crews;
 use crate::post::{Post, post_of};
+use crate::seats::DbaseSeat;
 use crate::words::Noted;
 use pf_io::Gate;
 use std::alloc::Global;
@@ -56,6 +58,31 @@ impl<R: Threads + Wait + Sync + Drop> Posts<R> {
         let dbase = self.dbase.poll(rt, gate, noted).did();
         let probe = self.probe.poll(rt, gate, noted).did();
         caller.and(cull).and(draw).and(dbase).and(probe)
+    }
+
+    /// Gives the database process to the caller's crew.
+    pub(crate) fn with_dbase(self, dbase: DbaseSeat<R>) -> Posts<R>
+        ensures { result ≡ record self { caller = record self.caller { dbase = Some dbase } } }
+    {
+        let Posts {
+            caller,
+            cull,
+            draw,
+            dbase: own,
+            probe,
+        } = self;
+        Posts {
+            caller: Crew {
+                cull: caller.cull,
+                draw: caller.draw,
+                dbase: Some(dbase),
+                probe: caller.probe,
+            },
+            cull,
+            draw,
+            dbase: own,
+            probe,
+        }
     }
 
     /// Returns the crews, from their hosts.

@@ -1,7 +1,9 @@
 //! Each stage at its desk, between its links.
-ghost use Rattle.std.specs.Prelude.{◌≡◌};
+ghost use Rattle.std.specs.Prelude.{◌≡◌, ℕ, List, Option, Ok};
+ghost use Rattle.stage_parts.specs.declared.answers.Did.TheVariants as did;
+ghost use Rattle.frame_stages.specs.DbaseAnswers.{HasToWait};
 ghost use Rattle.pipe_plays.specs.Played.{Blames, StaysWhole};
-ghost use Rattle.mode_hosts.specs.Sites.{AppGoes, AnyCullGoes, AnyDrawGoes, DbaseGoes, Rests, WayGoes, ProbeGoes};
+ghost use Rattle.mode_hosts.specs.Sites.{AppGoes, Gains, AnyCullGoes, AnyDrawGoes, DbaseGoes, Rests, WayGoes, ProbeGoes};
 ghost use Rattle.mode_hosts.specs.Seats.{place_of, app_site, cull_site, draw_site, dbase_site, way_site, probe_site};
 
 use crate::works::{AnyCull, AnyDraw};
@@ -9,8 +11,8 @@ use frame_link::{RingSend, RingTake};
 use frame_stages::{AppStage, DbaseStage, Did, Packet, StageError};
 use isect_stage::ProbeStage;
 use pf_io::{Gate, Sink};
-use pf_scene::Scene;
-use seat_lock::SeatDesk;
+use pf_scene::{Scene, TellBlockAct, Told};
+use seat_lock::{Desk, SeatDesk};
 use std::sync::Wait;
 use std::thread::Threads;
 
@@ -87,6 +89,15 @@ impl<R: Wait> AppSeat<R> {
         self.stage
             .poll(&mut self.desk, &mut self.to, &mut self.from, frames, gate)
     }
+
+    /// One turn, in which the next entries behind so many are told into the block.
+    pub(crate) fn tell(&mut self, told: u64, block: Told) -> Told
+        ensures stage { self.new.stage ≡ self.old.stage }
+        ensures goes { (bytes : Option (List ℕ)) → AppGoes (app_site self.old) (app_site self.new) bytes bytes }
+        ensures gains { Gains told block (app_site self.new).place.seen result }
+    {
+        self.desk.turn(TellBlockAct { told, block })
+    }
 }
 
 impl<R: Wait> CullSeat<R> {
@@ -116,7 +127,11 @@ impl<R: Wait> DrawSeat<R> {
 impl<R: Wait> DbaseSeat<R> {
     /// One poll of the database process.
     pub(crate) fn poll<G: Gate>(&mut self, gate: &G) -> Result<Did, StageError>
-        ensures { DbaseGoes (dbase_site self.old) (dbase_site self.new) }
+        ensures goes { DbaseGoes (dbase_site self.old) (dbase_site self.new) }
+
+        // `NotYet` only where its next line has to wait, by the log that its desk has seen.
+        ensures waits { result ≡ Ok did.NotYet
+            → HasToWait self.new.stage.rest self.new.stage.hand (place_of self.new.desk).seen }
     {
         self.stage.poll(&mut self.desk, gate)
     }

@@ -53,6 +53,10 @@ pub returns-clause-untold : goal.returns-clause-untold
 returns-clause-untold g c =
     rw c.seated.ensures.seats (ap (λ (w : AppWork). w.told) (of_ok _ c.in_ok-parts.ensures.app c.new.ensures.opens))
 
+pub returns-clause-going : goal.returns-clause-going
+returns-clause-going g c =
+    rw c.seated.ensures.seats (ap (λ (w : AppWork). w.state.closed) (of_ok _ c.in_ok-parts.ensures.app c.new.ensures.opens))
+
 pub returns-clause-keeps : goal.returns-clause-keeps
 returns-clause-keeps g c = λ bytes.
     let play = c.args.play in

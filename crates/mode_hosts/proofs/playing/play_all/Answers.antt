@@ -1,4 +1,4 @@
-use Rattle.std.proofs.Common.{◌≡◌, ℕ, List, [], Option, None, refl, sym, ◌∙◌, subst}
+use Rattle.std.proofs.Common.{◌≡◌, ℕ, List, [], drop, Option, None, refl, sym, ap, ◌∙◌, subst}
 use Rattle.draw_list.specs.declared.stats.Stats.{Stats}
 use Rattle.pf_history.specs.Logs.{Log}
 use Rattle.pipe_plays.specs.declared.played.PlayEnd.TheVariants as ends
@@ -55,10 +55,13 @@ returns-in-Ok g c =
     subst (λ (a : AppSeat g.row.R.Denot). StaysWhole ended.came None a.stage.state.fault) (sym c.seats_of-seats.ensures.app) came in
     let untold : seats.app.stage.told ≡ 0 =
     subst (λ (a : AppSeat g.row.R.Denot). a.stage.told ≡ 0) (sym c.seats_of-seats.ensures.app) (run.goes.told ∙ c.in-Ok.ensures.untold) in
-    let pipe = c.leave.ensures.leaves play ahead setup.probe before can keeps whole untold in
+    let all = c.leave.ensures.stats ∙ ap (λ n. drop n seats.app.stage.state.stats) untold in
+    let pipe : LeavesPipe play ahead own_seats c.leave.result.end c.leave.result.history.entries c.leave.result.stats.items before now =
+    subst (λ (stats : List Stats). LeavesPipe play ahead own_seats c.leave.result.end c.leave.result.history.entries stats before now) (sym all)
+    (c.leave.ensures.leaves play ahead seats.app.stage.merges setup.probe before can keeps whole) in
     let left = c.a_play_leaves_its_history.ensures play ahead own_seats c.leave.result.end c.leave.result.history.entries c.leave.result.stats.items before now
     can pipe in
-    let hits = c.leave.ensures.probes play ahead setup.probe before can keeps in
+    let hits = c.leave.ensures.probes play ahead seats.app.stage.merges setup.probe before can keeps in
     let blames = c.leave.ensures.blames (g.O.Sink.faults c.args.frames.now) run.blames in
     record {
       legal = left.now.legal;
