@@ -32,6 +32,16 @@ const BACKGROUND: &[u8] = b"P6\n2 2\n255\n\x0a\x14\x1e\x0a\x14\x1e\x0a\x14\x1e\x
 const BACKGROUND_AND_RED: &[u8] = b"P6\n2 2\n255\n\x0a\x14\x1e\x0a\x14\x1e\x0a\x14\x1e\x0a\x14\x1e\
     P6\n2 2\n255\n\xff\0\0\xff\0\0\xff\0\0\xff\0\0";
 
+/// At most so many entries are told at once.
+const MOST_FORGOTTEN: u32 = 2_000;
+
+/// How many entries, and how many frames' numbers, left the memory of a pipe.
+#[derive(Clone, Copy)]
+struct Forgotten {
+    entries: u32,
+    numbers: u32,
+}
+
 /// A pipe whose parts nothing is said of, so that what is proved of a test over it is short.
 trait Live {
     fn tell<R: Threads + Sync, O: Sink>(
@@ -67,6 +77,8 @@ trait Live {
         frames: &mut O,
     ) -> Result<(), StageError>
         requires { IsSync R.row };
+
+    fn forget(&mut self) -> Forgotten;
 }
 
 impl Live for Pipe {
@@ -111,6 +123,22 @@ impl Live for Pipe {
         frames: &mut O,
     ) -> Result<(), StageError> {
         self.run_events(rt, &ROUND, frames)
+    }
+
+    fn forget(&mut self) -> Forgotten {
+        let mut all = Forgotten {
+            entries: 0,
+            numbers: 0,
+        };
+        for _ in 0..MOST_FORGOTTEN {
+            if self.take_entry().is_some() {
+                all.entries = all.entries.saturating_add(1);
+            }
+            if self.take_stats().is_some() {
+                all.numbers = all.numbers.saturating_add(1);
+            }
+        }
+        all
     }
 }
 
@@ -328,7 +356,14 @@ fn pictures_of<R: Threads + Sync, L: Live>(
     Ok(Vec::from_slice(alloc, frames.bytes())?)
 }
 
-/// Tells a pipe a geode, and all lists behind it. Returns the number of lists whose pictures were as they are due.
+/// Whether a pipe held the entries of one list, with at most two Syncs a frame, and the numbers of its frames.
+fn holds_one_list(forgotten: &Forgotten) -> bool {
+    let syncs = LIST / 5;
+    forgotten.numbers == LIST / 10 && forgotten.entries >= LIST && forgotten.entries <= LIST + syncs
+}
+
+/// Tells a pipe a geode, and all lists behind it. Returns the number of lists whose pictures were as they are due, and
+/// whose entries and numbers were all that the pipe held behind them.
 fn right_lists<R: Threads + Sync, L: Live + Drop>(
     alloc: Global,
     rt: &R,
@@ -342,18 +377,21 @@ fn right_lists<R: Threads + Sync, L: Live + Drop>(
     if !pictures_of(alloc, rt, &mut pipe, commands)?.is_empty() {
         return Ok(0);
     }
+    let _ = pipe.forget();
     let mut right = 0u32;
     for list in 0..LISTS {
         let first = list * LIST;
         let shown = pictures_of(alloc, rt, &mut pipe, list_from(alloc, first)?)?;
-        if shown.as_slice() == pictures_from(alloc, first)?.as_slice() {
+        let due = pictures_from(alloc, first)?;
+        let forgotten = pipe.forget();
+        if shown.as_slice() == due.as_slice() && holds_one_list(&forgotten) {
             right = right.saturating_add(1);
         }
     }
     Ok(right)
 }
 
-// A pipe is told 100,000 commands, and shows 10,000 frames.
+// A pipe is told 100,000 commands, shows 10,000 frames, and never holds the entries of more than one list.
 #[test]
 fn a_hundred_thousand_commands(rt: HostRuntime) -> Result<(), Fail> {
     let play = parse(rt.alloc(), NO_LINES.as_bytes())?;
