@@ -1,0 +1,11 @@
+mod ReportLemmas
+mod TellLemmas
+mod DrivenLemmas
+mod WordRanges
+mod RunTexts
+mod RunReports
+mod RunSteps
+mod RunReads
+mod RunEnds
+mod RunStatus
+mod RunStarts

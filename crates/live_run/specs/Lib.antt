@@ -1,0 +1,9 @@
+pub mod Reports
+pub mod Driven
+pub mod Telling
+pub mod LiveWords
+pub mod Halts
+pub mod LiveRuns
+pub mod Runs
+pub mod Closing
+pub mod Arguments
