@@ -52,12 +52,12 @@ def read_play(text):
     """The play that these bytes are; raises the Mistake that perfly would refuse it for."""
     if len(text) > limits.BYTES:
         raise Mistake(0, "Length", f"the text has {len(text):,} bytes; a play has at most {limits.BYTES:,}")
-    return _Reader(text).play()
+    return Reader(text).play()
 
 
 def read_head(text):
     """The head of the play that these bytes are; raises the Mistake of its first lines."""
-    return _Reader(text).head()
+    return Reader(text).head()
 
 
 def enlarged(text, times):
@@ -71,8 +71,10 @@ def enlarged(text, times):
     return b"\n".join([version, b"size %d %d" % sides, b"lens %d %d %d" % (focal, head.near, head.far), rest])
 
 
-class _Reader:
+class Reader:
     """The lines of a text, taken one after the other."""
+
+    most_lines = limits.LINES
 
     def __init__(self, text):
         self.size = len(text)
@@ -95,8 +97,8 @@ class _Reader:
         if self.is_over():
             raise Mistake(self.line + 1, "Count", f"the text ends, where {due} has to follow")
         self.line += 1
-        if self.line > limits.LINES:
-            raise Mistake(self.line, "Count", f"a play has at most {limits.LINES:,} lines")
+        if self.line > self.most_lines:
+            raise Mistake(self.line, "Count", f"the text has more than {self.most_lines:,} lines")
         if self.line > len(self.whole):
             raise Mistake(self.line, "Length", "the last line does not end with a line feed; end it with one")
         line = self.whole[self.line - 1]
@@ -107,6 +109,11 @@ class _Reader:
     def wrong(self, cause, words, hint):
         """A mistake of the line; where the line's shape is at fault, its hint is of that."""
         raise Mistake(self.line, cause, _shape_hint(words) or hint)
+
+    def wrong_version(self, words, hint):
+        """A mistake of the first line."""
+        shape = _shape_hint(words) if words[0].startswith("perfly") else _mark_hint(self.whole[0])
+        raise Mistake(self.line, "Version", shape or hint)
 
     def numbers(self, words, fields):
         """The words behind the first as the numbers of these fields."""
@@ -128,9 +135,10 @@ class _Reader:
 
     def version(self):
         words = self.next_words("perfly 1 or perfly 2")
+        if words == ["perfly", "live", "1"]:
+            raise Mistake(self.line, "Version", "this is a live text, which perfly_live plays; tools/live2play makes a play of it")
         if words not in (["perfly", "1"], ["perfly", "2"]):
-            shape = _shape_hint(words) if words[0].startswith("perfly") else _mark_hint(self.whole[0])
-            raise Mistake(self.line, "Version", shape or "a play begins with the line perfly 1, or perfly 2")
+            self.wrong_version(words, "a play begins with the line perfly 1, or perfly 2")
         return int(words[1])
 
     def head(self):
@@ -170,7 +178,7 @@ class _Reader:
                 self.numbers(words, ())
                 inside = False
                 continue
-            edit = self.edit(words, version, channels, _allowed(version, inside))
+            edit = self.edit(words, version, channels, allowed_in(version, inside))
             inside = edit.command == "buffer" or inside and edit.command != "merge"
             (application if inside is None else dbase).append(Step(self.line - len(edit.corners) // 3, edit))
         return application, dbase
@@ -191,10 +199,7 @@ class _Reader:
         if command not in forms.GEOMETRY:
             return ()
         count = fields[-1]
-        if self.triangles + count > limits.TRIANGLES:
-            raise Mistake(self.line, "Count", f"the play has more than {limits.TRIANGLES:,} triangles, where those of verts and of "
-                                              "DBASE count too; make what stands often once, and hang it below several scs")
-        self.triangles += count
+        self.count_triangles(count)
         corners = []
         for k in range(count):
             words = self.next_words(f"triangle {k + 1} of {count}")
@@ -204,8 +209,15 @@ class _Reader:
             corners += (numbers[0:3], numbers[6:9], numbers[12:15])
         return tuple(corners)
 
+    def count_triangles(self, count):
+        """Counts the triangles that a line brings; perfly refuses those above its limit."""
+        self.triangles += count
+        if self.triangles > limits.TRIANGLES:
+            raise Mistake(self.line, "Count", f"the play has more than {limits.TRIANGLES:,} triangles, where those of verts and of "
+                                              "DBASE count too; make what stands often once, and hang it below several scs")
 
-def _allowed(version, inside):
+
+def allowed_in(version, inside):
     """The commands that may stand in the application's section (None), outside a buffer or inside one."""
     if inside is None:
         allowed = {**forms.EDITS, **forms.APPLICATION}

@@ -51,7 +51,7 @@ def ppm(width, height, pixel):
 
 class Help(unittest.TestCase):
     def test_each(self):
-        for name in ("obj2play", "frames2png", "look", "enlarge", "render", "show", "quick", "ids", "depth", "pick", "compare"):
+        for name in ("obj2play", "live2play", "frames2png", "look", "enlarge", "render", "show", "quick", "ids", "depth", "pick", "compare"):
             with self.subTest(name):
                 done = run(name, "--help")
                 self.assertEqual((done.returncode, done.stderr), (0, b""))
