@@ -16,6 +16,7 @@
     fences      which merges of a play have more than one place
     seeing      which triangle is seen at each pixel, how far away, and where
     parts       plays that draw some of the frames of a whole
+    driving     Live: drives perfly_live, a frame at a time
     rendering   has perfly draw a play: its frames, and its report
     pictures    PPM in; side by side, scaled down; PNG out
     comparing   which pictures of two streams differ, and their sums
@@ -35,7 +36,8 @@ A first play:
     for number, image in enumerate(play.pictures(), 1):
         image.write(f"house{number:02}.png")
 """
+from .driving import EditRefused, Live, LiveError
 from .rendering import RenderError
 from .writing import Play, PlayError
 
-__all__ = ["Play", "PlayError", "RenderError"]
+__all__ = ["EditRefused", "Live", "LiveError", "Play", "PlayError", "RenderError"]

@@ -28,6 +28,17 @@ class Image:
 
 def read_images(stream):
     """The images of a stream of PPM images (P6), one after the other; the stream is an open binary file."""
+    for width, height, data in read_pixels(stream):
+        yield Image(width, height, rows_of(width, height, data))
+
+
+def rows_of(width, height, data):
+    """The rows of an image whose pixels these bytes are."""
+    return [data[3 * width * y:3 * width * (y + 1)] for y in range(height)]
+
+
+def read_pixels(stream):
+    """The width, the height and the bytes of the pixels, row by row, of each image of such a stream."""
     while magic := stream.readline(16):
         if magic != b"P6\n":
             raise PictureError(f"no picture begins with {magic[:12]!r}: the stream must be PPM images (P6)")
@@ -37,7 +48,7 @@ def read_images(stream):
         data = stream.read(3 * width * height)
         if len(data) < 3 * width * height:
             raise PictureError("the stream ends inside a picture")
-        yield Image(width, height, [data[3 * width * y:3 * width * (y + 1)] for y in range(height)])
+        yield width, height, data
 
 
 def _numbers(stream, count):

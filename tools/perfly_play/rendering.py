@@ -12,7 +12,8 @@ from .pictures import Image, beside, read_images
 from .playing import Playing, Stuck
 from .reading import Mistake, read_head, read_play
 
-BUILT = pathlib.Path(__file__).resolve().parents[2] / "crates" / "perfly" / "out" / "perfly"
+CRATES = pathlib.Path(__file__).resolve().parents[2] / "crates"
+BUILDS = {"perfly": "./fly < examples/shaded.play > shaded.ppm", "perfly_live": "./fly live < /dev/null"}
 REFUSED = re.compile(r"^(?:app|dbase) .* : (?:at \d+ )?fault ", re.MULTILINE)
 
 
@@ -24,20 +25,27 @@ class RenderError(Exception):
         self.status = status
 
 
-def find_program(given: str | os.PathLike | None = None) -> str:
-    """The program: the one that is given, the one that PERFLY names, the built one of this repository, or perfly on the PATH."""
-    if given is None and "PERFLY" in os.environ:
-        given = os.environ["PERFLY"]
+def built(name: str) -> pathlib.Path:
+    """Where this repository's build of the program of this name is, or will be."""
+    return CRATES / name / "out" / name
+
+
+def find_program(given: str | os.PathLike | None = None, name: str = "perfly") -> str:
+    """The program of this name: the one that is given, the one that PERFLY names (PERFLY_LIVE that of perfly_live), the built
+    one of this repository, or the one on the PATH."""
+    variable = name.upper()
+    if given is None and variable in os.environ:
+        given = os.environ[variable]
         if not given.strip():
-            raise RenderError("PERFLY is set, but empty: it names the program, or is not set")
+            raise RenderError(f"{variable} is set, but empty: it names the program, or is not set")
     if given is not None:
         found = shutil.which(given)
         if not found:
             raise RenderError(f"there is no program {given}")
         return found
-    found = str(BUILT) if BUILT.is_file() else shutil.which("perfly")
+    found = str(built(name)) if built(name).is_file() else shutil.which(name)
     if not found:
-        raise RenderError("perfly is not built: ./fly < examples/shaded.play > shaded.ppm builds it; or PERFLY names it")
+        raise RenderError(f"{name} is not built: {BUILDS[name]} builds it; or {variable} names it")
     return found
 
 

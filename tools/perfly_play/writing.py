@@ -10,7 +10,7 @@ import math
 import numbers
 import os
 import pathlib
-from typing import Any, Iterable, Iterator, Sequence
+from typing import Any, Iterable, Iterator, Protocol, Sequence
 
 from . import forms, limits
 from .forms import Edit, Field
@@ -101,10 +101,50 @@ def _is_triangle(thing: Any) -> bool:
         return False
 
 
+def _triangle_line(triangle: Triangle) -> str:
+    """A triangle as its line."""
+    numbers = [n for corner, colour in zip(*triangle) for n in (*point(*corner), *colour)]
+    return "t " + " ".join(map(str, _checked("t", forms.TRIANGLE, numbers)))
+
+
+def spelled(command: str, values: Sequence[Any], triangles: Sequence[Triangle] = ()) -> tuple[Edit, list[str]]:
+    """An edit, each of whose numbers is within its range, and its lines."""
+    named = command == "sw" and isinstance(values[1], str)
+    fields = forms.EDITS[command]
+    _checked(command, fields[:1] if named else fields, values[:1] if named else values)
+    edit = Edit(command, tuple(values), tuple(point(*corner) for triangle in triangles for corner in triangle.corners))
+    return edit, [forms.line(edit), *map(_triangle_line, triangles)]
+
+
+def head_lines(width: int, height: int, focal: int | None, back: Colour, near: float, far: float,
+               channels: int | None) -> list[str]:
+    """The lines of a head, from `size` on; without a focal length it sees 60 degrees."""
+    focal = focal or max(1, round(width * 0.875))
+    size = _checked("size", forms.SIZE, (width, height))
+    lens = _checked("lens", forms.LENS, (focal, length(near), length(far)))
+    if far < near:
+        raise PlayError(f"lens: far, {far}, is nearer than near, {near}")
+    lines = ["size %d %d" % size, "lens %d %d %d" % lens, "back %d %d %d" % _checked("back", forms.SHADE, back)]
+    return lines + (["channels %d" % _checked("channels", forms.CHANNELS, (channels,))] if channels else [])
+
+
+class Keeper(Protocol):
+    """What gives ids to the nodes of its sections, and counts their triangles."""
+
+    def take_id(self, chosen: Node = None) -> int:
+        """An id that no node has, or the chosen one."""
+
+    def check_count(self, command: str, triangles: int) -> None:
+        """Refuses triangles above a limit."""
+
+    def note(self, command: str, triangles: int) -> None:
+        """Takes note of a command that was written."""
+
+
 class Section:
     """Makes nodes and edits; the application's part of a play and each buffer of DBASE is one."""
 
-    def __init__(self, play: "Play", graph: Graph, lines: list[str]):
+    def __init__(self, play: Keeper, graph: Graph, lines: list[str]):
         self._play, self._graph, self.lines = play, graph, lines
 
     # Nodes; the parent is an id, 0 for the scene, or None for none yet
@@ -236,11 +276,7 @@ class Section:
 
     def _say(self, command: str, *values: Any, triangles: Sequence[Triangle] = ()) -> Edit:
         """Writes an edit, which the section's graph must take; where it does not, nothing is written."""
-        named = command == "sw" and isinstance(values[1], str)
-        fields = forms.EDITS[command]
-        _checked(command, fields[:1] if named else fields, values[:1] if named else values)
-        edit = Edit(command, values, tuple(point(*corner) for triangle in triangles for corner in triangle.corners))
-        lines = [forms.line(edit), *map(_triangle_line, triangles)]
+        edit, lines = spelled(command, values, triangles)
         self._play.check_count(command, len(triangles))
         try:
             self._graph.make(edit)
@@ -251,16 +287,38 @@ class Section:
         return edit
 
 
-def _triangle_line(triangle: Triangle) -> str:
-    """A triangle as its line."""
-    numbers = [n for corner, colour in zip(*triangle) for n in (*point(*corner), *colour)]
-    return "t " + " ".join(map(str, _checked("t", forms.TRIANGLE, numbers)))
+class Application(Section):
+    """The application's section: what is made in it is in the scene at once."""
+
+    def __init__(self, play: Keeper, channels: int | None):
+        super().__init__(play, Graph(), [])
+        self._channels = channels or 1
+
+    def view(self, x: float, y: float, z: float, heading: float = 0, pitch: float = 0, roll: float = 0, channel: int = 0) -> None:
+        """Sets where the eye of a channel is, and where it looks: along Y, turned left by its heading and up by its pitch."""
+        if channel not in range(self._channels):
+            raise PlayError(f"view: there is no channel {channel}; the play has {self._channels}, counted from 0")
+        values = (*point(x, y, z), angle(heading), angle(pitch), angle(roll))
+        _checked("view", forms.APPLICATION["view"], values)
+        self._act(forms.line(Edit("cview", (channel, *values)) if channel else Edit("view", values)))
+
+    def look_at(self, eye: Point, target: Point, roll: float = 0, channel: int = 0) -> None:
+        """Sets where the eye of a channel is, and turns it to look at a point."""
+        self.view(*eye, *direction(eye, target), roll, channel)
+
+    def sync(self) -> None:
+        """Lets go what earlier frames no longer need."""
+        self._act("sync")
+
+    def _act(self, line: str) -> None:
+        """Writes a line that is no edit."""
+        self.lines.append(line)
 
 
 class Buffer(Section):
     """A buffer of DBASE: what is made in it comes into the scene when it is merged."""
 
-    def __init__(self, play: "Play", lines: list[str]):
+    def __init__(self, play: Keeper, lines: list[str]):
         super().__init__(play, Graph(), lines)
         self.edits = []
 
@@ -306,49 +364,23 @@ class Dbase:
         self.merges.append(buffer.edits)
 
 
-class Play(Section):
+class Play(Application):
     """A play: its head, and the application's part. `dbase` is DBASE's part."""
 
     def __init__(self, width: int, height: int, focal: int | None = None, back: Colour = (150, 190, 225), near: float = 1,
                  far: float = 1000, channels: int | None = None):
         """The size in pixels; the focal length in pixels, which by default sees 60 degrees; the depths in units."""
-        super().__init__(self, Graph(), [])
-        focal = focal or max(1, round(width * 0.875))
-        size = _checked("size", forms.SIZE, (width, height))
-        lens = _checked("lens", forms.LENS, (focal, length(near), length(far)))
-        if far < near:
-            raise PlayError(f"lens: far, {far}, is nearer than near, {near}")
-        self._head = ["size %d %d" % size, "lens %d %d %d" % lens, "back %d %d %d" % _checked("back", forms.SHADE, back)]
-        self._version = 1
-        self._channels = 1
-        if channels:
-            self._channels, = _checked("channels", forms.CHANNELS, (channels,))
-            self._head.append(f"channels {channels}")
-            self._version = 2
+        super().__init__(self, channels)
+        self._head = head_lines(width, height, focal, back, near, far, channels)
+        self._version = 2 if channels else 1
         self._ids, self._next = set(), 1
         self._triangles = self._merged = 0
         self.dbase = Dbase(self)
-
-    def view(self, x: float, y: float, z: float, heading: float = 0, pitch: float = 0, roll: float = 0, channel: int = 0) -> None:
-        """Sets where the eye of a channel is, and where it looks: along Y, turned left by its heading and up by its pitch."""
-        if channel not in range(self._channels):
-            raise PlayError(f"view: there is no channel {channel}; the play has {self._channels}, counted from 0")
-        values = (*point(x, y, z), angle(heading), angle(pitch), angle(roll))
-        _checked("view", forms.APPLICATION["view"], values)
-        self.lines.append(forms.line(Edit("cview", (channel, *values)) if channel else Edit("view", values)))
-
-    def look_at(self, eye: Point, target: Point, roll: float = 0, channel: int = 0) -> None:
-        """Sets where the eye of a channel is, and turns it to look at a point."""
-        self.view(*eye, *direction(eye, target), roll, channel)
 
     def frame(self) -> None:
         """Draws the scene as it now stands."""
         self.lines.append("frame")
         self._graph.frame += 1
-
-    def sync(self) -> None:
-        """Lets go what earlier frames no longer need."""
-        self.lines.append("sync")
 
     def wait(self, merges: int) -> None:
         """Waits until DBASE has merged so many times."""

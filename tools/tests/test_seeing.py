@@ -129,7 +129,7 @@ class Commands(unittest.TestCase):
 
     def test_perfly(self):
         """The pixels of docs/PLAY.md, by the built program."""
-        given = os.environ.get("PERFLY", str(rendering.BUILT))
+        given = os.environ.get("PERFLY", str(rendering.built("perfly")))
         perfly = next((path for path in (pathlib.Path(given), TOP / given) if path.is_file()), None)
         if perfly is None:
             self.skipTest("perfly is not built")
