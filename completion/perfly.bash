@@ -1,7 +1,8 @@
-# Completion for perfly and fly in bash: source this file, or copy it to where bash-completion looks for one (README.md).
+# Completion for perfly, perfly_live and fly in bash: source this file, or copy it to where bash-completion looks for one (README.md).
 
-# The words of perfly, and those that fly adds.
+# The words of perfly, of perfly_live, and those that fly adds.
 _perfly_words="--mode --dbase --ahead --make --probe --stream"
+_perfly_live_words="--mode --ahead --probe --stream"
 _fly_words="--jobs --quick --into --install --help --version"
 # Those of fly render.
 _render_words="-o --smooth --rate --frame --report"
@@ -36,11 +37,15 @@ _perfly() {
     elif [ "$prev" = "=" ]; then
         prev=${COMP_WORDS[COMP_CWORD - 2]}
     fi
-    if [[ ${1##*/} == fly && ${COMP_WORDS[1]} == render && $COMP_CWORD -gt 1 ]]; then
+    if [[ ${1##*/} == perfly_live ]]; then
+        offered=$_perfly_live_words
+    elif [[ ${1##*/} == fly && ${COMP_WORDS[1]} == render && $COMP_CWORD -gt 1 ]]; then
         offered="$_render_words ${_perfly_words/--make /} --jobs"
+    elif [[ ${1##*/} == fly && ${COMP_WORDS[1]} == live && $COMP_CWORD -gt 1 ]]; then
+        offered="$_perfly_live_words --jobs --install"
     elif [[ ${1##*/} == fly ]]; then
         offered+=" $_fly_words"
-        [[ $COMP_CWORD -gt 1 || $cur != r* ]] || offered=render
+        [[ $COMP_CWORD -gt 1 || $cur != [lr]* ]] || offered="live render"
     fi
     COMPREPLY=()
     if [[ $prev == *[\<\>] || $prev == -o || $prev == --report || $prev == --in* ]] || _perfly_names_play "$cur"; then
@@ -62,4 +67,4 @@ _perfly() {
     mapfile -t COMPREPLY < <(compgen -W "$left" -- "$cur")
 }
 
-complete -F _perfly perfly fly
+complete -F _perfly perfly perfly_live fly
