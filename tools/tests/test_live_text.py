@@ -158,6 +158,11 @@ class Command(unittest.TestCase):
         done = run("live2play", given=HEAD + b"grup 1\n")
         self.assertEqual((done.returncode, done.stdout), (1, b""))
         self.assertEqual(done.stderr, b"live2play: line 6: Command: there is no command grup; group is near to it\n")
+        self.assertEqual(run("live2play", "--check", given=HEAD + b"grup 1\n").stderr, done.stderr)
+
+    def test_check(self):
+        done = run("live2play", "--check", given=HEAD + b"frame\n" * 300000)
+        self.assertEqual((done.returncode, done.stdout, done.stderr), (0, b"", b""))
 
 
 if __name__ == "__main__":
