@@ -9,7 +9,7 @@
     placing     puts a model in its place: its upright, its size, fewer triangles, smooth normals
     modelling   makes the geodes of a play out of a model, and moves the eye about it
     reading     reads a play as perfly does, and gives its first mistake a hint
-    live_text   reads a live text as perfly_live does, and makes a play of it
+    live_text   reads a live text as perfly_live does, and makes a play of it, or one of a play
     graph       the scene graph of a play, with the faults of its edits
     sight       what of a graph a view shows
     playing     plays a play without drawing it

@@ -1,4 +1,4 @@
-"""Reads a live text as perfly_live does, and makes a play of it.
+"""Reads a live text as perfly_live does, and makes a play of it, or a live text of a play.
 
 A live text has the head of a play of version 2 behind the line `perfly live 1`, and behind `app` the application's
 lines and blocks: `buffer`, the lines of a buffer, and `merge`, which is made where it stands.
@@ -8,7 +8,7 @@ from typing import Iterator, NamedTuple
 from . import forms, limits
 from .forms import Edit
 from .graph import Fault, Graph
-from .reading import Mistake, Reader, allowed_in
+from .reading import Mistake, Reader, allowed_in, read_play
 
 BARRED = ("wait", "await", "dbase")
 OUTSIDE_BLOCK = {command: fields for command, fields in allowed_in(2, None).items() if command not in BARRED}
@@ -101,6 +101,28 @@ def play_of(reader: LiveReader, is_inline: bool = False) -> bytes:
     if reader.goes_on:
         raise TooLarge(reader.line + 1, limits.BYTES, "bytes")
     return b"".join(line + b"\n" for line in [b"perfly 2", *reader.head_lines, *play.lines()])
+
+
+def live_of(text: bytes) -> bytes:
+    """The live text of a play: each block stands where the application waits for it, or at the end.
+
+    Of a fenced play perfly_live draws the pictures that perfly draws of it. Raises the Mistake of a text that is no play,
+    and a ValueError where the application waits for a merge that never comes.
+    """
+    play, lines = read_play(text), text.split(b"\n")
+    bounds = [step.line for step in play.dbase if step.edit.command in ("buffer", "merge")]
+    blocks = [lines[first - 1:last] for first, last in zip(bounds[::2], bounds[1::2])]
+    live, given = [b"perfly live 1", *lines[1:lines.index(b"app") + 1]], 0
+    for line, edit in play.application:
+        if edit.command != "wait":
+            live += lines[line - 1:line + len(edit.corners) // 3]
+        elif edit.fields[0] > len(blocks):
+            raise ValueError(f"line {line} waits for merge {edit.fields[0]}, and the play has {len(blocks)}")
+        else:
+            live += [line for block in blocks[given:edit.fields[0]] for line in block]
+            given = max(given, edit.fields[0])
+    live += [line for block in blocks[given:] for line in block]
+    return b"".join(line + b"\n" for line in live)
 
 
 class _Sections:

@@ -4,11 +4,11 @@ from unittest import mock
 
 from perfly_play import limits
 from perfly_play.fences import is_fenced
-from perfly_play.live_text import LiveReader, TooLarge, play_of
+from perfly_play.live_text import LiveReader, TooLarge, live_of, play_of
 from perfly_play.playing import Playing
 from perfly_play.reading import Mistake, read_play
 
-from .rows import read_rows
+from .rows import TOP, read_rows
 from .test_tools import run
 
 HEAD = b"perfly live 1\nsize 3 3\nlens 3 1 9\nback 0 0 0\napp\n"
@@ -58,6 +58,25 @@ class Plays(unittest.TestCase):
         self.assertEqual(play.partition(b"app\n")[2], due)
         self.assertTrue(is_fenced(read_play(play)))
         self.assertEqual(Playing(read_play(play)).to_end(), [])
+
+
+class OfPlays(unittest.TestCase):
+    def test_blocks(self):
+        """A block stands where the application waits for it, or at the end."""
+        start, empty = b"group 1\nadd 0 1\nframe\n", b"buffer\nmerge\n"
+        play = HEAD.replace(b"live 1", b"1") + start + b"wait 2\nframe\nwait 1\nsync\ndbase\nawait 1\n" + BLOCK + empty * 2
+        self.assertEqual(live_of(play), HEAD + start + BLOCK + empty + b"frame\nsync\n" + empty)
+        with self.assertRaisesRegex(ValueError, "line 6 waits for merge 1, and the play has 0"):
+            live_of(HEAD.replace(b"live 1", b"1") + b"wait 1\n")
+
+    def test_examples(self):
+        """The examples come back from live texts with the same edits."""
+        for name in ("paging", "shaded"):
+            play = (TOP / "examples" / f"{name}.play").read_bytes()
+            back = read_play(play_of(LiveReader(live_of(play))))
+            self.assertEqual([step.edit for step in back.application], [step.edit for step in read_play(play).application])
+            given = [step.edit for step in read_play(play).dbase if step.edit.command != "await"]
+            self.assertEqual([step.edit for step in back.dbase], given)
 
 
 class Refused(unittest.TestCase):
