@@ -53,11 +53,10 @@ class Recipes(OverPerflyLive):
 
     def test_report(self):
         report = self.run_here("./fly", "live", given=SAMPLE).stderr.decode()
-        if PERFLY:
-            self.assertEqual(report[:len(REPORT)], REPORT)
-        entries = [line for line in REPORT.splitlines() if not line.startswith("frame ")]
-        told = [line for line in report.splitlines() if line.startswith(("app ", "dbase "))]
-        self.assertEqual(told[:len(entries)], entries)
+        for kinds in [("app ", "dbase ")] + [("frame ",)] * bool(PERFLY):
+            due, told = ([line for line in text.splitlines() if line.startswith(kinds)] for text in (REPORT, report))
+            self.assertEqual(told[:len(due)], due)
+        self.assertLess(report.index("app frame 1 : ok\n"), report.index("frame 1 shown "))
 
     @unittest.skipUnless(shutil.which("bash") and shutil.which("mkfifo"), "no bash here")
     def test_shell(self):
