@@ -1,0 +1,166 @@
+"""The page on the loopback: it gets pictures with what is told of them, and gives the keys that are held.
+
+`/pictures` is one answer without an end: for each picture a line of JSON, in which `bytes` has the sizes of what follows,
+and then the pictures as PPM, the pilot's first. A page that reads slowly misses pictures, and the flight does not wait
+for it.
+"""
+import functools
+import http.server
+import json
+import threading
+from typing import Any
+
+from . import HERE
+from .aeroplane import KEYS
+from .flight import Shown
+from .keys import Held
+
+HOST = "127.0.0.1"
+MOST = 4096  # bytes that the page may give at once
+PATIENCE = 1  # seconds, after which a page is told that there is nothing new
+
+
+class Window:
+    """What lies between the flight and the page: the newest picture, and the keys that are held."""
+
+    def __init__(self) -> None:
+        self._changed = threading.Condition()
+        self._newest, self._number = b"", 0
+        self._held: Held = frozenset()
+        self._heard = 0.0
+        self._readers = 0
+        self.is_over = False
+
+    def put(self, shown: Shown) -> None:
+        """Gives the page what a tick shows."""
+        images = [image.ppm() for image in (shown.pilot, shown.below) if image]
+        told = {**shown.told, "bytes": [len(image) for image in images]}
+        self._put(json.dumps(told).encode() + b"\n" + b"".join(images))
+
+    def end(self, why: str) -> None:
+        """Tells the page that the flight is over, and why."""
+        self._put(json.dumps({"ended": why, "bytes": []}).encode() + b"\n")
+        with self._changed:
+            self.is_over = True
+
+    def _put(self, text: bytes) -> None:
+        with self._changed:
+            self._newest, self._number = text, self._number + 1
+            self._changed.notify_all()
+
+    def newer(self, number: int) -> tuple[bytes, int]:
+        """The newest picture, and its number, which is greater than this; where none comes for a while, no bytes."""
+        with self._changed:
+            if self._changed.wait_for(lambda: self._number > number, PATIENCE):
+                return self._newest, self._number
+            return b"", number
+
+    def held(self) -> Held:
+        """The keys that are held."""
+        with self._changed:
+            return self._held
+
+    def hear(self, given: Any) -> None:
+        """Takes the keys that are held on the page, and the time at which they were; what comes late is left out."""
+        held, when = frozenset(given["held"]), float(given["when"])
+        if not held <= set(KEYS):
+            raise ValueError("there is no such key")
+        with self._changed:
+            if when >= self._heard:
+                self._held, self._heard = held, when
+
+    def count_reader(self, more: int) -> None:
+        """A page has come, or gone; where there is none, no key is held."""
+        with self._changed:
+            self._readers += more
+            if not self._readers:
+                self._held = frozenset()
+
+
+class Handler(http.server.BaseHTTPRequestHandler):
+    """Answers the page."""
+
+    def __init__(self, window: Window, page: bytes, *words: Any):
+        self._window, self._page = window, page
+        super().__init__(*words)
+
+    def do_GET(self) -> None:
+        """The page, or the pictures."""
+        if not self._is_ours():
+            self.send_error(403)
+        elif self.path == "/":
+            self._answer(self._page, "text/html; charset=utf-8")
+        elif self.path == "/pictures":
+            self._send_pictures()
+        else:
+            self.send_error(404)
+
+    def do_POST(self) -> None:
+        """The keys that are held."""
+        size = self.headers.get("Content-Length", "")
+        if not self._is_ours() or self.path != "/keys" or not size.isdigit() or int(size) > MOST:
+            self.send_error(403)
+            return
+        try:
+            self._window.hear(json.loads(self.rfile.read(int(size))))
+        except (ValueError, KeyError, TypeError):
+            self.send_error(400)
+        else:
+            self._answer(b"", "text/plain")
+
+    def _is_ours(self) -> bool:
+        """Whether the page of this server asks, and not one of another host that has found its port."""
+        host, port = self.server.server_address[:2]
+        ours = {f"{name}:{port}" for name in (host, "localhost")}
+        origin = self.headers.get("Origin", "")
+        return self.headers.get("Host") in ours and origin.removeprefix("http://") in ours | {""}
+
+    def _answer(self, body: bytes, kind: str) -> None:
+        self.send_response(200)
+        self.send_header("Content-Type", kind)
+        self.send_header("Content-Length", str(len(body)))
+        self.send_header("Cache-Control", "no-store")
+        self.end_headers()
+        self.wfile.write(body)
+
+    def _send_pictures(self) -> None:
+        """Sends pictures until the page or the flight ends."""
+        self.send_response(200)
+        self.send_header("Content-Type", "application/octet-stream")
+        self.send_header("Cache-Control", "no-store")
+        self.end_headers()
+        self._window.count_reader(1)
+        number = 0
+        try:
+            while True:
+                is_over = self._window.is_over
+                text, number = self._window.newer(number)
+                self.wfile.write(text or b'{"bytes": []}\n')
+                if is_over:
+                    return
+        except OSError:
+            pass  # the page has gone
+        finally:
+            self._window.count_reader(-1)
+
+    def log_message(self, *_: Any) -> None:
+        """Nothing is told of each request."""
+
+
+class Server(http.server.ThreadingHTTPServer):
+    """The server of a window's page, in threads of its own; a port of 0 takes one that is free."""
+
+    daemon_threads = True
+
+    def __init__(self, window: Window, port: int, page: bytes | None = None):
+        page = page or (HERE / "page.html").read_bytes()
+        super().__init__((HOST, port), functools.partial(Handler, window, page))
+        threading.Thread(target=self.serve_forever, daemon=True).start()
+
+    @property
+    def url(self) -> str:
+        """Where the page is."""
+        return f"http://{HOST}:{self.server_address[1]}/"
+
+    def handle_error(self, *_: Any) -> None:
+        """A page that goes is no error."""
