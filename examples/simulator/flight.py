@@ -3,12 +3,12 @@ import collections
 import time
 from typing import Any, Collection, Iterator, Mapping, NamedTuple
 
-from .aeroplane import DEGREE, RATE, UNIT, Aeroplane
+from .aeroplane import DEGREE, RATE, UNIT, WHEELS, Aeroplane
 from .land import Land
-from .scene import FAR, PROBE, VIEWS, Scene, make
+from .scene import DEEP, FAR, PROBE, VIEWS, Scene, eye_down, make
 
 from perfly_play import Live
-from perfly_play.driving import Frame
+from perfly_play.driving import Frame, Hit
 from perfly_play.pictures import Image
 
 
@@ -77,9 +77,17 @@ class Flight:
                  "rate": rate_of(self._ended), **self.scene.pager.counts()._asdict()}
         if not self._has_probe:
             return Shown(frame, None, told)
-        told["probe"] = self.scene.below(frame.hit)
+        told["probe"] = self._met(frame.hit, told)
         below, pilot = frame.channels
         return Shown(pilot, below, told)
+
+    def _met(self, hit: Hit | None, told: Mapping[str, Any]) -> dict[str, Any] | None:
+        """What the probe met: what it is, its node and triangle, its height, and how far below the wheels it is."""
+        if hit is None:
+            return None
+        height = told["down"] - hit.share * DEEP
+        return {"what": self.scene.name_of(hit.node), "node": hit.node, "triangle": hit.triangle, "height": height,
+                "above": told["wheels"] - height}
 
 
 def told_of(plane: Aeroplane, view: str, tick: int) -> dict[str, Any]:
@@ -87,6 +95,7 @@ def told_of(plane: Aeroplane, view: str, tick: int) -> dict[str, Any]:
     ground = plane.surface.height(plane.x, plane.y)
     return {"tick": tick, "view": view, "state": plane.state(), "has_crashed": bool(plane.crash),
             "height": plane.z / UNIT, "ground": ground / UNIT, "above": (plane.z - plane.floor()) / UNIT,
+            "wheels": (plane.z - WHEELS) / UNIT, "down": eye_down(plane).z / UNIT,
             "below": plane.surface.kind(plane.x, plane.y), "speed": plane.speed * RATE / UNIT,
             "climb": plane.climb * RATE / UNIT, "heading": -plane.heading / DEGREE % 360,
             "pitch": plane.pitch / DEGREE, "roll": plane.roll / DEGREE, "throttle": plane.throttle}

@@ -23,7 +23,7 @@ FIRST = 1000  # the first id of a tile
 TREES, NEAREST_TREE, FARTHEST_TREE = 9, 92, 460
 RUNWAY = (-12, 60, 12, 460)
 LAKE = (0, 925, 80, 165)  # its middle, and its reach to the sides and along
-WATER = round(-1.3 * UNIT)
+LEVEL = round(-1.3 * UNIT)  # of the runway and of the lake
 FIRM = round(0.5 * UNIT)  # ground above it is a hill
 GRASS, GLASS, MIST, PLANE = 1, 7, 8, 9  # states
 NAMES = {GRASS: "the ground", 2: "a house", 3: "a tree", 4: "the beacon", 5: "a boat", 6: "a balloon",
@@ -67,19 +67,24 @@ def is_lake(x: int, y: int) -> bool:
     return across * across + along * along <= (reach_x * reach_y * UNIT) ** 2
 
 
+def is_runway(x: int, y: int) -> bool:
+    """Whether a place, in 4096ths of a unit, lies on the runway."""
+    left, near, right, far = (n * UNIT for n in RUNWAY)
+    return left <= x <= right and near <= y <= far
+
+
 class Land:
     """What the aeroplane flies over."""
 
     def height(self, x: int, y: int) -> int:
         """How high the ground or the water is."""
-        return max(ground(x, y), WATER) if is_lake(x, y) else ground(x, y)
+        return max(ground(x, y), LEVEL) if is_lake(x, y) or is_runway(x, y) else ground(x, y)
 
     def kind(self, x: int, y: int) -> str:
         """What is there."""
         if is_lake(x, y):
             return "lake"
-        left, near, right, far = (n * UNIT for n in RUNWAY)
-        if left <= x <= right and near <= y <= far:
+        if is_runway(x, y):
             return "runway"
         return "hill" if ground(x, y) > FIRM else "field"
 
@@ -90,16 +95,17 @@ def tile_at(x: int, y: int) -> Place:
 
 
 class Numbered:
-    """A section whose nodes get ids of a range of their own, so that they are the same in every run; it keeps which nodes
-    were made, and of geometry the state."""
+    """A section whose nodes get ids of a range of their own, so that they are the same in every run. It keeps which nodes
+    were made, and what the geometry among them is."""
 
+    soil = NAMES[GRASS]  # what geometry of the ground's state is
     makers = ("group", "switch", "lod", "sequence", "layer", "dcs", "scs", "geode", "glass")
 
     def __init__(self, section: Section, ids: range):
         """The nodes of a section, with these ids."""
         self._section, self._ids = section, iter(ids)
         self.inner: list[int] = []
-        self.states: dict[int, int] = {}
+        self.names: dict[int, str] = {}
 
     def __getattr__(self, name: str) -> Callable:
         call = getattr(self._section, name)
@@ -108,14 +114,15 @@ class Numbered:
     def _make(self, name: str, call: Callable, parent: int | None, *values: Any) -> int:
         node = call(parent, *values, node=next(self._ids))
         if name in ("geode", "glass"):
-            self.states[node] = values[0] if name == "geode" else GLASS
+            state = values[0] if name == "geode" else GLASS
+            self.names[node] = self.soil if state == GRASS else NAMES[state]
         else:
             self.inner.append(node)
         return node
 
     def nodes(self) -> list[int]:
         """The nodes, each before those below it."""
-        return [*self.inner, *self.states]
+        return [*self.inner, *self.names]
 
 
 class _Plots:
@@ -136,10 +143,10 @@ class _Plots:
 
 
 PLOTS = _Plots()
-LANDMARKS: dict[Place, Callable[[Any, int], Any]] = {
-    (0, 1): make.airfield,
-    (-1, 3): lambda section, parent: make.village(section, parent, make.Rand(12)),
-    (0, 4): make.lake,
+LANDMARKS: dict[Place, tuple[str, Callable[[Any, int], Any]]] = {
+    (0, 1): ("the airfield", make.airfield),
+    (-1, 3): ("the village", lambda section, parent: make.village(section, parent, make.Rand(12))),
+    (0, 4): ("the lake", make.lake),
 }
 
 
@@ -158,9 +165,10 @@ def build(section: Section, place: Place) -> Numbered:
     plots = PLOTS.of(place)
     if plots:
         made.geode(top, GRASS, plots)
-    if place in LANDMARKS:
-        LANDMARKS[place](made, top)
     _plant(made, top, place)
+    if place in LANDMARKS:
+        made.soil, make_it = LANDMARKS[place]
+        make_it(made, top)
     return made
 
 

@@ -99,9 +99,9 @@ class Pager:
         self._freed += len(freed)
         self.unfreed.difference_update(freed)
 
-    def state_of(self, node: int) -> int | None:
-        """The state of a geode of a tile, or None where it is of no tile."""
-        return next((tile.states[node] for tile in self.tiles.values() if node in tile.states), None)
+    def name_of(self, node: int) -> str | None:
+        """What a node of a tile is, or None where it is of no tile."""
+        return next((tile.names[node] for tile in self.tiles.values() if node in tile.names), None)
 
     def counts(self) -> Counts:
         """How many tiles, blocks and nodes there are and were."""

@@ -3,18 +3,18 @@ import math
 from typing import NamedTuple
 
 from .aeroplane import DEGREE, UNIT, WHOLE, Aeroplane, cosine, ratio, sine
-from .land import FIRST, MIST, NAMES, PLANE, SIDE, Numbered, build, make
+from .land import FIRST, MIST, PLANE, SIDE, Numbered, build, make
 from .paging import Pager
 
 from perfly_play import Live, shapes
-from perfly_play.driving import Hit
 
-VIEWS = ("behind", "cockpit", "tower", "above")
+VIEWS = ("behind", "cockpit", "ground", "above")
 FAR = 4000
 HAZE, FLOOR = (150, 172, 176), (130, 160, 120)
-TOWER = (84, 285, 24)
+POSTS = 240  # units from one place of the eye on the ground to the next
 NEXT, LATER = 150, 400  # units ahead of the aeroplane about which tiles are due, and are built
-PROBE = ((0, 0.5, 0), (0, 1000.5, 0))  # along the line of sight of the eye that looks down, in units
+DEEP = 1000  # units that the probe reaches
+PROBE = ((0, 0, 0), (0, DEEP, 0))  # along the line of sight of the eye that looks down
 RED = (205, 50, 45)
 
 
@@ -62,15 +62,11 @@ class Scene:
         self._world.turn(self._dcs, *degrees(plane.heading, plane.pitch, plane.roll))
         self._look(eye_of(plane, view), self._channel)
         if self._channel:
-            self._look(Eye(plane.x, plane.y, plane.z, plane.heading, -90 * DEGREE, 0), 0)
+            self._look(eye_down(plane), 0)
 
-    def below(self, hit: Hit | None) -> str:
-        """What the probe met, and how far below the aeroplane."""
-        if hit is None:
-            return "nothing within 1,000 units"
-        far = PROBE[0][1] + hit.share * (PROBE[1][1] - PROBE[0][1])
-        state = self._made.states.get(hit.node) or self.pager.state_of(hit.node)
-        return f"{NAMES.get(state, 'what has gone')} (node {hit.node}, triangle {hit.triangle}), {far:.1f} units below"
+    def name_of(self, node: int) -> str:
+        """What a node is."""
+        return self._made.names.get(node) or self.pager.name_of(node) or "what has gone"
 
     def _ahead(self, units: int) -> tuple[int, int]:
         """A place so many units ahead of the aeroplane."""
@@ -95,13 +91,19 @@ def eye_of(plane: Aeroplane, view: str) -> Eye:
         eye = _along(plane, -28, 8)._replace(pitch=plane.pitch // 2 - 8 * DEGREE, roll=plane.roll // 4)
     elif view == "cockpit":
         eye = _along(plane, 5, 1)
-    elif view == "tower":
-        place = tuple(UNIT * n for n in TOWER)
-        heading, pitch = _direction(plane.x - place[0], plane.y - place[1], plane.z - place[2])
-        eye = Eye(*place, heading, pitch, 0)
+    elif view == "ground":
+        x, y = (POSTS * UNIT * ratio(n, POSTS * UNIT) + 30 * UNIT for n in (plane.x, plane.y))
+        z = plane.surface.height(x, y) + 6 * UNIT
+        eye = Eye(x, y, z, *_direction(plane.x - x, plane.y - y, plane.z - z), 0)
     else:
         eye = Eye(plane.x, plane.y, plane.z + 320 * UNIT, 0, -90 * DEGREE, 0)
     return eye._replace(z=max(eye.z, plane.surface.height(eye.x, eye.y) + 2 * UNIT))
+
+
+def eye_down(plane: Aeroplane) -> Eye:
+    """The eye that looks straight down; it is below the wheels, but on the ground."""
+    z = max(plane.z - 5 * UNIT // 2, plane.surface.height(plane.x, plane.y) + 2 * UNIT // 5)
+    return Eye(plane.x, plane.y, z, plane.heading, -90 * DEGREE, 0)
 
 
 def _along(plane: Aeroplane, ahead: int, up: int) -> Eye:
