@@ -8,14 +8,13 @@ freed: that no frame under way shows them any more.
 import concurrent.futures
 from typing import Callable, NamedTuple
 
-from .land import ROUND, Numbered, Place, tile_at
+from .land import Numbered, Place, ids_of, tile_at
 
 from perfly_play import Live
 from perfly_play.writing import Section
 
 NEAR, KEPT = 3, 4  # how many tiles about the middle one are due, and may stay
 MOST = (2 * KEPT + 1) ** 2  # tiles at once
-assert 2 * KEPT < ROUND  # tiles with the same ids are never there at once
 
 Build = Callable[[Section, Place], Numbered]
 
@@ -125,7 +124,9 @@ class Pager:
             draft.result().drop()
 
     def _bring_in(self, place: Place) -> None:
-        """Brings a tile into the scene; where there are as many as may be, the farthest one goes first."""
+        """Brings a tile into the scene. One that has its ids goes first, and the farthest where there are as many as may be."""
+        for twin in [other for other in self.tiles if ids_of(other) == ids_of(place)]:
+            self._take_out(twin)
         if len(self.tiles) == MOST:
             self._take_out(max(self.tiles, key=lambda other: (distance(other, place), other)))
         self._ask(place)

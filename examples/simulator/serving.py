@@ -4,6 +4,7 @@
 and then the pictures as PPM, the pilot's first. A page that reads slowly misses pictures, and the flight does not wait
 for it.
 """
+import collections
 import functools
 import http.server
 import json
@@ -18,6 +19,8 @@ from .keys import Held
 HOST = "127.0.0.1"
 MOST = 4096  # bytes that the page may give at once
 PATIENCE = 1  # seconds, after which a page is told that there is nothing new
+NOTHING = b'{"bytes": []}\n'
+TAPS = 16  # sets of keys that wait for their tick at most
 
 
 class Window:
@@ -27,9 +30,9 @@ class Window:
         self._changed = threading.Condition()
         self._newest, self._number = b"", 0
         self._held: Held = frozenset()
-        self._heard = 0.0
+        self._coming: collections.deque[Held] = collections.deque(maxlen=TAPS)
         self._readers = 0
-        self.is_over = False
+        self._is_over = False
 
     def put(self, shown: Shown) -> None:
         """Gives the page what a tick shows."""
@@ -39,42 +42,41 @@ class Window:
 
     def end(self, why: str) -> None:
         """Tells the page that the flight is over, and why."""
-        self._put(json.dumps({"ended": why, "bytes": []}).encode() + b"\n")
-        with self._changed:
-            self.is_over = True
+        self._put(json.dumps({"ended": why, "bytes": []}).encode() + b"\n", is_over=True)
 
-    def _put(self, text: bytes) -> None:
+    def _put(self, text: bytes, is_over: bool = False) -> None:
         with self._changed:
-            self._newest, self._number = text, self._number + 1
+            self._newest, self._number, self._is_over = text, self._number + 1, is_over
             self._changed.notify_all()
 
-    def newer(self, number: int) -> tuple[bytes, int]:
-        """The newest picture, and its number, which is greater than this; where none comes for a while, no bytes."""
+    def newer(self, number: int) -> tuple[bytes, int, bool]:
+        """The newest picture, its number, which is greater than this, and whether it is the last; where none comes for a
+        while, an empty line of JSON."""
         with self._changed:
             if self._changed.wait_for(lambda: self._number > number, PATIENCE):
-                return self._newest, self._number
-            return b"", number
+                return self._newest, self._number, self._is_over
+            return NOTHING, number, self._is_over
 
     def held(self) -> Held:
-        """The keys that are held."""
+        """The keys that are held in the next tick. A key that is pressed and let go between two ticks has one of its own."""
         with self._changed:
+            if self._coming:
+                self._held = self._coming.popleft()
             return self._held
 
-    def hear(self, given: Any) -> None:
-        """Takes the keys that are held on the page, and the time at which they were; what comes late is left out."""
-        held, when = frozenset(given["held"]), float(given["when"])
+    def hear(self, held: Held) -> None:
+        """Takes the keys that are held on the page."""
         if not held <= set(KEYS):
             raise ValueError("there is no such key")
         with self._changed:
-            if when >= self._heard:
-                self._held, self._heard = held, when
+            self._coming.append(held)
 
     def count_reader(self, more: int) -> None:
         """A page has come, or gone; where there is none, no key is held."""
         with self._changed:
             self._readers += more
             if not self._readers:
-                self._held = frozenset()
+                self._coming.append(frozenset())
 
 
 class Handler(http.server.BaseHTTPRequestHandler):
@@ -102,8 +104,8 @@ class Handler(http.server.BaseHTTPRequestHandler):
             self.send_error(403)
             return
         try:
-            self._window.hear(json.loads(self.rfile.read(int(size))))
-        except (ValueError, KeyError, TypeError):
+            self._window.hear(frozenset(json.loads(self.rfile.read(int(size)))))
+        except (ValueError, TypeError):
             self.send_error(400)
         else:
             self._answer(b"", "text/plain")
@@ -130,14 +132,11 @@ class Handler(http.server.BaseHTTPRequestHandler):
         self.send_header("Cache-Control", "no-store")
         self.end_headers()
         self._window.count_reader(1)
-        number = 0
+        number, is_over = 0, False
         try:
-            while True:
-                is_over = self._window.is_over
-                text, number = self._window.newer(number)
-                self.wfile.write(text or b'{"bytes": []}\n')
-                if is_over:
-                    return
+            while not is_over:
+                text, number, is_over = self._window.newer(number)
+                self.wfile.write(text)
         except OSError:
             pass  # the page has gone
         finally:
