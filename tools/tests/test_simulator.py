@@ -20,8 +20,9 @@ from simulator.aeroplane import RATE, UNIT, WHEELS, Aeroplane, per_second
 from simulator.flight import Flight, start_world
 
 SINES = "869aa3db2e707588"
+# Of flight.keys; where the land or the model is changed, start --sum tells them anew.
 COMMANDS = "b513dfc5d4b7fc3d35b38c983921cca9c5ba824862ef5cf866e19eb6bea39b15"
-PICTURES = ""  # of an independent reading of the rules
+PICTURES = "62a68c9a8f405e48303e53d67b489d1f86169a61dc83cda9a727c3ca4cf58f31"  # of an independent reading of the rules
 LAND = land.Land()
 
 
