@@ -1,5 +1,6 @@
 """examples/simulator: the laws of its flight model and of its tiles, and a recorded flight."""
 import hashlib
+import math
 import pathlib
 import random
 import re
@@ -167,23 +168,34 @@ class Recorded(unittest.TestCase):
         """The recorded flight gives the same commands each time."""
         self.assertEqual(sums_of()["commands"], COMMANDS)
 
-    def test_late_thread(self):
-        """A thread that is late changes no command, nor do frames that are under way."""
+    def commands(self, build=land.build, ahead=1, ticks=200):
+        """The live text of the beginning of the recorded flight."""
+        land.corner.cache_clear()
+        with tempfile.NamedTemporaryFile() as record, mock.patch.object(scene, "build", build), \
+                start_world(4, 3, True, record=record.name, program=flying.STAND_IN) as world:
+            flight = Flight(world, True, ahead)
+            for held in list(keys.read_flight(flying.KEYS))[:ticks]:
+                flight.tick(held)
+            list(flight.end())
+            world.close()
+            return pathlib.Path(record.name).read_bytes()
+
+    def test_same_each_time(self):
+        """The commands are the same where the thread is late, where frames are under way, and where sines and the like are
+        rounded as other machines may."""
         def slow(section, place):
             time.sleep(0.02 * (sum(place) % 2))
             return land.build(section, place)
 
-        texts = []
-        for build, ahead in ((land.build, 1), (slow, 3)):
-            with tempfile.NamedTemporaryFile() as record, mock.patch.object(scene, "build", build), \
-                    start_world(4, 3, False, record=record.name, program=flying.STAND_IN) as world:
-                flight = Flight(world, ahead=ahead)
-                for held in list(keys.read_flight(flying.KEYS))[:200]:
-                    flight.tick(held)
-                list(flight.end())
-                world.close()
-                texts.append(pathlib.Path(record.name).read_bytes())
-        self.assertEqual(texts[0] == texts[1], True)
+        def other(function):
+            return lambda *values: math.nextafter(function(*values), math.inf)
+
+        others = {name: other(getattr(math, name)) for name in ("sin", "cos", "atan2", "hypot")}
+        text = self.commands()
+        self.assertTrue(self.commands(slow, 3) == text)
+        with mock.patch.multiple(math, **others):
+            self.assertTrue(self.commands() == text)
+        land.corner.cache_clear()
 
     def test_restart(self):
         """A flight that begins again has the land about the runway, and edits are refused at no tick."""
