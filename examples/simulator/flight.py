@@ -62,12 +62,11 @@ class Flight:
             yield self._show(next(pictures))
 
     def end(self) -> Iterator[Shown]:
-        """Ends the flight: all that was given is made, and what is deleted is freed."""
+        """Ends the flight, and perfly_live with it, which then has freed all that was deleted."""
         yield from self.shown()
-        self._world.sync()
-        self._world.settle()
-        self.scene.pager.note_freed()
         self.scene.pager.close()
+        self._world.close()
+        self.scene.pager.note_freed()
 
     def _show(self, frame: Frame) -> Shown:
         """What a frame shows."""

@@ -22,7 +22,7 @@ from simulator.flight import Flight, start_world
 
 SINES = "869aa3db2e707588"
 # Of flight.keys; where the land or the model is changed, start --sum tells them anew.
-COMMANDS = "b513dfc5d4b7fc3d35b38c983921cca9c5ba824862ef5cf866e19eb6bea39b15"
+COMMANDS = "52ecddb565bce67330d290497219463606757f0d1320d11c8562b67e1ab7eaae"
 PICTURES = "62a68c9a8f405e48303e53d67b489d1f86169a61dc83cda9a727c3ca4cf58f31"  # of an independent reading of the rules
 LAND = land.Land()
 
@@ -104,6 +104,13 @@ class Model(unittest.TestCase):
 
 
 class Tiles(unittest.TestCase):
+    @staticmethod
+    def group(section, place):
+        """A tile of two groups."""
+        made = land.Numbered(section, land.ids_of(place))
+        made.group(made.group(None))
+        return made
+
     def fly(self, world, pager, ticks):
         """Turns a pager along a winding way; yields each middle."""
         x = y = 0
@@ -118,29 +125,31 @@ class Tiles(unittest.TestCase):
 
     def test_laws(self):
         """There are never too many tiles; what is deleted is freed, each serial once, and nothing else."""
-        def build(section, place):
-            made = land.Numbered(section, land.ids_of(place))
-            made.group(made.group(None))
-            return made
-
         freed = []
         with Live(2, 2, program=flying.STAND_IN) as world:
             take = world.take_freed
             world.take_freed = lambda: freed.extend(some := take()) or some
-            pager = paging.Pager(world, world.group(0), build)
+            pager = paging.Pager(world, world.group(0), self.group)
             for middle in self.fly(world, pager, 900):
                 self.assertLessEqual(len(pager.tiles), paging.MOST)
                 self.assertIn(middle, pager.tiles)
                 self.assertTrue(all(paging.distance(place, middle) <= paging.KEPT + 3 for place in pager.tiles))
                 self.assertLessEqual(len(pager.unfreed), 4)
-            world.sync()
-            world.settle()
-            pager.note_freed()
             pager.close()
-            counts = pager.counts()
+        pager.note_freed()
+        counts = pager.counts()
         self.assertGreater(counts.deleted, 500)
         self.assertEqual((pager.unfreed, len(freed), len(set(freed))), (set(), counts.deleted, counts.deleted))
         self.assertEqual(counts.deleted, 2 * (counts.merged - counts.tiles))
+
+    def test_most(self):
+        """Where there are as many tiles as may be, the farthest one goes for another."""
+        with Live(2, 2, program=flying.STAND_IN) as world:
+            pager = paging.Pager(world, world.group(0), self.group)
+            with mock.patch.object(paging, "MOST", 20):
+                pager.fill(0, 0)
+                self.assertEqual((len(pager.tiles), pager.counts().merged), (20, 49))
+            pager.close()
 
     def test_ids(self):
         """Each tile is within its ids, and tiles that may be there at once have no id in common."""
@@ -177,7 +186,6 @@ class Recorded(unittest.TestCase):
             for held in list(keys.read_flight(flying.KEYS))[:ticks]:
                 flight.tick(held)
             list(flight.end())
-            world.close()
             return pathlib.Path(record.name).read_bytes()
 
     def test_same_each_time(self):
