@@ -21,9 +21,9 @@ class KeysError(ValueError):
     """What is wrong with a recorded flight, and in which line."""
 
 
-def read_flight(path: str | os.PathLike) -> Iterator[Held]:
+def read_flight(path: str | os.PathLike) -> list[Held]:
     """The keys that are held at each tick of a recorded flight."""
-    return ticks_of(pathlib.Path(path).read_text(encoding="ascii"))
+    return list(ticks_of(pathlib.Path(path).read_text(encoding="ascii")))
 
 
 def ticks_of(text: str) -> Iterator[Held]:

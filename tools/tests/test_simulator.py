@@ -183,7 +183,7 @@ class Recorded(unittest.TestCase):
         with tempfile.NamedTemporaryFile() as record, mock.patch.object(scene, "build", build), \
                 start_world(4, 3, True, record=record.name, program=flying.STAND_IN) as world:
             flight = Flight(world, True, ahead)
-            for held in list(keys.read_flight(flying.KEYS))[:ticks]:
+            for held in keys.read_flight(flying.KEYS)[:ticks]:
                 flight.tick(held)
             list(flight.end())
             return pathlib.Path(record.name).read_bytes()
@@ -230,7 +230,7 @@ class Recorded(unittest.TestCase):
                 for held in flown:
                     recorder.take(frozenset(held))
                 recorder.end()
-            self.assertEqual(list(keys.read_flight(path)), [frozenset(held) for held in flown])
+            self.assertEqual(keys.read_flight(path), [frozenset(held) for held in flown])
         for text, told in (("", "line 1: a flight begins"), ("flight 1\nx\n", "line 2: a tick"),
                            ("flight 1\n5\n4 end\n", "line 3: a tick"), ("flight 1\n0 jump\n", "line 2: jump is no key"),
                            ("flight 1\n0\n", "line 3: the end is due")):
