@@ -164,6 +164,7 @@ def build(section: Section, place: Place) -> Numbered:
     made.geode(top, GRASS, shapes.hills(x, y, x + SIDE, y + SIDE, CELLS, CELLS, _height, make.valley_colour))
     plots = PLOTS.of(place)
     if plots:
+        made.soil = "a field"
         made.geode(top, GRASS, plots)
     _plant(made, top, place)
     if place in LANDMARKS:

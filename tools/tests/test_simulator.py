@@ -23,7 +23,7 @@ from simulator.flight import Flight, start_world
 SINES = "869aa3db2e707588"
 # Of flight.keys; where the land or the model is changed, start --sum tells them anew.
 COMMANDS = "52ecddb565bce67330d290497219463606757f0d1320d11c8562b67e1ab7eaae"
-PICTURES = "62a68c9a8f405e48303e53d67b489d1f86169a61dc83cda9a727c3ca4cf58f31"  # of an independent reading of the rules
+PICTURES = "e75cf659454d1f65e3d256a57992f3d62af37a1dc92651fcaf9dfa203bfee616"  # of an independent reading of the rules
 LAND = land.Land()
 
 
