@@ -2,7 +2,7 @@
 
 # The words of perfly, of perfly_live, and those that fly adds.
 _perfly_words="--mode --dbase --ahead --make --probe --stream"
-_perfly_live_words="--mode --ahead --probe --stream"
+_perfly_live_words="--mode --ahead --stream"
 _fly_words="--jobs --quick --into --install --help --version"
 # Those of fly render.
 _render_words="-o --smooth --rate --frame --report"

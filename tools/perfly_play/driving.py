@@ -25,7 +25,7 @@ from .forms import Edit
 from .pictures import Image, PictureError, beside, read_pixels, rows_of
 from .rendering import RenderError, find_program
 from .shapes import Triangle
-from .writing import Application, Buffer, Colour, Node, PlayError, Point, head_lines, point, spelled
+from .writing import Application, Buffer, Colour, Node, PlayError, head_lines, spelled
 
 PIECE = 1 << 16  # bytes of the live text that are held at most, and that are read of a report at once
 ENDING = 10  # seconds in which the streams of a program that was ended come to their ends
@@ -177,19 +177,17 @@ class Live(Application):
 
     def __init__(self, width: int, height: int, focal: int | None = None, back: Colour = (150, 190, 225),
                  near: float = 1, far: float = 1000, channels: int | None = None, *, words: Sequence[str] = (),
-                 probe: tuple[Point, Point] | None = None, strict: bool = True, timeout: float | None = 60,
-                 record: str | os.PathLike | None = None, program: str | os.PathLike | None = None):
+                 strict: bool = True, timeout: float | None = 60, record: str | os.PathLike | None = None,
+                 program: str | os.PathLike | None = None):
         """The size, the lens and the channels as those of Play; the program is started at once.
 
-        `words` are perfly_live's, as ("--mode", "app_cull_draw"). `probe` has two points in units, as the eye of
-        channel 0 sees them; each frame tells what the segment between them meets. With `strict` a refused edit is
-        raised at the next frame; without it `take_refused` has it. A call that waits, while nothing comes for `timeout`
-        seconds, raises a LiveError; None waits for ever. `record` is a file that gets the live text. The program is
-        that of PERFLY_LIVE, the built one of this repository, or perfly_live on the PATH.
+        `words` are perfly_live's, as ("--mode", "app_cull_draw"). With `strict` a refused edit is raised at the next
+        frame; without it `take_refused` has it. A call that waits, while nothing comes for `timeout` seconds, raises a
+        LiveError; None waits for ever. `record` is a file that gets the live text. The program is that of PERFLY_LIVE,
+        the built one of this repository, or perfly_live on the PATH.
         """
         super().__init__(self, channels)
         head = ["perfly live 1", *head_lines(width, height, focal, back, near, far, channels), "app"]
-        self._has_probe = probe is not None or any(word.split("=")[0] == "--probe" for word in words)
         self._strict, self._timeout = strict, timeout
         self._ids, self._mine = Ids(), threading.local()
         self._order = threading.RLock()  # guards what is given, in its order; held while the program is written to
@@ -204,10 +202,10 @@ class Live(Application):
         self._numbers: collections.deque[Numbers] = collections.deque()
         self._frames: dict[int, Frame] = {}
         self._ahead: collections.deque[int] = collections.deque()
-        self._came = self._probed = 0
+        self._came = 0
         self._message = self._wrong = ""
         self._status: int | None = None
-        self._start([_program(program), *words, *_probe_words(probe)], record)
+        self._start([_program(program), *words], record)
         self._write(head)
 
     def _start(self, call: Sequence[str], record: str | os.PathLike | None) -> None:
@@ -440,10 +438,6 @@ class Live(Application):
         elif words[0] == "frame":
             numbers = Numbers(int(words[1]), int(words[3]), int(words[5]), int(words[7]), None)
             self._numbers.append(numbers)
-        elif words[0] == "probe":
-            met = Hit(int(words[2]) / 65536, *map(int, words[3:])) if words[2] != "none" else None
-            self._numbers[-1] = self._numbers[-1]._replace(hit=met)
-            self._probed = int(words[1])
         else:
             self._message = line
 
@@ -462,8 +456,6 @@ class Live(Application):
     def _put_frames(self) -> None:
         """Puts together the frames whose pictures and numbers have all come, and tells who waits."""
         while self._numbers and len(self._images) >= self._channels:
-            if self._has_probe and self._probed < self._numbers[0].number:
-                break
             numbers = self._numbers.popleft()
             self._frames[numbers.number] = Frame([self._images.popleft() for _ in range(self._channels)], numbers)
             self._came = numbers.number
@@ -541,11 +533,3 @@ def _program(given: str | os.PathLike | None) -> str:
         return find_program(given, "perfly_live")
     except RenderError as error:
         raise LiveError(str(error)) from None
-
-
-def _probe_words(probe: tuple[Point, Point] | None) -> list[str]:
-    """The word of a probe's segment."""
-    if probe is None:
-        return []
-    start, end = probe
-    return ["--probe=" + ",".join(map(str, (*point(*start), *point(*end))))]

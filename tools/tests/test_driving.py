@@ -95,8 +95,8 @@ class Driven(OverPerflyLive):
         self.assertEqual([frame.ppm() for frame in frames], [image.ppm() for image in play.pictures()])
 
     def test_told(self):
-        """Numbers of a frame, what its probe meets, serials, and which of them are freed."""
-        with Live(8, 6, probe=((0, 0, 0), (0, 20, 0)), timeout=20) as world:
+        """Serials, and which of them are freed."""
+        with Live(8, 6, timeout=20) as world:
             group, red = world.group(0), world.geode(None, 1, RED)
             with world.buffer() as block:
                 block.ask_add(group, block.geode(None, 2, GREEN))
@@ -115,13 +115,10 @@ class Driven(OverPerflyLive):
 
     @unittest.skipUnless(PERFLY, "perfly is not built")
     def test_numbers(self):
-        with Live(8, 6, probe=((0, 0, 0), (0, 20, 0)), timeout=20) as world:
-            red = world.geode(0, 1, RED)
+        with Live(8, 6, timeout=20) as world:
+            world.geode(0, 1, RED)
             frame = world.frame()
             self.assertEqual((frame.shown, frame.states, frame.visited), (1, 1, 2))
-            self.assertEqual((frame.hit.share, frame.hit.triangle, frame.hit.node), (0.5, 0, red))
-            world.remove(0, red)
-            self.assertIsNone(world.frame().hit)
 
     def test_replies(self):
         with Live(8, 6, timeout=20) as world:
