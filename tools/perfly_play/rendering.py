@@ -13,7 +13,7 @@ from .playing import Playing, Stuck
 from .reading import Mistake, read_head, read_play
 
 CRATES = pathlib.Path(__file__).resolve().parents[2] / "crates"
-BUILDS = {"perfly": "./fly < examples/shaded.play > shaded.ppm", "perfly_live": "./fly live < /dev/null > pictures"}
+BUILDS = {"perfly": "./fly < examples/shaded.play > shaded.ppm", "perfly_live": "./fly live --install ~/.local"}
 REFUSED = re.compile(r"^(?:app|dbase) .* : (?:at \d+ )?fault ", re.MULTILINE)
 
 
