@@ -16,6 +16,7 @@ import collections
 import contextlib
 import functools
 import os
+import select
 import subprocess
 import threading
 from typing import IO, Any, Callable, Iterator, Literal, NamedTuple, Sequence, overload
@@ -193,7 +194,7 @@ class Live(Application):
         self._order = threading.RLock()  # guards what is given, in its order; held while the program is written to
         self._out: list[str] = []
         self._held = self._begun = 0
-        self._is_closed = False
+        self._is_closed = self._is_news = False
         self._changed = threading.Condition()  # guards what came; never held while a stream is written to or read
         self._due: collections.deque[Reply] = collections.deque()
         self._refused: collections.deque[Reply] = collections.deque(maxlen=KEPT)
@@ -214,6 +215,7 @@ class Live(Application):
         self._process = subprocess.Popen(call, stdin=subprocess.PIPE, stdout=subprocess.PIPE, stderr=subprocess.PIPE)
         assert self._process.stdin and self._process.stdout and self._process.stderr
         self._commands: IO[bytes] = self._process.stdin
+        os.set_blocking(self._commands.fileno(), False)
         self._shown: IO[bytes] = self._process.stdout
         self._told: IO[bytes] = self._process.stderr
         self._readers = [threading.Thread(target=read, daemon=True)
@@ -397,11 +399,23 @@ class Live(Application):
             if self._record:
                 self._record.write(text)
             left = memoryview(text)
-            try:
-                while left:
+            while left:
+                try:
                     left = left[os.write(self._commands.fileno(), left):]
-            except BrokenPipeError:
-                self._await(lambda: False, "the end of perfly_live")
+                except BlockingIOError:
+                    self._await_room()
+                except BrokenPipeError:
+                    self._await(lambda: False, "the end of perfly_live")
+
+    def _await_room(self) -> None:
+        """Waits until the program takes more of what is given, or has ended."""
+        room = select.poll()
+        room.register(self._commands, select.POLLOUT)
+        while not room.poll(None if self._timeout is None else 1000 * self._timeout):
+            with self._changed:
+                is_news, self._is_news = self._is_news, False
+            if not is_news:
+                raise LiveError(f"what was given is not taken: for {self._timeout:g} seconds nothing was")
 
     # Reading; each in a thread of its own
 
@@ -459,6 +473,7 @@ class Live(Application):
             numbers = self._numbers.popleft()
             self._frames[numbers.number] = Frame([self._images.popleft() for _ in range(self._channels)], numbers)
             self._came = numbers.number
+        self._is_news = True
         self._changed.notify_all()
 
     def _complain(self, what: str) -> None:

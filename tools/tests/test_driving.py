@@ -247,6 +247,10 @@ class Broken(unittest.TestCase):
     def test_hangs(self):
         error = self.error_of("exec sleep 100", timeout=0.3)
         self.assertEqual(str(error), "the picture of frame 1 does not come: for 0.3 seconds nothing did")
+        with self.assertRaisesRegex(LiveError, "^what was given is not taken: for 0.3 seconds nothing was$"), \
+                Live(8, 6, program=self.program, timeout=0.3) as world:
+            for _ in range(20000):
+                world.sync()
 
 
 class Parts(unittest.TestCase):
