@@ -3,37 +3,34 @@ import collections
 import time
 from typing import Any, Collection, Iterator, Mapping, NamedTuple
 
-from .aeroplane import DEGREE, RATE, UNIT, WHEELS, Aeroplane
+from .aeroplane import DEGREE, RATE, UNIT, Aeroplane
 from .land import Land
-from .scene import DEEP, FAR, PROBE, VIEWS, Scene, eye_down, make
+from .scene import FAR, VIEWS, Scene, make
 
 from perfly_play import Live
-from perfly_play.driving import Frame, Hit
+from perfly_play.driving import Frame
 from perfly_play.pictures import Image
 
 
 class Shown(NamedTuple):
-    """What a tick shows: the pilot's picture, the one straight down where the probe is on, and what is told."""
+    """What a tick shows: its picture, and what is told."""
 
-    pilot: Image
-    below: Image | None
+    picture: Image
     told: dict[str, Any]
 
 
-def start_world(width: int, height: int, has_probe: bool, **words: Any) -> Live:
+def start_world(width: int, height: int, **words: Any) -> Live:
     """Starts perfly_live for a flight; the words are those of Live."""
-    if has_probe:
-        words |= {"probe": PROBE, "channels": 2}
     return Live(width, height, back=make.SKY, far=FAR, **words)
 
 
 class Flight:
     """A flight: each tick is a step of the aeroplane and a frame. `ahead` frames may be under way at once."""
 
-    def __init__(self, world: Live, has_probe: bool = False, ahead: int = 1):
-        self._world, self._has_probe, self._most = world, has_probe, ahead
+    def __init__(self, world: Live, ahead: int = 1):
+        self._world, self._most = world, ahead
         self.plane = Aeroplane(Land())
-        self.scene = Scene(world, self.plane, has_probe)
+        self.scene = Scene(world, self.plane)
         self.ticks = 0
         self._view = 0
         self._before: frozenset[str] = frozenset()
@@ -74,27 +71,13 @@ class Flight:
         told = self._due.popleft()
         told |= {"frame": frame.number, "shown": frame.shown, "states": frame.states, "visited": frame.visited,
                  "rate": rate_of(self._ended), **self.scene.pager.counts()._asdict()}
-        if not self._has_probe:
-            return Shown(frame, None, told)
-        told["probe"] = self._met(frame.hit, told)
-        below, pilot = frame.channels
-        return Shown(pilot, below, told)
-
-    def _met(self, hit: Hit | None, told: Mapping[str, Any]) -> dict[str, Any] | None:
-        """What the probe met: what it is, its node and triangle, its height, and how far below the wheels it is."""
-        if hit is None:
-            return None
-        height = told["down"] - hit.share * DEEP
-        return {"what": self.scene.name_of(hit.node), "node": hit.node, "triangle": hit.triangle, "height": height,
-                "above": told["wheels"] - height}
+        return Shown(frame, told)
 
 
 def told_of(plane: Aeroplane, view: str, tick: int) -> dict[str, Any]:
     """What is told of the aeroplane: lengths in units, speeds in units a second, angles in degrees."""
-    ground = plane.surface.height(plane.x, plane.y)
     return {"tick": tick, "view": view, "state": plane.state(), "has_crashed": bool(plane.crash),
-            "height": plane.z / UNIT, "ground": ground / UNIT, "above": (plane.z - plane.floor()) / UNIT,
-            "wheels": (plane.z - WHEELS) / UNIT, "down": eye_down(plane).z / UNIT,
+            "height": plane.z / UNIT, "above": (plane.z - plane.floor()) / UNIT,
             "below": plane.surface.kind(plane.x, plane.y), "speed": plane.speed * RATE / UNIT,
             "climb": plane.climb * RATE / UNIT, "heading": -plane.heading / DEGREE % 360,
             "pitch": plane.pitch / DEGREE, "roll": plane.roll / DEGREE, "throttle": plane.throttle}

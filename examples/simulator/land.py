@@ -25,9 +25,7 @@ RUNWAY = (-12, 60, 12, 460)
 LAKE = (0, 925, 80, 165)  # its middle, and its reach to the sides and along
 LEVEL = round(-1.3 * UNIT)  # of the runway and of the lake
 FIRM = round(0.5 * UNIT)  # ground above it is a hill
-GRASS, GLASS, MIST, PLANE = 1, 7, 8, 9  # states
-NAMES = {GRASS: "the ground", 2: "a house", 3: "a tree", 4: "the beacon", 5: "a boat", 6: "a balloon",
-         GLASS: "the propeller", MIST: "the mist", PLANE: "the aeroplane"}
+GRASS, TREE, MIST, PLANE = 1, 3, 8, 9  # states
 
 Place = tuple[int, int]
 
@@ -96,16 +94,15 @@ def tile_at(x: int, y: int) -> Place:
 
 class Numbered:
     """A section whose nodes get ids of a range of their own, so that they are the same in every run. It keeps which nodes
-    were made, and what the geometry among them is."""
+    were made."""
 
-    soil = NAMES[GRASS]  # what geometry of the ground's state is
     makers = ("group", "switch", "lod", "sequence", "layer", "dcs", "scs", "geode", "glass")
 
     def __init__(self, section: Section, ids: range):
         """The nodes of a section, with these ids."""
         self._section, self._ids = section, iter(ids)
         self.inner: list[int] = []
-        self.names: dict[int, str] = {}
+        self.geometry: list[int] = []
 
     def __getattr__(self, name: str) -> Callable:
         call = getattr(self._section, name)
@@ -113,16 +110,12 @@ class Numbered:
 
     def _make(self, name: str, call: Callable, parent: int | None, *values: Any) -> int:
         node = call(parent, *values, node=next(self._ids))
-        if name in ("geode", "glass"):
-            state = values[0] if name == "geode" else GLASS
-            self.names[node] = self.soil if state == GRASS else NAMES[state]
-        else:
-            self.inner.append(node)
+        (self.geometry if name in ("geode", "glass") else self.inner).append(node)
         return node
 
     def nodes(self) -> list[int]:
         """The nodes, each before those below it."""
-        return [*self.inner, *self.names]
+        return self.inner + self.geometry
 
 
 class _Plots:
@@ -143,10 +136,10 @@ class _Plots:
 
 
 PLOTS = _Plots()
-LANDMARKS: dict[Place, tuple[str, Callable[[Any, int], Any]]] = {
-    (0, 1): ("the airfield", make.airfield),
-    (-1, 3): ("the village", lambda section, parent: make.village(section, parent, make.Rand(12))),
-    (0, 4): ("the lake", make.lake),
+LANDMARKS: dict[Place, Callable[[Any, int], Any]] = {
+    (0, 1): make.airfield,
+    (-1, 3): lambda section, parent: make.village(section, parent, make.Rand(12)),
+    (0, 4): make.lake,
 }
 
 
@@ -164,12 +157,10 @@ def build(section: Section, place: Place) -> Numbered:
     made.geode(top, GRASS, shapes.hills(x, y, x + SIDE, y + SIDE, CELLS, CELLS, _height, make.valley_colour))
     plots = PLOTS.of(place)
     if plots:
-        made.soil = "a field"
         made.geode(top, GRASS, plots)
     _plant(made, top, place)
     if place in LANDMARKS:
-        made.soil, make_it = LANDMARKS[place]
-        make_it(made, top)
+        LANDMARKS[place](made, top)
     return made
 
 
@@ -178,7 +169,7 @@ def _plant(made: Numbered, top: int, place: Place) -> None:
     rand = make.Rand(7919 * (place[0] % 1024) + 104729 * (place[1] % 1024) + 5)
     spots = [spot for spot in _spots(rand, place) if NEAREST_TREE <= abs(spot[0]) <= FARTHEST_TREE]
     if spots:
-        kinds = [made.geode(None, 3, shapes.tree(0, 0, 0, height, 4)) for height in (10, 14)]
+        kinds = [made.geode(None, TREE, shapes.tree(0, 0, 0, height, 4)) for height in (10, 14)]
         left = iter(spots)
         make.plant(made, made.group(top), rand, kinds, len(spots), lambda: next(left), _height_between)
 

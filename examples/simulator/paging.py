@@ -98,10 +98,6 @@ class Pager:
         self._freed += len(freed)
         self.unfreed.difference_update(freed)
 
-    def name_of(self, node: int) -> str | None:
-        """What a node of a tile is, or None where it is of no tile."""
-        return next((tile.names[node] for tile in self.tiles.values() if node in tile.names), None)
-
     def counts(self) -> Counts:
         """How many tiles, blocks and nodes there are and were."""
         return Counts(len(self.tiles), len(self._drafts), self._merged, self._deleted, self._freed)

@@ -13,8 +13,6 @@ FAR = 4000
 HAZE, FLOOR = (150, 172, 176), (130, 160, 120)
 POSTS = 240  # units from one place of the eye on the ground to the next
 NEXT, LATER = 150, 400  # units ahead of the aeroplane about which tiles are due, and are built
-DEEP = 1000  # units that the probe reaches
-PROBE = ((0, 0, 0), (0, DEEP, 0))  # along the line of sight of the eye that looks down
 RED = (205, 50, 45)
 
 
@@ -30,12 +28,11 @@ class Eye(NamedTuple):
 
 
 class Scene:
-    """The scene of a flight. With a probe, channel 0 looks straight down, and channel 1 is the pilot's."""
+    """The scene of a flight."""
 
-    def __init__(self, world: Live, plane: Aeroplane, has_probe: bool):
+    def __init__(self, world: Live, plane: Aeroplane):
         self._world, self._plane = world, plane
-        self._channel = int(has_probe)
-        self._made = made = Numbered(world, range(1, FIRST))
+        made = Numbered(world, range(1, FIRST))
         self._backdrop = made.dcs(0)
         made.geode(self._backdrop, MIST, mist())
         made.geode(self._backdrop, MIST, ridges())
@@ -60,13 +57,7 @@ class Scene:
         self._world.move(self._balloons, 0, 0, rise / UNIT)
         self._world.move(self._dcs, plane.x / UNIT, plane.y / UNIT, plane.z / UNIT)
         self._world.turn(self._dcs, *degrees(plane.heading, plane.pitch, plane.roll))
-        self._look(eye_of(plane, view), self._channel)
-        if self._channel:
-            self._look(eye_down(plane), 0)
-
-    def name_of(self, node: int) -> str:
-        """What a node is."""
-        return self._made.names.get(node) or self.pager.name_of(node) or "what has gone"
+        self._look(eye_of(plane, view))
 
     def _ahead(self, units: int) -> tuple[int, int]:
         """A place so many units ahead of the aeroplane."""
@@ -74,10 +65,9 @@ class Scene:
         return (self._plane.x - ratio(units * UNIT * sine(heading), WHOLE),
                 self._plane.y + ratio(units * UNIT * cosine(heading), WHOLE))
 
-    def _look(self, eye: Eye, channel: int) -> None:
-        """Sets the eye of a channel."""
-        turned = degrees(eye.heading, eye.pitch, eye.roll)
-        self._world.view(eye.x / UNIT, eye.y / UNIT, eye.z / UNIT, *turned, channel=channel)
+    def _look(self, eye: Eye) -> None:
+        """Sets the eye."""
+        self._world.view(eye.x / UNIT, eye.y / UNIT, eye.z / UNIT, *degrees(eye.heading, eye.pitch, eye.roll))
 
 
 def degrees(*angles: int) -> list[float]:
@@ -98,12 +88,6 @@ def eye_of(plane: Aeroplane, view: str) -> Eye:
     else:
         eye = Eye(plane.x, plane.y, plane.z + 320 * UNIT, 0, -90 * DEGREE, 0)
     return eye._replace(z=max(eye.z, plane.surface.height(eye.x, eye.y) + 2 * UNIT))
-
-
-def eye_down(plane: Aeroplane) -> Eye:
-    """The eye that looks straight down; it is below the wheels, but on the ground."""
-    z = max(plane.z - 5 * UNIT // 2, plane.surface.height(plane.x, plane.y) + 2 * UNIT // 5)
-    return Eye(plane.x, plane.y, z, plane.heading, -90 * DEGREE, 0)
 
 
 def _along(plane: Aeroplane, ahead: int, up: int) -> Eye:

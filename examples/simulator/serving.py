@@ -1,8 +1,7 @@
 """The page on the loopback: it gets pictures with what is told of them, and gives the keys that are held.
 
-`/pictures` is one answer without an end: for each picture a line of JSON, in which `bytes` has the sizes of what follows,
-and then the pictures as PPM, the pilot's first. A page that reads slowly misses pictures, and the flight does not wait
-for it.
+`/pictures` is one answer without an end: for each picture a line of JSON, in which `bytes` has the size of what follows,
+and then the picture as PPM. A page that reads slowly misses pictures, and the flight does not wait for it.
 """
 import collections
 import functools
@@ -19,7 +18,7 @@ from .keys import Held
 HOST = "127.0.0.1"
 MOST = 4096  # bytes that the page may give at once
 PATIENCE = 1  # seconds, after which a page is told that there is nothing new
-NOTHING = b'{"bytes": []}\n'
+NOTHING = b'{"bytes": 0}\n'
 TAPS = 16  # sets of keys that wait for their tick at most
 
 
@@ -36,13 +35,12 @@ class Window:
 
     def put(self, shown: Shown) -> None:
         """Gives the page what a tick shows."""
-        images = [image.ppm() for image in (shown.pilot, shown.below) if image]
-        told = {**shown.told, "bytes": [len(image) for image in images]}
-        self._put(json.dumps(told).encode() + b"\n" + b"".join(images))
+        image = shown.picture.ppm()
+        self._put(json.dumps({**shown.told, "bytes": len(image)}).encode() + b"\n" + image)
 
     def end(self, why: str) -> None:
         """Tells the page that the flight is over, and why."""
-        self._put(json.dumps({"ended": why, "bytes": []}).encode() + b"\n", is_over=True)
+        self._put(json.dumps({"ended": why, "bytes": 0}).encode() + b"\n", is_over=True)
 
     def _put(self, text: bytes, is_over: bool = False) -> None:
         with self._changed:

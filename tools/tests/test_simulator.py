@@ -181,8 +181,8 @@ class Recorded(unittest.TestCase):
         """The live text of the beginning of the recorded flight."""
         land.corner.cache_clear()
         with tempfile.NamedTemporaryFile() as record, mock.patch.object(scene, "build", build), \
-                start_world(4, 3, True, record=record.name, program=flying.STAND_IN) as world:
-            flight = Flight(world, True, ahead)
+                start_world(4, 3, record=record.name, program=flying.STAND_IN) as world:
+            flight = Flight(world, ahead)
             for held in keys.read_flight(flying.KEYS)[:ticks]:
                 flight.tick(held)
             list(flight.end())
@@ -207,7 +207,7 @@ class Recorded(unittest.TestCase):
 
     def test_restart(self):
         """A flight that begins again has the land about the runway, and edits are refused at no tick."""
-        with start_world(4, 3, False, program=flying.STAND_IN) as world:
+        with start_world(4, 3, program=flying.STAND_IN) as world:
             flight = Flight(world)
             self.assertEqual(flight.scene.pager.counts().tiles, 49)
             vars(flight.plane).update(x=3000 * UNIT, y=-2600 * UNIT, z=400 * UNIT, is_rolling=False, speed=per_second(60))
@@ -245,21 +245,6 @@ class Drawn(OverPerflyLive):
         self.assertEqual(sums_of(program=PERFLY_LIVE), {"commands": COMMANDS, "pictures": PICTURES})
         words = "--", "--mode", "app_cull_draw", "--ahead", "3"
         self.assertEqual(sums_of(*words, program=PERFLY_LIVE), {"commands": COMMANDS, "pictures": PICTURES})
-
-    @unittest.skipUnless(PERFLY, "perfly is not built")
-    def test_probe(self):
-        """The probe meets the ground where the simulator has it."""
-        met = 0
-        with start_world(8, 6, True) as world:
-            flight = Flight(world, True)
-            for held in keys.read_flight(flying.KEYS):
-                for shown in flight.tick(held):
-                    probe = shown.told["probe"]
-                    if probe and probe["what"] == "the ground":
-                        met += 1
-                        self.assertAlmostEqual(probe["height"], shown.told["ground"], delta=0.05)
-            list(flight.end())
-        self.assertGreater(met, 200)
 
 
 if __name__ == "__main__":

@@ -14,11 +14,15 @@ from perfly_play.pictures import Image
 
 from . import flying
 from .browser import CHROMIUM, Browser
+from .programs import PERFLY_LIVE
 
-from simulator.flight import Shown
+from simulator.flight import Flight, Shown, start_world
+from simulator.keys import read_flight
 from simulator.serving import Server, Window
 
-PIXEL = "[...document.getElementById('{}').getContext('2d').getImageData(3, 2, 1, 1).data]"
+# The number of the frame that is seen, and its picture, four bytes a pixel.
+SEEN = """[parseInt(cells.frames.textContent.replace(',', '')),
+          [...picture.getContext('2d').getImageData(0, 0, picture.width, picture.height).data]]"""
 
 
 class Served(unittest.TestCase):
@@ -62,18 +66,18 @@ class Served(unittest.TestCase):
     def test_pictures(self):
         """A page gets the newest picture, at once and when there is another; where it goes, no key is held."""
         one, two = (Image(2, 1, [bytes((k,) * 6)]) for k in (1, 2))
-        self.window.put(Shown(one, None, {"tick": 1}))
+        self.window.put(Shown(one, {"tick": 1}))
         answer = self.ask("GET", "/pictures")
-        self.assertEqual(json.loads(answer.readline()), {"tick": 1, "bytes": [len(one.ppm())]})
+        self.assertEqual(json.loads(answer.readline()), {"tick": 1, "bytes": len(one.ppm())})
         self.assertEqual(answer.read(len(one.ppm())), one.ppm())
-        self.window.put(Shown(one, two, {"tick": 2}))
-        self.assertEqual(json.loads(answer.readline())["bytes"], [17, 17])
-        self.assertEqual(answer.read(34), one.ppm() + two.ppm())
+        self.window.put(Shown(two, {"tick": 2}))
+        self.assertEqual(json.loads(answer.readline())["bytes"], len(two.ppm()))
+        self.assertEqual(answer.read(len(two.ppm())), two.ppm())
         self.give(["left"])
         self.assertEqual(self.window.held(), {"left"})
         self.window.end("it has ended")
         last = [json.loads(line) for line in answer.read().splitlines()][-1]
-        self.assertEqual(last, {"ended": "it has ended", "bytes": []})
+        self.assertEqual(last, {"ended": "it has ended", "bytes": 0})
         end = time.monotonic() + 20
         while self.window.held() and time.monotonic() < end:
             time.sleep(0.05)
@@ -82,42 +86,68 @@ class Served(unittest.TestCase):
 
 @unittest.skipUnless(CHROMIUM, "no Chromium here")
 class InBrowser(unittest.TestCase):
-    def start(self, *words):
-        """Starts the simulator over the stand-in; returns the address of its page."""
-        call = [sys.executable, "-B", flying.START, "--port", "0", "--size", "8x6", *words]
+    def setUp(self):
+        folder = tempfile.TemporaryDirectory()
+        self.addCleanup(folder.cleanup)
+        self.kept = pathlib.Path(folder.name) / "own.keys"
+
+    def start(self, program, size):
+        """Starts the simulator over a program, with its keys kept; returns the address of its page."""
+        call = [sys.executable, "-B", flying.START, "--port", "0", "--size", size, "--keep", self.kept]
         self.simulator = subprocess.Popen(call, stdout=subprocess.PIPE, text=True,
-                                          env={**os.environ, "PERFLY_LIVE": str(flying.STAND_IN)})
+                                          env={**os.environ, "PERFLY_LIVE": str(program)})
         self.addCleanup(self.simulator.stdout.close)
         self.addCleanup(self.simulator.wait)
         self.addCleanup(self.simulator.kill)
         return self.simulator.stdout.readline().split()[4].rstrip(";")
 
-    def test_flight(self):
-        """Keys that are pressed fly the aeroplane; each picture is drawn with its numbers; Ctrl-C is told."""
-        folder = tempfile.TemporaryDirectory()
-        self.addCleanup(folder.cleanup)
-        kept = pathlib.Path(folder.name) / "own.keys"
-        url = self.start("--probe", "--keep", str(kept))
-        with Browser() as browser:
-            browser.open(url)
-            browser.wait_for("typeof cells !== 'undefined' && cells.throttle.textContent === '0 %'")
-            browser.press("w")
-            browser.wait_for("parseInt(cells.throttle.textContent) > 20 && !cells.speed.textContent.startsWith('0.0')")
-            browser.press("w", False)
-            for view in ("cockpit", "ground"):
-                browser.press("v")
-                browser.wait_for(f"cells.view.textContent === '{view}'")
-                browser.press("v", False)
-            number, *pixels = browser.value(
-                f"[parseInt(cells.frames.textContent.replace(',', '')), {PIXEL.format('picture')}, {PIXEL.format('below')}]")
-            colour = [*number.to_bytes(3, "big"), 255]
-            self.assertEqual(pixels, [colour, colour])
-            self.assertEqual(browser.value("cells.probe.textContent"), "meets nothing")
-            self.assertEqual(browser.value("[below.hidden, picture.width, picture.height]"), [False, 8, 6])
-            self.simulator.send_signal(signal.SIGINT)
-            browser.wait_for("state.textContent === 'the simulator has ended'")
+    def fly(self, browser):
+        """Presses and lets go keys; yields when each is seen to have done what it does."""
+        browser.wait_for("typeof cells !== 'undefined' && cells.throttle.textContent === '0 %'")
+        yield
+        browser.press("w")
+        browser.wait_for("parseInt(cells.throttle.textContent) > 20 && !cells.speed.textContent.startsWith('0.0')")
+        yield
+        browser.press("w", False)
+        for view in ("cockpit", "ground"):
+            browser.press("v")
+            browser.wait_for(f"cells.view.textContent === '{view}'")
+            yield
+            browser.press("v", False)
+
+    def end(self, browser):
+        """Ends the simulator by Ctrl-C, which the page tells."""
+        self.simulator.send_signal(signal.SIGINT)
+        browser.wait_for("state.textContent === 'the simulator has ended'")
         self.assertEqual(self.simulator.wait(60), 0)
-        self.assertRegex(kept.read_text(), r"^flight 1\n\d+ faster\n\d+\n\d+ view\n\d+\n\d+ view\n(\d+\n)?\d+ end\n$")
+
+    def test_keys(self):
+        """Keys that are pressed fly the aeroplane, and are kept; a picture stands beside its own numbers."""
+        with Browser() as browser:
+            browser.open(self.start(flying.STAND_IN, "8x6"))
+            for _ in self.fly(browser):
+                number, data = browser.value(SEEN)
+                self.assertEqual(bytes(data), (number.to_bytes(3, "big") + b"\xff") * 48)
+            self.assertEqual(browser.value("[picture.width, picture.height]"), [8, 6])
+            self.end(browser)
+        self.assertRegex(self.kept.read_text(), r"^flight 1\n\d+ faster\n\d+\n\d+ view\n\d+\n\d+ view\n(\d+\n)?\d+ end\n$")
+
+    @unittest.skipUnless(PERFLY_LIVE, "perfly_live is not built")
+    def test_pictures(self):
+        """What is seen of a flight is what perfly_live draws of its keys; each key changes the picture."""
+        with Browser() as browser:
+            browser.open(self.start(PERFLY_LIVE, "80x60"))
+            seen = dict(browser.value(SEEN) for _ in self.fly(browser))
+            self.end(browser)
+        with start_world(80, 60, program=PERFLY_LIVE) as world:
+            flight = Flight(world)
+            drawn = {shown.told["frame"]: shown.picture.data
+                     for held in read_flight(self.kept) for shown in flight.tick(held)}
+            list(flight.end())
+        self.assertEqual(len({bytes(data) for data in seen.values()}), 4)
+        for number, data in seen.items():
+            del data[3::4]
+            self.assertEqual(bytes(data), drawn[number], number)
 
 
 if __name__ == "__main__":
