@@ -126,7 +126,7 @@ class Ids:
     def __init__(self) -> None:
         self._lock = threading.Lock()
         self._used: set[int] = set()
-        self._spare: collections.deque[int] = collections.deque()
+        self._spare: dict[int, None] = {}  # in the order in which they came back
         self._next, self._serial = 1, 1
         self.serials = {0: 0}
 
@@ -136,10 +136,10 @@ class Ids:
             while chosen is None and self._next <= limits.IDENTIFIER and len(self._spare) < limits.NODES:
                 chosen = self._next if self._next not in self._used else None
                 self._next += 1
-            while chosen is None and self._spare:
-                spare = self._spare.popleft()
-                chosen = spare if spare not in self._used and spare not in self.serials else None
+            if chosen is None:
+                chosen = next((spare for spare in self._spare if spare not in self.serials), None)
             if chosen is not None:
+                self._spare.pop(chosen, None)
                 self._used.add(chosen)
             return chosen
 
@@ -166,7 +166,7 @@ class Ids:
         self.serials.pop(node, None)
         if node in self._used:
             self._used.remove(node)
-            self._spare.append(node)
+            self._spare[node] = None
 
 
 class Live(Application):

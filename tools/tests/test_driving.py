@@ -272,6 +272,17 @@ class Parts(unittest.TestCase):
             ids.take(None)
         self.assertEqual([ids.take(None), ids.take(None), ids.take(None)], [3, 1, None])
 
+    def test_chosen_ids(self):
+        """A chosen id that comes and goes leaves nothing behind."""
+        ids = Ids()
+        for serial in range(1, 4):
+            self.assertEqual(ids.take(7), 7)
+            ids.note(Reply("", edits=[Edit("group", (7,))]))
+            self.assertEqual(ids.serials, {0: 0, 7: serial})
+            ids.note(Reply("", edits=[Edit("delete", (7,))]))
+        self.assertEqual((list(ids._spare), ids._used, ids.serials), ([7], set(), {0: 0}))
+        self.assertEqual([ids.take(None) for _ in range(8)], list(range(1, 9)))
+
     def test_frame(self):
         """The bytes of a frame, its rows and its array say the same."""
         numbers = Numbers(1, 0, 0, 1, None)
