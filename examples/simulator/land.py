@@ -17,6 +17,7 @@ from perfly_play.writing import Section
 
 CELL, CELLS = 25, 8  # units of a cell of the ground, and cells of a tile's side
 SIDE = CELL * CELLS
+CORNERS = 8192  # whose heights are kept: of some more tiles than there are at once
 IDS = 64  # that a tile may use
 ROUND = 16  # tiles, after which ids come again
 FIRST = 1000  # the first id of a tile
@@ -41,7 +42,7 @@ def _examples() -> types.ModuleType:
 make: Any = _examples()
 
 
-@functools.lru_cache(maxsize=1 << 16)
+@functools.lru_cache(maxsize=CORNERS)
 def corner(i: int, j: int) -> int:
     """The height of the ground at a corner of the grid, in 4096ths of a unit."""
     return round(make.valley_height(CELL * i, CELL * j) * UNIT)
