@@ -44,6 +44,14 @@ class Served(unittest.TestCase):
         """Gives the keys that are held; returns the status."""
         return self.ask("POST", "/keys", json.dumps(held))[0]
 
+    def test_port(self):
+        """A port that is taken is told."""
+        call = [sys.executable, "-B", flying.START, "--port", str(self.server.server_address[1])]
+        done = subprocess.run(call, capture_output=True, text=True, check=False, timeout=60,
+                              env={**os.environ, "PERFLY_LIVE": str(flying.STAND_IN)})
+        self.assertEqual((done.returncode, done.stdout), (1, ""))
+        self.assertRegex(done.stderr, r"^start: no page at port \d+: .*; --port names another\n$")
+
     def test_page(self):
         status, page = self.ask("GET", "/")
         self.assertEqual((status, page), (200, (flying.START.parent / "page.html").read_bytes()))
